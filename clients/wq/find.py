@@ -6,6 +6,7 @@ from typing import Any, Dict, Iterator, List, Tuple
 
 from .home import Home
 from .places import Places, directories_and_globs
+from .root_notes import KEPT, MOMENT
 from .roots import Place, require_utf8
 from .server import Value, reached
 from .terminal import OF_KINDS, name_shown, show
@@ -18,7 +19,7 @@ ROW_FIELDS = ["name", "type", "size", "mtime_ms"]
 def find(options: argparse.Namespace, home: Home) -> int:
     require_no_other(options, directories_and_globs(options.words)[1])
     with reached(home) as server:
-        with Places(server, options.words, options, stays=options.keep) as places:
+        with Places(server, options.words, options, KEPT if options.keep else MOMENT) as places:
             lists = [places.told(place, places.ask(place, query)) for place, query in queries(places, options)]
     print_lists(lists, options)
     return FOUND if any(found["files"] for found in lists) else NOTHING

@@ -37,8 +37,8 @@ class Home:
             return ""
         return ended.stdout.decode("utf-8", "replace").strip()
 
-    def start(self, sockname: str, words: Optional[List[str]] = None) -> bool:
+    def start(self, sockname: str, words: Optional[List[str]] = None, tells: bool = True) -> bool:
         """Starts a server at a socket, unless one listens there. Of several commands at once one does, and the others
         wait."""
         from .starting import start
-        return start(self, sockname, words)
+        return start(self, sockname, words, tells)

@@ -5,6 +5,8 @@ import os
 from typing import Any, Dict, List, Set, Tuple
 
 from .globs import expression_of, glob_term, is_left_out
+from .open_roots import OpenRoots
+from .root_notes import MOMENT, STAYS, WINDOW
 from .roots import Place, is_directory, is_pattern, place_of, real_path, require_utf8
 from .server import Server, Value
 from .trouble import WrongWords
@@ -15,18 +17,20 @@ FIRST = "."
 class Places:
     """Directories whose roots are watched. A list of files has names as the directory was typed."""
 
-    def __init__(self, server: Server, words: List[str], options: argparse.Namespace, stays: bool = True) -> None:
-        directories, self.globs = directories_and_globs(words)
+    def __init__(self, server: Server, words: List[str], options: argparse.Namespace, purpose: str = STAYS) -> None:
+        self.directories, self.globs = directories_and_globs(words)
         self.server = server
         self.options = options
-        self.stays = stays
+        # What the roots are watched for.
+        self.purpose = purpose
         watched = server.roots()
-        self.places = [place_of(directory, watched) for directory in directories]
+        self.places = [place_of(directory, watched) for directory in self.directories]
         # Made before a root is watched, since an option may be wrong.
         self.expressions = [expression_of(place, self.globs, options) for place in self.places]
         # The roots that were scanned since this command began, and those that were not watched before.
         self.scanned: Set[str] = set()
         self.added: List[str] = []
+        self.open = OpenRoots(server, self.roots() if purpose == WINDOW else [])
         try:
             self.watch(watched)
             self.require_known()
@@ -42,14 +46,23 @@ class Places:
 
     def close(self) -> None:
         """Gives back each root that was watched for this command, unless it is to stay."""
-        for root in self.added if not self.stays else []:
+        for root in self.added if self.purpose == MOMENT else []:
             self.server.give_back(root)
+        self.open.close(self.server)
+
+    def roots(self) -> List[str]:
+        return list(dict.fromkeys(place.root for place in self.places))
+
+    def again(self, server: Server) -> None:
+        """Watches the same roots by another server."""
+        self.server, self.scanned, self.added = server, set(), []
+        self.watch(server.roots())
 
     def watch(self, watched: List[str]) -> None:
-        for root in dict.fromkeys(place.root for place in self.places):
+        for root in self.roots():
             if root not in watched:
                 self.added.append(root)
-            if self.server.watch(root, watched, self.stays) or not getattr(self.options, "sync", True):
+            if self.server.watch(root, watched, self.purpose) or not getattr(self.options, "sync", True):
                 self.scanned.add(root)
 
     def ask(self, place: Place, query: Dict[str, Any]) -> Value:

@@ -53,6 +53,25 @@ def processor_seconds(process: int) -> float:
     return found
 
 
+def state_of(process: int) -> str:
+    """The letter of the state of a process, such as S for one that sleeps; nothing if it is not there."""
+    return fields_of(process)[0]
+
+
+def processor_seconds_of(process: int) -> float:
+    """The processor time that a process took so far; nothing if it is not there."""
+    fields = fields_of(process)
+    return (int(fields[11]) + int(fields[12])) / TICKS if len(fields) > 12 else 0.0
+
+
+def fields_of(process: int) -> List[str]:
+    """The fields of /proc/PID/stat from the state on."""
+    try:
+        return text_of(process, "stat").rsplit(")", 1)[1].split()
+    except (OSError, IndexError):
+        return [""]
+
+
 def text_of(process: int, name: str) -> str:
     with open(f"/proc/{process}/{name}", encoding="utf-8", errors="replace") as stream:
         return stream.read()

@@ -10,11 +10,10 @@ from typing import Dict, List, Optional
 
 from .changes import File, counted
 from .commands_run import Command, Run, Unrunnable, status_words
-from .follow import Feed
 from .home import Home
-from .server import reached
 from .terminal import is_terminal, say, write
 from .trouble import NOTHING, Trouble, WrongWords
+from .window import Window
 
 # A run that is to end gets SIGTERM, and SIGKILL after so many seconds.
 GRACE = 5.0
@@ -30,24 +29,24 @@ def run(options: argparse.Namespace, home: Home) -> int:
     if options.quiet < 0:
         raise WrongWords("--quiet takes a number of milliseconds from 0 on")
     command = Command(options.command, options.stdin, options.print0, options.restart)
-    with reached(home) as server:
-        feed = Feed(server, options.words, options)
-        files = feed.begin(command.takes_names)
-        return Runner(feed, command, options, files).loop()
+    with Window(home, options, f"{command.name} runs once for what changed between", command.takes_names) as window:
+        if not options.once or options.postpone:
+            say(window.words())
+        return Runner(window, command, options).loop()
 
 
 class Runner:
     """Starts runs, and waits for their ends and for changes."""
 
-    def __init__(self, feed: Feed, command: Command, options: argparse.Namespace, files: List[File]) -> None:
-        self.feed = feed
+    def __init__(self, window: Window, command: Command, options: argparse.Namespace) -> None:
+        self.window = window
         self.command = command
         self.options = options
         self.run: Optional[Run] = None
         # The names that the next run is given, in the order in which they came.
         self.names: Dict[str, None] = {}
         # Whether a run is due, since when it is, and since when nothing more changed.
-        self.is_due = not options.postpone
+        self.is_due = False
         self.due_since = -float("inf")
         self.quiet_since = -float("inf")
         # When a run that is to end is killed.
@@ -55,7 +54,7 @@ class Runner:
         # Ends of children come as bytes in this pipe.
         self.ended, self.wakeup = os.pipe()
         if not options.postpone:
-            self.add(files)
+            self.add_all(window.first)
 
     def loop(self) -> int:
         os.set_blocking(self.wakeup, False)
@@ -103,20 +102,20 @@ class Runner:
 
     def wait(self, seconds: Optional[float]) -> None:
         """Waits for lists and ends."""
-        client = self.feed.server.client
-        if not client.lists:
-            poll = select.poll()
-            poll.register(client, select.POLLIN)
-            poll.register(self.ended, select.POLLIN)
-            events = dict(poll.poll(None if seconds is None else seconds * 1000 + 1))
-            if self.ended in events:
-                os.read(self.ended, 4096)
-            if client.fileno() not in events:
-                return
-            self.feed.take()
-        if client.lists:
-            for found in self.feed.lists():
-                self.add(found["files"])
+        events = self.window.wait({self.ended: select.POLLIN}, seconds)
+        if self.ended in events:
+            os.read(self.ended, 4096)
+        for found in self.window.lists():
+            self.add(found["files"])
+        files = self.window.fresh_files()
+        if files is not None:
+            self.add_all(files)
+
+    def add_all(self, files: List[File]) -> None:
+        """A run is due without a change: the first one, and one for what changed while no server was there."""
+        self.add(files)
+        self.quiet_since = -float("inf")
+        self.is_due, self.due_since = True, self.quiet_since
 
     def add(self, files: List[File]) -> None:
         """Files that changed. A directory counts if its kind is asked for alone."""

@@ -15,7 +15,7 @@ if TYPE_CHECKING:
     from .home import Home
 
 
-def start(home: "Home", sockname: str, words: Optional[List[str]]) -> bool:
+def start(home: "Home", sockname: str, words: Optional[List[str]], tells: bool = True) -> bool:
     """Starts a server at a socket, unless one listens there."""
     try:
         with alone(sockname, lambda: say("waiting for another command that starts the server")):
@@ -24,7 +24,8 @@ def start(home: "Home", sockname: str, words: Optional[List[str]]) -> bool:
             begin_there(home, sockname, words or serve_words(sockname))
     except Unstarted as reason:
         raise Trouble(f"the server did not start: {reason}") from None
-    say(f"started a server at {sockname}")
+    if tells:
+        say(f"started a server at {sockname}")
     return True
 
 

@@ -66,9 +66,13 @@ class Progress:
             say(self.subject)
         self.has_told = True
 
+    def clear(self) -> None:
+        """Takes the line away that a terminal shows."""
+        if self.has_told and is_terminal(sys.stderr):
+            print("\r\x1b[K", end="", file=sys.stderr, flush=True)
+
     def end(self) -> None:
         if not self.has_told:
             return
-        if is_terminal(sys.stderr):
-            print("\r\x1b[K", end="", file=sys.stderr, flush=True)
+        self.clear()
         say(f"that took {time.monotonic() - self.began:.1f} s")

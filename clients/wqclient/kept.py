@@ -1,5 +1,6 @@
 """Notes of clients between two calls, since a server tells none of it: the clock of each name of `wq since`, the cost
-of the programs that were handed to a server, and the roots that are to stay. And the logs of servers."""
+of the programs that were handed to a server, the roots that are watched and the windows that have them open, and which
+server was stopped on purpose. And the logs of servers."""
 
 import errno
 import json
@@ -9,7 +10,7 @@ from typing import Any, Dict
 
 from .files import opened_as_own
 
-CLOCKS, BUDGETS, ROOTS, LOGS = "clocks", "budgets", "roots", "logs"
+CLOCKS, BUDGETS, ROOTS, WINDOWS, STOPS, LOGS = "clocks", "budgets", "roots", "windows", "stops", "logs"
 LONGEST = 65_536
 
 

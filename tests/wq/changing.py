@@ -8,7 +8,7 @@ from pathlib import Path
 
 import built
 from client import same
-from scene import Going, Scene, said, wrong
+from scene import Going, Scene, following, said, wrong
 
 FIRST = b"+ Makefile\n+ src\n+ src/a.c\n+ src/b b.c\n+ src/deep\n+ src/deep/c.h\n"
 
@@ -129,7 +129,7 @@ def check_follow(tally: built.Tally, room: Path) -> None:
             lines = [line for line in going.output.splitlines() if line != b"~ src/a.c"]
             same(tally, "all of it", lines, [b"+ one two", b"- one two", b"+ last"])
             same(tally, "a change comes first", going.output[:10], b"~ src/a.c\n")
-            same(tally, "Ctrl-C", (going.ends(signal.SIGINT), going.errors), (130, b""))
+            same(tally, "Ctrl-C", (going.ends(signal.SIGINT), following(going)), (130, b""))
         scene.write("dir/f.c")
         check_follow_options(tally, scene)
         check_ends_of_follow(tally, scene)
@@ -170,13 +170,13 @@ def check_ends_of_follow(tally: built.Tally, scene: Scene) -> None:
         scene.wq("unwatch")
         same(tally, "the end of a watch", going.ends(), 3)
         words = f"{scene.tree} is no longer watched, so nothing more is told of it"
-        same(tally, "what is said of it", going.errors, said(words))
+        same(tally, "what is said of it", following(going), said(words))
     reading, writing = os.pipe()
     with scene.begin("follow", output=writing) as going:
         os.close(writing)
         tally.check("follow into a pipe", going.waits_for(lambda _: is_followed(scene)))
         os.close(reading)
-        same(tally, "a pipe that closes", (going.ends(), going.errors), (141, b""))
+        same(tally, "a pipe that closes", (going.ends(), following(going)), (141, b""))
     with scene.begin("follow") as going:
         touch_until(scene, going, "src/a.c")
         same(tally, "SIGTERM", going.ends(signal.SIGTERM), 143)
@@ -188,10 +188,6 @@ def check_ends_of_follow(tally: built.Tally, scene: Scene) -> None:
         going.process.send_signal(signal.SIGHUP)
         scene.write("after")
         tally.check("SIGHUP beside nohup", going.prints("after\n"))
-    with scene.begin("follow") as going:
-        touch_until(scene, going, "src/a.c")
-        scene.wq("stop")
-        same(tally, "the end of the server", (going.ends(), going.errors), (3, said("the server has ended")))
     same(tally, "a closed pipe of find", closed_pipe(scene), (141, b""))
     shutil.rmtree(scene.tree / "src")
 

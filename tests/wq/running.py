@@ -9,7 +9,7 @@ from typing import Callable, List
 
 import built
 from client import same
-from scene import Going, Scene, said, wrong
+from scene import Going, Scene, following, said, wrong
 
 # Appends a line at each run. A file `hold` keeps the run going until it is gone.
 SCRIPT = 'echo run >> "$LOG"; echo "$@" >> "$LOG.names"; while [ -e "$LOG.hold" ]; do sleep 0.01; done'
@@ -120,7 +120,7 @@ def check_names_of_runs(tally: built.Tally, scene: Scene, log: Log) -> None:
         same(tally, "run --postpone --once", (going.ends(), going.output), (0, b"./src/deep/c.h\n"))
     with scene.begin("run", "*.nothing", "--", "echo", "{}") as going:
         going.waits_for(lambda _: is_asked(scene))
-        same(tally, "no run without a name", (going.ends(signal.SIGINT), going.output, going.errors), (130, b"", b""))
+        same(tally, "no run without a name", (going.ends(signal.SIGINT), going.output, following(going)), (130, b"", b""))
 
 
 def is_asked(scene: Scene) -> bool:
@@ -179,16 +179,12 @@ def check_ends_of_run(tally: built.Tally, room: Path) -> None:
         same(tally, "the directory of a command", scene.wq("run", "src", "--once", "--", "pwd").output, f"{scene.tree}\n".encode())
         same(tally, "bytes that are no UTF-8 for a command",
              scene.call(["run", "--once", "--", "printf", b"\xff"]).output, b"\xff")
-        wrong(tally, scene, ["run", "--", "not-there"], "not-there: there is no such command", status=127)
+        wrong(tally, scene, ["run", "--once", "--", "not-there"], "not-there: there is no such command", status=127)
         (scene.tree / "plain").write_text("no program")
-        wrong(tally, scene, ["run", "--", "./plain"], "./plain: Permission denied", status=126)
+        wrong(tally, scene, ["run", "--once", "--", "./plain"], "./plain: Permission denied", status=126)
         reason = "run takes `--` and a command after it, such as: wq run '*.c' -- make"
         for words in (["run"], ["run", "*.c"], ["run", "*.c", "--"]):
             wrong(tally, scene, words, reason)
         wrong(tally, scene, ["run", "--quiet", "x", "--", "true"],
               "argument --quiet: invalid int value: 'x'; see `wq run --help`")
         wrong(tally, scene, ["run", "--quiet=-1", "--", "true"], "--quiet takes a number of milliseconds from 0 on")
-        with scene.begin("run", "--", "sh", "-c", "echo begun; exec sleep 1000") as going:
-            tally.check("run begins its command", going.prints("begun"))
-            scene.wq("stop")
-            same(tally, "the end of the server ends run", (going.ends(), going.errors), (3, said("the server has ended")))

@@ -4,6 +4,7 @@ own."""
 import contextlib
 import os
 import pty
+import re
 import select
 import signal
 import subprocess
@@ -191,6 +192,14 @@ def called_at_terminal(
     return AtTerminal(found.decode("utf-8", "backslashreplace").replace("\r\n", "\n"), code)
 
 
+
+FOLLOWING = re.compile(rb"wq: following [0-9,]+ files? below \S+; scans about each [0-9.]+ s\n")
+
+
+def following(going: Going) -> bytes:
+    """What a window says after its first line, which says what it follows."""
+    found = FOLLOWING.match(going.errors)
+    return going.errors[found.end():] if found else b"no first line: " + going.errors
 
 
 def said(*lines: str) -> bytes:

@@ -1,0 +1,55 @@
+"""A server that does not answer: after some seconds a person hears which process that is, and why."""
+
+import time
+
+from .processes import processor_seconds_of, state_of
+
+# A reply is late after so many seconds.
+LATE = 5.0
+# A process that took this part of one processor meanwhile is busy.
+BUSY = 0.1
+STOPPED, WAITS_FOR_A_DISK, ENDED = "Tt", "D", "Z"
+
+
+class Silence:
+    """A wait for the reply of one process."""
+
+    def __init__(self, sockname: str, process: int) -> None:
+        self.sockname = sockname
+        self.process = process
+        self.began = time.monotonic()
+        self.used = processor_seconds_of(process)
+        self.is_told = False
+
+    def sentence(self, is_at_work: bool = False) -> str:
+        """Says once that the reply is late, and why. If the server is known to be at work, only a stop is said."""
+        seconds = time.monotonic() - self.began
+        if self.is_told or seconds < LATE:
+            return ""
+        if is_at_work and not is_stopped(self.process):
+            return ""
+        self.is_told = True
+        return f"{server_words(self.sockname, self.process)} has not answered for {seconds:.0f} s: {self.reason(seconds)}"
+
+    def reason(self, seconds: float) -> str:
+        used = processor_seconds_of(self.process) - self.used
+        if is_stopped(self.process):
+            return stop_words(self.process)
+        if state_of(self.process) in WAITS_FOR_A_DISK:
+            return "it waits for a disk or another file system"
+        if used >= BUSY * seconds:
+            return f"it is busy, and took {used:.1f} s of processor time meanwhile"
+        return "it waits, and took no processor time; `wq stop` ends it"
+
+
+def server_words(sockname: str, process: int) -> str:
+    return f"the server, process {process}," if process > 0 else f"the server at {sockname}"
+
+
+def is_stopped(process: int) -> bool:
+    state = state_of(process)
+    return bool(state) and state in STOPPED
+
+
+def stop_words(process: int) -> str:
+    return f"it is stopped; `kill -CONT {process}` lets it go on, and `wq stop` ends it"

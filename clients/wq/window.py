@@ -1,0 +1,209 @@
+"""What `wq follow` and `wq run` keep open: a subscription that outlives its server, and the root that was watched for
+it."""
+
+import argparse
+import select
+import time
+from typing import Dict, List, Optional
+
+from wqclient.kept import STOPS, kept, log_of, run_of
+from wqclient.lines import Ended
+from wqclient.sockets import is_listened_on
+
+from .changes import FIELDS, File
+from .home import Home
+from .pace import seconds_between_scans, seconds_shown
+from .places import Places
+from .processes import is_of_unit, processor_seconds_of, words_of
+from .root_notes import WINDOW
+from .server import Server, Value, Went
+from .silence import is_stopped, server_words, stop_words
+from .terminal import say
+from .trouble import Trouble
+
+SUBSCRIPTION = "wq"
+# In seconds: how often a silent server is looked at, how often one is looked for, how long the unit of systemd has to
+# start one anew, and when a person hears that this waits.
+LOOK, SEARCH, UNIT, TELL = 5.0, 0.2, 5.0, 2.0
+# A server that ends within a second of its begin, so often in a row, is not started again.
+SOON, MOST_SOON = 1.0, 5
+
+
+class Window:
+    """Subscriptions to what matches below directories. When the server ends, another one is asked."""
+
+    def __init__(self, home: Home, options: argparse.Namespace, gap: str, takes_names: bool = False) -> None:
+        self.home = home
+        self.options = options
+        # A sentence on what changed between the end of a server and the next one.
+        self.gap = gap
+        self.takes_names = takes_names
+        self.server: Optional[Server] = Server(home)
+        self.sockname = self.server.sockname
+        used = processor_seconds_of(self.server.peer.process)
+        self.places = Places(self.server, options.words, options, WINDOW)
+        self.began = self.lost = 0.0
+        self.ends_soon = 0
+        self.has_told = False
+        # The files that match, when another server was reached.
+        self.fresh: Optional[List[File]] = None
+        try:
+            self.first = self.begin(self.server, used)
+        except BaseException:
+            self.close()
+            raise
+
+    def begin(self, server: Server, used: float) -> List[File]:
+        """Begins with what is there now, and gives the files that match if names are taken. The server took so many
+        seconds of a processor before."""
+        process = server.peer.process
+        # What is asked if the server ends: its process may have gone then.
+        self.run, self.is_of_unit = run_of(process), is_of_unit(process)
+        self.count = 0
+        files: List[File] = []
+        asked = zip(self.places.places, self.places.expressions)
+        for number, (place, expression) in enumerate(asked):
+            query = {"expression": expression, "fields": FIELDS if self.takes_names else ["type"]}
+            found = self.places.ask(place, query)
+            self.subscribe(server, number, found["clock"])
+            kinds = [file["type"] for file in found["files"]] if self.takes_names else found["files"]
+            self.count += len(kinds) if self.options.type else len(kinds) - kinds.count("d")
+            if self.takes_names:
+                files += self.places.told(place, found)["files"]
+        self.scan = processor_seconds_of(process) - used
+        self.began = time.monotonic()
+        self.has_told = False
+        return files
+
+    def subscribe(self, server: Server, number: int, clock: str) -> None:
+        """Subscribes to what changes below one of the directories. Lists that came are kept."""
+        query = {"expression": self.places.expressions[number], "fields": FIELDS, "since": clock}
+        server.ask("subscribe", self.places.places[number].root, name_of(number), query)
+        server.client.take_lists()
+
+    def words(self) -> str:
+        """What is followed, and how often it is scanned."""
+        count = f"{self.count:,} file{'' if self.count == 1 else 's'}"
+        words = words_of(self.places.server.peer.process)
+        pace = f"; scans about each {seconds_shown(seconds_between_scans(words, self.scan))}" if words else ""
+        return f"following {count} below {' and '.join(self.places.directories)}{pace}"
+
+    def wait(self, others: Dict[int, int], seconds: Optional[float] = None) -> Dict[int, int]:
+        """Waits for the server, and for events of other files, which are given; at most for some seconds."""
+        limit = LOOK if self.server else SEARCH
+        if self.server and self.server.client.lists or self.fresh is not None:
+            limit = 0.0
+        poll = select.poll()
+        for number, events in others.items():
+            poll.register(number, events)
+        if self.server:
+            poll.register(self.server.client, select.POLLIN)
+        found = dict(poll.poll(1000 * (limit if seconds is None else min(seconds + 0.001, limit))))
+        if self.server is None:
+            self.search()
+        elif found.pop(self.server.client.fileno(), None):
+            self.take(self.server)
+        elif not found:
+            self.look(self.server)
+        return found
+
+    def take(self, server: Server) -> None:
+        """Takes what the server sent, a whole line or a part of one."""
+        try:
+            server.client.receive()
+            server.client.take_lists()
+        except Ended:
+            self.lose(server)
+
+    def lists(self) -> List[Value]:
+        """The lists that came. The line that ends the subscription is met after those before it."""
+        if self.server is None:
+            return []
+        lists = self.server.client.lists
+        if lists and lists[0].get("canceled"):
+            raise Trouble(f"{lists[0]['root']} is no longer watched, so nothing more is told of it")
+        found: List[Value] = []
+        while lists and not lists[0].get("canceled"):
+            found.append(self.told(lists.popleft()))
+        return found
+
+    def told(self, found: Value) -> Value:
+        """A list with names as people are shown them."""
+        names = [name_of(number) for number in range(len(self.places.places))]
+        return self.places.told(self.places.places[names.index(found["subscription"])], found)
+
+    def fresh_files(self) -> Optional[List[File]]:
+        """The files that match, once after another server was reached."""
+        found, self.fresh = self.fresh, None
+        return found
+
+    def look(self, server: Server) -> None:
+        """Says once that the server is stopped, if it is: nothing comes of it then, and nobody asks."""
+        if not is_stopped(server.peer.process):
+            self.has_told = False
+        elif not self.has_told:
+            self.has_told = True
+            process = server.peer.process
+            say(f"{server_words(self.sockname, process)} says nothing: {stop_words(process)}", "yellow")
+
+    # The end of a server.
+
+    def lose(self, server: Server) -> None:
+        """The server has ended."""
+        server.close()
+        self.server = None
+        self.lost, self.has_told = time.monotonic(), False
+        if self.lost - self.began >= SOON:
+            self.ends_soon = 0
+        self.count_end()
+
+    def count_end(self) -> None:
+        """Gives up if no server stays."""
+        self.ends_soon += 1
+        if self.ends_soon > MOST_SOON:
+            raise Trouble(f"the server has ended {self.ends_soon} times, each too soon", f"its log is {log_of(self.sockname)}")
+
+    def search(self) -> None:
+        """Reaches another server, which is started if nobody else is about to start one."""
+        if self.is_started_by_others() and not is_listened_on(self.sockname):
+            if not self.has_told and time.monotonic() - self.lost > TELL:
+                self.has_told = True
+                say("the server was stopped; this goes on as soon as another one listens, such as after `wq start`", "yellow")
+            return
+        try:
+            server = Server(self.home, tells=False)
+            used = processor_seconds_of(server.peer.process)
+            self.places.again(server)
+            files = self.begin(server, used)
+        except Went:
+            self.count_end()
+            return
+        self.server = server
+        start = "another one was started" if server.is_own else "another one listens"
+        say(f"the server has ended, and {start}; {self.words()}; {self.gap}", "yellow")
+        self.fresh = files
+
+    def is_started_by_others(self) -> bool:
+        """Whether the server was stopped on purpose, or systemd has just a moment to start it anew."""
+        if kept(STOPS, self.sockname).get("run") == self.run:
+            return True
+        return self.is_of_unit and time.monotonic() - self.lost < UNIT
+
+    # The end of the window.
+
+    def close(self) -> None:
+        """Gives the roots back that were watched for windows alone, if this is the last one."""
+        self.places.open.close(self.server)
+        if self.server:
+            self.server.close()
+
+    def __enter__(self) -> "Window":
+        return self
+
+    def __exit__(self, *_: object) -> None:
+        self.close()
+
+
+def name_of(number: int) -> str:
+    """The name of the subscription to a directory."""
+    return f"{SUBSCRIPTION}{number + 1}" if number else SUBSCRIPTION
