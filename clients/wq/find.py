@@ -7,33 +7,24 @@ from typing import Any, Dict, Iterator, List, Tuple
 from .home import Home
 from .places import Places, directories_and_globs
 from .root_notes import KEPT, MOMENT
-from .roots import Place, require_utf8
+from .roots import Place
 from .server import Value, reached
+from .stored import query_of, require_no_other
 from .terminal import OF_KINDS, name_shown, show
-from .trouble import FOUND, NOTHING, WrongWords
+from .trouble import FOUND, NOTHING
 from .values_shown import print_lists_as_json
 
 ROW_FIELDS = ["name", "type", "size", "mtime_ms"]
 
 
 def find(options: argparse.Namespace, home: Home) -> int:
-    require_no_other(options, directories_and_globs(options.words)[1])
+    if options.program is not None:
+        require_no_other(options, directories_and_globs(options.words)[1])
     with reached(home) as server:
         with Places(server, options.words, options, KEPT if options.keep else MOMENT) as places:
             lists = [places.told(place, places.ask(place, query)) for place, query in queries(places, options)]
     print_lists(lists, options)
     return FOUND if any(found["files"] for found in lists) else NOTHING
-
-
-def require_no_other(options: argparse.Namespace, globs: List[str]) -> None:
-    """A program takes the place of an expression, so no word that becomes a part of one may be beside it."""
-    if options.program is None:
-        return
-    require_utf8(options.program, "--program")
-    others = [name for name in ("expression", "type", "ext", "size", "newer", "exclude") if getattr(options, name)]
-    if globs or others:
-        raise WrongWords("--program takes the place of globs, -t, -e, --size, --newer, --exclude and --expression; "
-                         "take them out")
 
 
 def queries(places: Places, options: argparse.Namespace) -> Iterator[Tuple[Place, Dict[str, Any]]]:
@@ -44,7 +35,7 @@ def queries(places: Places, options: argparse.Namespace) -> Iterator[Tuple[Place
         if options.program is None:
             yield place, {"fields": fields, "expression": expression}
         else:
-            yield place, {"fields": fields, "program": options.program, **({"path": [place.below]} if place.below else {})}
+            yield place, {"fields": fields, **query_of(place, places.globs, options)}
 
 
 def print_lists(lists: List[Value], options: argparse.Namespace) -> None:

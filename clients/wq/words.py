@@ -71,7 +71,7 @@ FORMS: Dict[str, Form] = {
         *NARROWING, value("--size", metavar="SIZE", help="+1M at least, -10k at most, 0 exactly"),
         value("--newer", metavar="AGE", help="modified within this time, as 30s, 10m, 2h, 3d, 1w"),
         value("--expression", metavar="JSON", help="an expression of the protocol, beside the other words"),
-        value("--program", metavar="NAME", help="a stored program, in place of the other words"),
+        value("--program", metavar="NAME", help="a stored program; globs or -e beside it say which files it is asked about"),
         flag("-l", dest="long", help="the kind, size, time and name of each"), ZEROS, JSON, LINES,
         flag("--count", help="how many there are"),
         Option(("--no-sync",), {"dest": "sync", "action": "store_false", "help": "as the last crawl saw it"}),

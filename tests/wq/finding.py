@@ -182,8 +182,9 @@ def check_wrong_words(tally: built.Tally, scene: Scene) -> None:
         (["--frob"], "there is no option --frob; see `wq find --help`"),
         (["-e"], "argument -e: expected one argument; see `wq find --help`"),
         (["/not/there"], "/not/there: No such file or directory"),
-        (["--program", "p", "*.c"],
-         "--program takes the place of globs, -t, -e, --size, --newer, --exclude and --expression; take them out"),
+        (["--program", "p", "-t", "f"],
+         "--program takes the place of -t, --size, --newer, --exclude and --expression; take them out"),
+        (["--program", "p", "*.c", "-e", "c"], "--program takes globs or -e beside it, and not both"),
     ):
         wrong(tally, scene, ["find", *words], reason)
     json_reason = "--expression, column 2: Expecting value; a text has double quotes, and the shell takes them away: " \
@@ -202,6 +203,14 @@ def check_programs(tally: built.Tally, scene: Scene) -> None:
         scene.write("target/t", "x" * 1_048_577)
         same(tally, "find --program", scene.names("find", "--program", "large"), ["huge/h"])
         same(tally, "find DIR --program", scene.names("find", "huge", "--program", "large"), ["huge/h"])
+        for globs, expected in (
+            (["h*"], "huge/h\n"), (["*.c"], ""), (["huge/*"], "huge/h\n"), (["./h"], ""), (["*.c", "h*"], "huge/h\n"),
+            (["huge", "h"], "huge/h\n"), (["huge", "./h"], "huge/h\n"), (["src", "h*"], ""), (["-e", "c"], ""),
+        ):
+            found = scene.wq("find", "--program", "large", *globs)
+            same(tally, f"find --program {globs}", found, built.Ended(expected.encode(), b"", 0 if expected else 1))
+        wrong(tally, scene, ["find", "huge", "--program", "large", "-e", "c"],
+              "-e beside --program is for a whole root; take a glob for a directory below it")
         same(tally, "find --program --all", scene.names("find", "--program", "large", "--all"), ["huge/h", "target/t"])
         wrong(tally, scene, ["find", "--program", "lage"], "E34: no such program",
               'no program is stored as "lage"; did you mean "large"?', status=3)
