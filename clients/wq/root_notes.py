@@ -7,7 +7,7 @@ import time
 from typing import IO, List, Optional
 
 from wqclient.files import opened_as_own
-from wqclient.kept import ROOTS, WINDOWS, keep, kept, path_of, room, run_of
+from wqclient.kept import LOOKS, ROOTS, WINDOWS, keep, kept, path_of, room, run_of
 
 # What a root is watched for, and which of two purposes wins: one query; a window; `find --keep`; `watch`, `since` and
 # triggers.
@@ -41,6 +41,16 @@ class Notes:
     def forget(self, root: str) -> None:
         with contextlib.suppress(OSError):
             keep({}, ROOTS, self.sockname, root)
+
+    def look(self, root: str) -> str:
+        """What a person hears while the server looks at all files of a root that was not watched. In the run of a server
+        that is for the first time once; then the command is named that keeps the root watched."""
+        run = run_of(self.process)
+        if kept(LOOKS, self.sockname, root).get("run") == run:
+            return f"the server looks at all files below {root} again; `wq watch` would keep it watched"
+        with contextlib.suppress(OSError):
+            keep({"run": run}, LOOKS, self.sockname, root)
+        return f"the server looks at all files below {root} for the first time"
 
     def is_for_a_moment(self, root: str) -> bool:
         return self.purpose(root) in ("", MOMENT)

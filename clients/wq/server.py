@@ -74,7 +74,7 @@ class Server:
         # A server that ends the session at a line that is too long has answered it before.
         with contextlib.suppress(BrokenPipeError, ConnectionResetError):
             self.client.send_bytes(line + b"\n")
-        progress = Progress(f"the server looks at all files below {crawls} for the first time") if crawls else None
+        progress = Progress(self.notes.look(crawls)) if crawls else None
         silence = Silence(self.sockname, self.peer.process)
         try:
             while True:

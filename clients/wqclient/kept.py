@@ -10,7 +10,8 @@ from typing import Any, Dict
 
 from .files import opened_as_own
 
-CLOCKS, BUDGETS, ROOTS, WINDOWS, STOPS, LOGS = "clocks", "budgets", "roots", "windows", "stops", "logs"
+CLOCKS, BUDGETS, ROOTS, WINDOWS, LOOKS = "clocks", "budgets", "roots", "windows", "looks"
+STOPS, LOGS = "stops", "logs"
 LONGEST = 65_536
 
 

@@ -121,6 +121,7 @@ def check_first_crawl(tally: built.Tally, room: Path) -> None:
         same(tally, "a slow crawl, beside a pipe", (ended.status, lines[:1], len(lines)), (1, [f"wq: {looks}"], 2))
         took = lines[-1]
         tally.check("how long it took", took.startswith("wq: that took 2.") and took.endswith(" s"), lines)
+        looks = f"the server looks at all files below {scene.tree} again; `wq watch` would keep it watched"
         shown = at_terminal(scene, "find", NO_COLOR="1")
         tally.check("a slow crawl at a terminal", f"\rwq: {looks}, 1 s so far" in shown and f"{looks}, 2 s so far" in shown, [shown])
         with scene.begin("find") as going:
