@@ -3,13 +3,14 @@
 import argparse
 import os
 import shlex
-from typing import Any, Dict, List, Tuple
+from typing import Any, Dict, Iterator, List, Tuple
 
 from .commands_run import PLACE
 from .globs import expression_of
 from .home import Home
 from .roots import is_directory, is_pattern, place_of, require_utf8, root_to_unwatch
 from .server import Server, reached
+from .server_log import Log, note_registered
 from .terminal import name_shown, say, show
 from .trouble import FOUND, NOTHING, WrongWords
 from .values_shown import json_shown
@@ -45,6 +46,7 @@ def trigger(options: argparse.Namespace, home: Home) -> int:
             asked["command"] = [*WITH_NAMES, str(len(command)), *command]
         if options.stdin:
             asked["stdin"] = "NAME_PER_LINE"
+        note_registered(server, place.root, name)
         found = server.ask("trigger", place.root, asked)
     say(f"trigger {name} of {place.root} is {found['disposition']}; its command runs there")
     return FOUND
@@ -80,12 +82,21 @@ def root_of(server: Server, word: str) -> str:
 
 def triggers(options: argparse.Namespace, home: Home) -> int:
     with reached(home, starts=False) as server:
-        found = server.ask("trigger-list", root_of(server, options.directory))
-    if options.json:
-        show([json_shown(found)])
-    else:
-        show(name_shown(row_of(one), None) for one in found["triggers"])
+        root = root_of(server, options.directory)
+        found = server.ask("trigger-list", root)
+        if options.json:
+            show([json_shown(found)])
+        else:
+            show(rows_of(found["triggers"], Log(server), root))
     return FOUND if found["triggers"] else NOTHING
+
+
+def rows_of(triggers: List[Dict[str, Any]], log: Log, root: str) -> Iterator[str]:
+    for one in triggers:
+        yield name_shown(row_of(one), None)
+        failures = log.failures(root, one["name"]).sentence()
+        if failures:
+            yield name_shown(f"  {failures}", "red")
 
 
 def row_of(found: Dict[str, Any]) -> str:

@@ -1,6 +1,6 @@
 """Notes of clients between two calls, since a server tells none of it: the clock of each name of `wq since`, the cost
-of the programs that were handed to a server, the roots that are watched and the windows that have them open, and which
-server was stopped on purpose. And the logs of servers."""
+of the programs that were handed to a server, the roots that are watched and the windows that have them open, which
+server was stopped on purpose, and when triggers were registered. And the logs of servers."""
 
 import errno
 import json
@@ -11,7 +11,7 @@ from typing import Any, Dict
 from .files import opened_as_own
 
 CLOCKS, BUDGETS, ROOTS, WINDOWS, LOOKS = "clocks", "budgets", "roots", "windows", "looks"
-STOPS, LOGS = "stops", "logs"
+STOPS, TRIGGERS, LOGS = "stops", "triggers", "logs"
 LONGEST = 65_536
 
 

@@ -6,6 +6,7 @@ import shutil
 import subprocess
 import time
 from pathlib import Path
+from typing import Callable
 
 import built
 from client import PATIENCE, same
@@ -212,6 +213,53 @@ def check_names_of_triggers(tally: built.Tally, scene: Scene) -> None:
         (["untrigger", ".", "t", "u"], "untrigger takes one name: u"),
     ):
         wrong(tally, scene, words, sentence)
+
+
+def check_failures(tally: built.Tally, room: Path) -> None:
+    """What went wrong is shown with the trigger and the root; it is in the log of the server."""
+    with Scene(room) as scene:
+        scene.wq("trigger", "fails", "*.h", "--", "sh", "-c", "echo unread; exit 3")
+        scene.wq("trigger", "killed", "*.h", "--", "sh", "-c", "kill -9 $$")
+        scene.wq("trigger", "no-file", "*.h", "--", "./not-there")
+        scene.wq("trigger", "no-command", "*.h", "--", "not-there", "{}")
+        scene.wq("trigger", "good", "*.h", "--", "true")
+        once = "; failed 1 time since it was registered"
+        lines = [
+            "fails: sh -c 'echo unread; exit 3'", f"  last failure: ended with status 3{once}",
+            "killed: sh -c 'kill -9 $$'", f"  last failure: ended by signal 9{once}",
+            "no-file: ./not-there", "  last failure: could not be started: No such file or directory (os error 2)",
+            "no-command: not-there {}",
+            f"  last failure: ended with status 127, which shells say of a command that is not there{once}", "good: true",
+        ]
+        tally.check("failures of triggers", becomes(lambda: scene.names("triggers") == lines), scene.names("triggers"))
+        scene.write("src/deep/c.h", "changed")
+        more = "  last failure: ended with status 3; failed 2 times since it was registered"
+        tally.check("a second failure", becomes(lambda: more in scene.names("triggers")), scene.names("triggers"))
+        scene.wq("trigger", "fails", "*.h", "--", "true")
+        same(tally, "one that is registered anew has none", scene.names("triggers")[:2],
+             ["fails: true", "killed: sh -c 'kill -9 $$'"])
+        (scene.tree / os.fsdecode(b"not\xffutf8")).touch()
+        (scene.tree / "closed").mkdir(mode=0)
+        shown = "          left out: names that are not UTF-8: 1"
+        tally.check("names that are left out", becomes(lambda: shown in scene.names("status")), scene.names("status"))
+        found = facts(scene)
+        closed = 0 if os.getuid() == 0 else 1
+        same(tally, "what is left out", found["roots"][0]["left_out"], {"names": 1, "directories": closed})
+        text = scene.names("status")
+        for line in (f"log       {found['log']}", "          trigger killed: sh -c 'kill -9 $$'",
+                     "            last failure: could not be started: No such file or directory (os error 2)"):
+            tally.check(f"status has {line!r}", line in text, text)
+        same(tally, "the log is a file", "listening on" in Path(found["log"]).read_text(), True)
+
+
+def becomes(is_so: Callable[[], bool]) -> bool:
+    """Whether something becomes so."""
+    end = time.monotonic() + PATIENCE
+    while time.monotonic() < end:
+        if is_so():
+            return True
+        time.sleep(0.05)
+    return False
 
 
 def reads(path: Path, text: str) -> bool:

@@ -1,0 +1,131 @@
+"""What the log of a server says of its roots and triggers: failures, and what scans leave out. The server tells it nowhere
+else."""
+
+import contextlib
+import json
+import os
+import re
+from typing import Dict, Iterator, NamedTuple, Tuple
+
+from wqclient.files import opened
+from wqclient.kept import TRIGGERS, keep, kept, run_of
+
+from .processes import is_of_unit
+from .server import Server
+
+# Of a long log so many bytes are read, the last ones.
+MOST = 4 * 1024 * 1024
+LISTENS = "listening on "
+TRIGGER = "trigger "
+ENDED = re.compile(r"ended (with status [0-9]+|by signal [0-9]+)")
+UNSTARTED = "could not be started: "
+LEFT_OUT = re.compile(r"names that are not UTF-8: ([0-9]+), directories that cannot be read: ([0-9]+)")
+# The status of a shell whose command is not there.
+NOT_FOUND = "with status 127"
+
+
+class Failures(NamedTuple):
+    """The failures of a trigger since it was registered: how often its command failed, and what was last said of it."""
+
+    count: int = 0
+    last: str = ""
+
+    def sentence(self) -> str:
+        if not self.last:
+            return ""
+        hint = ", which shells say of a command that is not there" if self.last.endswith(NOT_FOUND) else ""
+        times = f"; failed {self.count:,} time{'' if self.count == 1 else 's'} since it was registered" if self.count else ""
+        return f"last failure: {self.last}{hint}{times}"
+
+
+class Log:
+    """What the server said since it began to listen. Of some servers nobody but their terminal has it."""
+
+    def __init__(self, server: Server) -> None:
+        self.server = server
+        self.path = path_of(server.peer.process)
+        self.triggers: Dict[Tuple[str, str], Failures] = {}
+        self.left_out: Dict[str, Tuple[int, int]] = {}
+        for place, line in self.lines():
+            self.take(place, line)
+
+    def lines(self) -> Iterator[Tuple[int, str]]:
+        """The lines with their places in bytes."""
+        text, place = text_of(self.server.peer.process)
+        for line in text.split(b"\n"):
+            yield place, line.decode("utf-8", "replace")
+            place += len(line) + 1
+
+    def take(self, place: int, line: str) -> None:
+        if line.startswith(LISTENS):
+            self.triggers, self.left_out = {}, {}
+            return
+        root, rest = quoted_of(line)
+        found = LEFT_OUT.fullmatch(rest)
+        if found:
+            self.left_out[root] = (int(found[1]), int(found[2]))
+        elif rest.startswith(TRIGGER):
+            name, rest = quoted_of(rest[len(TRIGGER):], " ")
+            self.add(root, name, rest, place)
+
+    def add(self, root: str, name: str, said: str, place: int) -> None:
+        if place < registered_at(self.server, root, name):
+            return
+        before = self.triggers.get((root, name), Failures())
+        if ENDED.fullmatch(said):
+            self.triggers[root, name] = Failures(before.count + 1, said)
+        elif said.startswith(UNSTARTED):
+            self.triggers[root, name] = Failures(before.count, said)
+
+    def failures(self, root: str, name: str) -> Failures:
+        return self.triggers.get((root, name), Failures())
+
+    def words(self) -> str:
+        """Where a person reads more."""
+        if self.path:
+            return self.path
+        return "journalctl --user -u wqd" if is_of_unit(self.server.peer.process) else "at the terminal of the server"
+
+
+def quoted_of(line: str, separator: str = ": ") -> Tuple[str, str]:
+    """The JSON text that begins a line, and what follows it. Nothing if none does."""
+    try:
+        value, end = json.JSONDecoder().raw_decode(line)
+    except ValueError:
+        return "", ""
+    if not isinstance(value, str) or not line.startswith(separator, end):
+        return "", ""
+    return value, line[end + len(separator):]
+
+
+def text_of(process: int) -> Tuple[bytes, int]:
+    """The end of what a process writes to its standard error, if that is a file, and where that begins."""
+    try:
+        with open(f"/proc/{process}/fd/2", "rb", opener=lambda path, flags: opened(path, flags, follows=True)) as stream:
+            size = os.fstat(stream.fileno()).st_size
+            place = stream.seek(max(0, size - MOST))
+            return stream.read(MOST), place
+    except OSError:
+        return b"", 0
+
+
+def path_of(process: int) -> str:
+    """The file to which a process writes its standard error; nothing if it is no file."""
+    try:
+        path = os.readlink(f"/proc/{process}/fd/2")
+        return path if os.path.isfile(path) else ""
+    except OSError:
+        return ""
+
+
+def note_registered(server: Server, root: str, name: str) -> None:
+    """Notes that a trigger begins anew here: what the log says before is of another one of its name."""
+    with contextlib.suppress(OSError):
+        size = os.stat(f"/proc/{server.peer.process}/fd/2").st_size
+        keep({"run": run_of(server.peer.process), "place": size}, TRIGGERS, server.sockname, root, name)
+
+
+def registered_at(server: Server, root: str, name: str) -> int:
+    note = kept(TRIGGERS, server.sockname, root, name)
+    place = note.get("place")
+    return place if note.get("run") == run_of(server.peer.process) and isinstance(place, int) else 0
