@@ -6,6 +6,7 @@ import hashlib
 import os
 import shutil
 import signal
+import stat
 import subprocess
 import tempfile
 import time
@@ -46,6 +47,7 @@ def program(top: str, tell: Tell) -> Path:
     path = programs / checksum(Path(top)) / "wqd"
     try:
         programs.mkdir(mode=0o700, parents=True, exist_ok=True)
+        require_own(programs)
         with alone(str(programs / "compiling"), lambda: tell(WAITS)):
             if not path.exists():
                 tell(COMPILES)
@@ -55,6 +57,13 @@ def program(top: str, tell: Tell) -> Path:
     except OSError as error:
         raise Unstarted(f"{error.filename}: {error.strerror}") from None
     return path
+
+
+def require_own(directory: Path) -> None:
+    """What is in there is run. With sudo it may be the cache of another user."""
+    found = directory.lstat()
+    if not stat.S_ISDIR(found.st_mode) or found.st_uid != os.getuid() or found.st_mode & 0o022:
+        raise Unstarted(f"{directory}: it is no directory that you alone write to")
 
 
 def checksum(top: Path) -> str:

@@ -169,6 +169,10 @@ def check_compilation(tally: built.Tally, room: Path) -> None:
         words = "wq: the server did not start: the program could not be compiled: error: it does not compile " \
                 f"(all of it is in {log})\n"
         same(tally, "a compilation that fails", asking.find(FAILS="1"), built.Ended(FIRST + words.encode(), b"", 3))
+        log.parent.chmod(0o777)
+        words = f"wq: the server did not start: {log.parent}: it is no directory that you alone write to\n"
+        same(tally, "programs that others may put there", asking.find(), built.Ended(words.encode(), b"", 3))
+        log.parent.chmod(0o700)
         for number, status in ((signal.SIGTERM, 143), (signal.SIGINT, 130)):
             before = asking.compilations()
             call = asking.start("find", WAITS="1")
