@@ -2,12 +2,11 @@
 
 import argparse
 import time
-from typing import Any, Dict, Iterator, List, Tuple
+from typing import Any, Dict, Iterator, List
 
 from .home import Home
 from .places import Places, directories_and_globs
 from .root_notes import KEPT, MOMENT
-from .roots import Place
 from .server import Value, reached
 from .stored import query_of, require_no_other
 from .terminal import OF_KINDS, name_shown, show
@@ -22,20 +21,21 @@ def find(options: argparse.Namespace, home: Home) -> int:
         require_no_other(options, directories_and_globs(options.words)[1])
     with reached(home) as server:
         with Places(server, options.words, options, KEPT if options.keep else MOMENT) as places:
-            lists = [places.told(place, places.ask(place, query)) for place, query in queries(places, options)]
+            asked = enumerate(queries(places, options))
+            lists = [places.told(number, places.ask(places.places[number], query)) for number, query in asked]
     print_lists(lists, options)
     return FOUND if any(found["files"] for found in lists) else NOTHING
 
 
-def queries(places: Places, options: argparse.Namespace) -> Iterator[Tuple[Place, Dict[str, Any]]]:
+def queries(places: Places, options: argparse.Namespace) -> Iterator[Dict[str, Any]]:
     fields = ROW_FIELDS if options.long else ["name"] if options.count else ["name", "type"]
     if options.json and not options.long and not options.lines:
         fields = ["name"]
-    for place, expression in zip(places.places, places.expressions):
+    for number, place in enumerate(places.places):
         if options.program is None:
-            yield place, {"fields": fields, "expression": expression}
+            yield {"fields": fields, "expression": places.expression(number)}
         else:
-            yield place, {"fields": fields, **query_of(place, places.globs, options)}
+            yield {"fields": fields, **query_of(place, places.globs, options)}
 
 
 def print_lists(lists: List[Value], options: argparse.Namespace) -> None:

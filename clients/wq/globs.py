@@ -52,7 +52,7 @@ def restrictions(globs: List[str], options: argparse.Namespace) -> List[Any]:
     """What restricts a list, in the same form however it was written."""
     kinds = sorted(set(kinds_of(options.type))) if options.type else []
     lists = [sorted(set(found or [])) for found in (globs, kinds, options.ext, options.exclude)]
-    return [*lists, options.all]
+    return [*lists, options.all, getattr(options, "ignore", False), getattr(options, "gitignore", False)]
 
 
 def any_of(terms: List[Any]) -> Any:

@@ -2,9 +2,10 @@
 
 import argparse
 import os
-from typing import Any, Dict, List, Set, Tuple
+from typing import Any, Callable, Dict, List, Set, Tuple
 
-from .globs import expression_of, glob_term, is_left_out
+from .globs import any_of, expression_of, glob_term, is_left_out
+from .ignored import Ignored, name_of
 from .open_roots import OpenRoots
 from .root_notes import MOMENT, STAYS, WINDOW
 from .roots import Place, is_directory, is_pattern, place_of, real_path, require_utf8
@@ -31,9 +32,11 @@ class Places:
         self.scanned: Set[str] = set()
         self.added: List[str] = []
         self.open = OpenRoots(server, self.roots() if purpose == WINDOW else [])
+        self.ignored: List[Ignored] = []
         try:
             self.watch(watched)
             self.require_known()
+            self.ignored = [Ignored(self.asks(place), place, options) for place in self.places]
         except BaseException:
             self.close()
             raise
@@ -46,6 +49,8 @@ class Places:
 
     def close(self) -> None:
         """Gives back each root that was watched for this command, unless it is to stay."""
+        for ignored in self.ignored:
+            ignored.close()
         for root in self.added if self.purpose == MOMENT else []:
             self.server.give_back(root)
         self.open.close(self.server)
@@ -57,6 +62,8 @@ class Places:
         """Watches the same roots by another server."""
         self.server, self.scanned, self.added = server, set(), []
         self.watch(server.roots())
+        for ignored in self.ignored:
+            ignored.renew()
 
     def watch(self, watched: List[str]) -> None:
         for root in self.roots():
@@ -71,12 +78,22 @@ class Places:
         self.scanned.add(place.root)
         return found
 
+    def asks(self, place: Place) -> Callable[[Dict[str, Any]], Value]:
+        return lambda query: self.ask(place, query)
+
+    def expression(self, number: int) -> Any:
+        """That of a directory, without the directories in which all is ignored."""
+        terms = self.ignored[number].terms
+        return ["allof", self.expressions[number], ["not", any_of(terms)]] if terms else self.expressions[number]
+
     def timeout(self, place: Place) -> Dict[str, Any]:
         return {"sync_timeout": 0} if place.root in self.scanned else {}
 
-    def told(self, place: Place, found: Value) -> Value:
-        """A list as people are shown it: names as the directory was typed, and of which directory it is."""
-        files = found["files"]
+    def told(self, number: int, found: Value) -> Value:
+        """A list as people are shown it: without what is ignored, names as the directory was typed, and of which
+        directory it is."""
+        place = self.places[number]
+        files = self.ignored[number].kept(found["files"])
         if getattr(self.options, "program", None) is not None and not self.options.all:
             files = [file for file in files if not is_left_out(place.rest(name_of(file)))]
         found["files"] = [renamed(file, place.shown(name_of(file))) for file in files]
@@ -121,10 +138,6 @@ def directories_and_globs(words: List[str]) -> Tuple[List[str], List[str]]:
             raise WrongWords(f"{word} is no directory here, and no name below a directory has '..' in it")
         globs.append(word)
     return directories or [FIRST], globs
-
-
-def name_of(file: Any) -> str:
-    return file["name"] if isinstance(file, dict) else file
 
 
 def renamed(file: Any, name: str) -> Any:

@@ -24,8 +24,7 @@ LONGEST_NAME = 255
 def since(options: argparse.Namespace, home: Home) -> int:
     name, words = name_and_words(options.words)
     with reached(home) as server, Places(server, words, options) as places:
-        asked = zip(places.places, places.expressions)
-        lists = [list_since(places, place, expression, name) for place, expression in asked]
+        lists = [list_since(places, number, name) for number in range(len(places.places))]
     print_changes(lists, options)
     return FOUND if any(found["files"] for found in lists) else NOTHING
 
@@ -40,20 +39,20 @@ def name_and_words(words: List[str]) -> Tuple[str, List[str]]:
     return words[0], words[1:]
 
 
-def list_since(places: Places, place: Place, expression: Any, name: str) -> Value:
+def list_since(places: Places, number: int, name: str) -> Value:
     """What changed in a directory. The name moves, unless the user only peeks."""
-    sockname, is_peek = places.server.sockname, places.options.peek
+    place, sockname, is_peek = places.places[number], places.server.sockname, places.options.peek
     cursor = cursor_of(name, place, places)
     before = clock_kept(sockname, place, cursor)
     bound = before if is_peek else f"n:{cursor}"
-    query: Dict[str, Any] = {"fields": FIELDS, "expression": expression}
+    query: Dict[str, Any] = {"fields": FIELDS, "expression": places.expression(number)}
     found = places.ask(place, query if bound is None else {**query, "since": bound})
     if found["is_fresh_instance"]:
         say(f"{why_all(name, before, found['clock'], place)}, so all files are listed", "yellow")
     if not is_peek:
         keep_clock(found["clock"], sockname, place, cursor)
     found["files"] = counted(found["files"], places.options)
-    return places.told(place, found)
+    return places.told(number, found)
 
 
 def cursor_of(name: str, place: Place, places: Places) -> str:

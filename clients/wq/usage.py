@@ -29,8 +29,8 @@ Each word that is a directory is a DIR, in any place; without one it is the
 current directory. The root that is watched is the nearest directory at or
 above it with .git, .hg or .watchmanconfig, else DIR. A GLOB without a slash
 is for the last part of a name, as '*.c'; one with a slash is for the whole
-name below DIR, as 'src/**/*.c'. .git, .hg, node_modules and target are left
-out unless you say --all.
+name below DIR, as 'src/**/*.c'. .git, .hg, node_modules, target and what git
+ignores are left out unless you say --all.
 
 The status is 0, or 1 if nothing is found, 2 for wrong options or words, 3 for
 an error, 130 if you stop it. `wq COMMAND --help` has examples:

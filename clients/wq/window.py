@@ -12,16 +12,18 @@ from wqclient.sockets import is_listened_on
 
 from .changes import FIELDS, File
 from .home import Home
+from .ignored import is_wanted
 from .pace import seconds_between_scans, seconds_shown
 from .places import Places
 from .processes import is_of_unit, processor_seconds_of, words_of
 from .root_notes import WINDOW
 from .server import Server, Value, Went
+from .shadow import GITIGNORE, IGNORE
 from .silence import is_stopped, server_words, stop_words
 from .terminal import say
 from .trouble import Trouble
 
-SUBSCRIPTION = "wq"
+SUBSCRIPTION, RULES = "wq", "rules of "
 # In seconds: how often a silent server is looked at, how often one is looked for, how long the unit of systemd has to
 # start one anew, and when a person hears that this waits.
 LOOK, SEARCH, UNIT, TELL = 5.0, 0.2, 5.0, 2.0
@@ -61,15 +63,16 @@ class Window:
         self.run, self.is_of_unit = run_of(process), is_of_unit(process)
         self.count = 0
         files: List[File] = []
-        asked = zip(self.places.places, self.places.expressions)
-        for number, (place, expression) in enumerate(asked):
-            query = {"expression": expression, "fields": FIELDS if self.takes_names else ["type"]}
+        for number, place in enumerate(self.places.places):
+            has_names = self.takes_names or self.places.ignored[number].rules is not None
+            query = {"expression": self.places.expression(number), "fields": FIELDS if has_names else ["type"]}
             found = self.places.ask(place, query)
+            self.subscribe_to_rules(server, number, found["clock"])
             self.subscribe(server, number, found["clock"])
-            kinds = [file["type"] for file in found["files"]] if self.takes_names else found["files"]
+            told = self.places.told(number, found)["files"] if has_names else []
+            kinds = [file["type"] for file in told] if has_names else found["files"]
             self.count += len(kinds) if self.options.type else len(kinds) - kinds.count("d")
-            if self.takes_names:
-                files += self.places.told(place, found)["files"]
+            files += told if self.takes_names else []
         self.scan = processor_seconds_of(process) - used
         self.began = time.monotonic()
         self.has_told = False
@@ -77,9 +80,16 @@ class Window:
 
     def subscribe(self, server: Server, number: int, clock: str) -> None:
         """Subscribes to what changes below one of the directories. Lists that came are kept."""
-        query = {"expression": self.places.expressions[number], "fields": FIELDS, "since": clock}
+        query = {"expression": self.places.expression(number), "fields": FIELDS, "since": clock}
         server.ask("subscribe", self.places.places[number].root, name_of(number), query)
         server.client.take_lists()
+
+    def subscribe_to_rules(self, server: Server, number: int, clock: str) -> None:
+        """Hears of files that say what is ignored, if that is left out."""
+        if is_wanted(self.options):
+            query = {"expression": ["name", [GITIGNORE, IGNORE]], "fields": FIELDS, "since": clock}
+            server.ask("subscribe", self.places.places[number].root, RULES + name_of(number), query)
+            server.client.take_lists()
 
     def words(self) -> str:
         """What is followed, and how often it is scanned."""
@@ -123,14 +133,22 @@ class Window:
         if lists and lists[0].get("canceled"):
             raise Trouble(f"{lists[0]['root']} is no longer watched, so nothing more is told of it")
         found: List[Value] = []
-        while lists and not lists[0].get("canceled"):
-            found.append(self.told(lists.popleft()))
+        while self.server and lists and not lists[0].get("canceled"):
+            try:
+                found += self.told(self.server, lists.popleft())
+            except Went:
+                self.lose(self.server)
         return found
 
-    def told(self, found: Value) -> Value:
-        """A list with names as people are shown them."""
+    def told(self, server: Server, found: Value) -> List[Value]:
+        """A list with names as people are shown them. If what is ignored changed, git and the server are asked anew."""
         names = [name_of(number) for number in range(len(self.places.places))]
-        return self.places.told(self.places.places[names.index(found["subscription"])], found)
+        is_of_rules = found["subscription"].startswith(RULES)
+        number = names.index(found["subscription"][len(RULES) if is_of_rules else 0:])
+        ignored = self.places.ignored[number]
+        if (is_of_rules or ignored.is_stale()) and ignored.renew():
+            self.subscribe(server, number, found["clock"])
+        return [] if is_of_rules else [self.places.told(number, found)]
 
     def fresh_files(self) -> Optional[List[File]]:
         """The files that match, once after another server was reached."""
@@ -193,6 +211,8 @@ class Window:
 
     def close(self) -> None:
         """Gives the roots back that were watched for windows alone, if this is the last one."""
+        for ignored in self.places.ignored:
+            ignored.close()
         self.places.open.close(self.server)
         if self.server:
             self.server.close()

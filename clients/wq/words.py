@@ -46,6 +46,10 @@ NARROWING = [
     value("--exclude", metavar="GLOB", action="append", help="leave out what fits, and all below it"),
     ALL,
 ]
+IGNORING = [
+    Option(("--no-ignore",), {"dest": "ignore", "action": "store_false", "help": "lists also what git ignores"}),
+    flag("--gitignore", help="leaves out what .gitignore and .ignore say, also outside of repositories"),
+]
 ZEROS = flag("-0", dest="print0", help="a byte 0 after each name in place of a newline")
 JSON = flag("--json", help="the reply of the server")
 LINES = flag("--lines", help="with --json, an object for each file, each on a line of its own")
@@ -68,7 +72,7 @@ class Form(NamedTuple):
 
 FORMS: Dict[str, Form] = {
     "find": Form("[DIR|GLOB..]", "prints the names that match, one a line", [
-        *NARROWING, value("--size", metavar="SIZE", help="+1M at least, -10k at most, 0 exactly"),
+        *NARROWING, *IGNORING, value("--size", metavar="SIZE", help="+1M at least, -10k at most, 0 exactly"),
         value("--newer", metavar="AGE", help="modified within this time, as 30s, 10m, 2h, 3d, 1w"),
         value("--expression", metavar="JSON", help="an expression of the protocol, beside the other words"),
         value("--program", metavar="NAME", help="a stored program; globs or -e beside it say which files it is asked about"),
@@ -77,12 +81,12 @@ FORMS: Dict[str, Form] = {
         Option(("--no-sync",), {"dest": "sync", "action": "store_false", "help": "as the last crawl saw it"}),
         flag("--keep", help="goes on to watch a root that was not watched before"), WORDS]),
     "since": Form("[NAME] [DIR|GLOB..]", "prints what changed since this was last asked, under a name or without", [
-        *NARROWING, ZEROS, JSON, LINES,
+        *NARROWING, *IGNORING, ZEROS, JSON, LINES,
         flag("--peek", help="by the clock that the last call wrote; the name does not move"), WORDS]),
     "follow": Form("[DIR|GLOB..]", "prints changes as they come, until you stop it", [
-        *NARROWING, ZEROS, JSON, LINES, WORDS]),
+        *NARROWING, *IGNORING, ZEROS, JSON, LINES, WORDS]),
     "run": Form("[DIR|GLOB..] -- COMMAND..", "runs a command now and after each change; {} is for the names", [
-        *NARROWING,
+        *NARROWING, *IGNORING,
         value("--quiet", metavar="MS", type=int, default=100, help="a burst ends when it is so long quiet; 100"),
         flag("--restart", help="a change ends the running one by SIGTERM, and after 5 seconds by SIGKILL"),
         flag("--once", help="ends after one run, with its status"),
