@@ -1,6 +1,6 @@
-/* A library that makes each answer of a disk late, as over a network: it is loaded before the C library, and waits for the
- * microseconds of the variable LATE before it asks. Threads wait side by side. strace could do the same without a compiler,
- * but takes 35 microseconds of each call for itself, one thread after the other. */
+/* A library that makes each answer of a disk late, as over a network: it is loaded before the C library, and waits for
+ * the microseconds of the variable LATE before it asks. Threads wait side by side. strace could do the same without a
+ * compiler, but takes 35 microseconds of each call for itself, one thread after the other. */
 
 #define _GNU_SOURCE
 #include <fcntl.h>

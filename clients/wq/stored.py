@@ -1,5 +1,5 @@
-"""Queries by a stored program. Globs or suffixes may be beside it, since the server has keys for them that say which files
-it asks the program about."""
+"""Queries by a stored program. Globs or suffixes may be beside it, since the server has keys for them that say which
+files it asks the program about."""
 
 import argparse
 from typing import Any, Dict, List

@@ -1,5 +1,5 @@
-"""A server that runs without proof, from a clone in which nothing is built: which process it is, and what a person hears
-of it."""
+"""A server that runs without proof, from a clone in which nothing is built: which process it is, and what a person
+hears of it."""
 
 import contextlib
 import os

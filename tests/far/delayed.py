@@ -52,8 +52,8 @@ def check_changes(tally: built.Tally, follower: Follower, root: Path, name: str)
 
 
 def check_a_change_in_a_walk(tally: built.Tally, room: Path) -> None:
-    """A file that changes while the tree is scanned is in that answer or in the next one. A client of another root waits
-    for no more than the scan that goes on."""
+    """A file that changes while the tree is scanned is in that answer or in the next one. A client of another root is
+    answered beside that."""
     if not has_strace(tally):
         return
     root, other = room / "tree", room / "other"

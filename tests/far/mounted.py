@@ -140,8 +140,8 @@ def can_move(directory: Path) -> bool:
 
 
 def check_a_passing_file_system(tally: built.Tally, room: Path) -> None:
-    """A file system in FUSE whose files change behind it: they are seen at once if the kernel keeps nothing of them, and
-    else when it asks again."""
+    """A file system in FUSE whose files change behind it: they are seen at once if the kernel keeps nothing of them,
+    and else when it asks again."""
     program = compiled(room)
     if program is None:
         return

@@ -1,5 +1,5 @@
-/* passing SOURCE OPTION.. PLACE: shows a directory at another place by FUSE. Each question goes on to the directory, whose
- * files may change behind it. It can be read alone. */
+/* passing SOURCE OPTION.. PLACE: shows a directory at another place by FUSE. Each question goes on to the directory,
+ * whose files may change behind it. It can be read alone. */
 
 #define FUSE_USE_VERSION 31
 #define _GNU_SOURCE
