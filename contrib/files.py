@@ -168,7 +168,7 @@ def wq_manual() -> str:
 
 def wqasm_manual() -> str:
     summary = "writes, reads, explains and tries programs for wqd"
-    usage = subprocess.run([sys.executable, str(TOP / "clients" / "wqasm"), "--help"], stdout=subprocess.PIPE, check=True)
+    usage = subprocess.run([sys.executable, "-I", str(TOP / "clients" / "wqasm"), "--help"], stdout=subprocess.PIPE, check=True)
     return manual.page(text("docs/WQASM.md"), "wqasm", 1, summary, version(), usage.stdout.decode())
 
 

@@ -64,8 +64,9 @@ class Follower:
     def follow(self, root: str, names: Iterable[str]) -> None:
         """Watches the projects that these links of a root lead to."""
         targets: List[str] = []
+        seen: Set[str] = set()
         for name in names:
-            targets += targets_of(f"{root}/{name}", set())
+            targets += targets_of(f"{root}/{name}", seen)
         if not targets:
             return
         try:
@@ -103,7 +104,8 @@ class Follower:
 
 
 def targets_of(path: str, seen: Set[str]) -> List[str]:
-    """Where a path leads: the target of each link in it and behind it, however many there are."""
+    """Where a path leads: the target of each link in it and behind it, however many there are. Paths that were seen before
+    are left out, since their targets are known."""
     found: List[str] = []
     left = [path]
     while left:
