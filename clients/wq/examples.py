@@ -23,6 +23,7 @@ EXAMPLES: Dict[str, List[Example]] = {
         Example("wq run '*.c' '*.h' -- make", "builds now and after each change"),
         Example("wq run --restart -e py -- python3 serve.py", "starts a server anew after each change"),
         Example("wq run --postpone '*.py' -- ruff check {}", "checks the files that changed"),
+        Example("wq run -e go --shell -- 'go vet && go test'", "a text for sh, after each change"),
     ],
     "status": [Example("wq status", "memory, processor time, roots and triggers of the server")],
     "watch": [Example("wq watch ~/src/project", "keeps a project watched, so that answers come at once")],

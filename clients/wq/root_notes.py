@@ -1,5 +1,5 @@
-"""Notes of the roots that wq had a server watch: for what, when one was last asked about, and which of them a window has
-open. The server tells none of it."""
+"""Notes of the roots that wq had a server watch: for what, when one was last asked about, and which of them a window
+has open. The server tells none of it."""
 
 import contextlib
 import fcntl

@@ -1,5 +1,5 @@
-"""What the log of a server says of its roots and triggers: failures, and what scans leave out. The server tells it nowhere
-else."""
+"""What the log of a server says of its roots and triggers: failures, and what scans leave out. The server tells it
+nowhere else."""
 
 import contextlib
 import json
@@ -34,8 +34,8 @@ class Failures(NamedTuple):
         if not self.last:
             return ""
         hint = ", which shells say of a command that is not there" if self.last.endswith(NOT_FOUND) else ""
-        times = f"; failed {self.count:,} time{'' if self.count == 1 else 's'} since it was registered" if self.count else ""
-        return f"last failure: {self.last}{hint}{times}"
+        times = f"{self.count:,} time{'' if self.count == 1 else 's'}"
+        return f"last failure: {self.last}{hint}" + (f"; failed {times} since it was registered" if self.count else "")
 
 
 class Log:
@@ -101,7 +101,8 @@ def quoted_of(line: str, separator: str = ": ") -> Tuple[str, str]:
 def text_of(process: int) -> Tuple[bytes, int]:
     """The end of what a process writes to its standard error, if that is a file, and where that begins."""
     try:
-        with open(f"/proc/{process}/fd/2", "rb", opener=lambda path, flags: opened(path, flags, follows=True)) as stream:
+        path = f"/proc/{process}/fd/2"
+        with open(path, "rb", opener=lambda path, flags: opened(path, flags, follows=True)) as stream:
             size = os.fstat(stream.fileno()).st_size
             place = stream.seek(max(0, size - MOST))
             return stream.read(MOST), place

@@ -29,7 +29,8 @@ class Silence:
         if is_at_work and not is_stopped(self.process):
             return ""
         self.is_told = True
-        return f"{server_words(self.sockname, self.process)} has not answered for {seconds:.0f} s: {self.reason(seconds)}"
+        words = server_words(self.sockname, self.process)
+        return f"{words} has not answered for {seconds:.0f} s: {self.reason(seconds)}"
 
     def reason(self, seconds: float) -> str:
         used = processor_seconds_of(self.process) - self.used

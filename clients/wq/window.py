@@ -4,7 +4,7 @@ it."""
 import argparse
 import select
 import time
-from typing import Dict, List, Optional
+from typing import Callable, Dict, List, Optional, Sequence
 
 from wqclient.kept import STOPS, kept, log_of, run_of
 from wqclient.lines import Ended
@@ -34,12 +34,16 @@ SOON, MOST_SOON = 1.0, 5
 class Window:
     """Subscriptions to what matches below directories. When the server ends, another one is asked."""
 
-    def __init__(self, home: Home, options: argparse.Namespace, gap: str, takes_names: bool = False) -> None:
+    def __init__(self, home: Home, options: argparse.Namespace, gap: str, takes_names: bool = False,
+                 fields: Sequence[str] = FIELDS) -> None:
         self.home = home
         self.options = options
         # A sentence on what changed between the end of a server and the next one.
         self.gap = gap
         self.takes_names = takes_names
+        self.fields = list(fields)
+        # The clock of each directory up to which its changes were taken.
+        self.clocks: List[str] = []
         self.server: Optional[Server] = Server(home)
         self.sockname = self.server.sockname
         used = processor_seconds_of(self.server.peer.process)
@@ -61,14 +65,15 @@ class Window:
         process = server.peer.process
         # What is asked if the server ends: its process may have gone then.
         self.run, self.is_of_unit = run_of(process), is_of_unit(process)
-        self.count = 0
+        self.count, self.clocks = 0, []
         files: List[File] = []
         for number, place in enumerate(self.places.places):
             has_names = self.takes_names or self.places.ignored[number].rules is not None
-            query = {"expression": self.places.expression(number), "fields": FIELDS if has_names else ["type"]}
-            found = self.places.ask(place, query)
-            self.subscribe_to_rules(server, number, found["clock"])
-            self.subscribe(server, number, found["clock"])
+            fields = self.fields if has_names else ["type"]
+            found = self.places.ask(place, {"expression": self.places.expression(number), "fields": fields})
+            self.clocks.append(found["clock"])
+            self.subscribe_to_rules(server, number)
+            self.subscribe(server, number)
             told = self.places.told(number, found)["files"] if has_names else []
             kinds = [file["type"] for file in told] if has_names else found["files"]
             self.count += len(kinds) if self.options.type else len(kinds) - kinds.count("d")
@@ -78,25 +83,47 @@ class Window:
         self.has_told = False
         return files
 
-    def subscribe(self, server: Server, number: int, clock: str) -> None:
-        """Subscribes to what changes below one of the directories. Lists that came are kept."""
-        query = {"expression": self.places.expression(number), "fields": FIELDS, "since": clock}
+    def subscribe(self, server: Server, number: int) -> None:
+        """Subscribes to what changes below one of the directories since its clock. Lists of a subscription before it are
+        dropped."""
+        query = {"expression": self.places.expression(number), "fields": self.fields, "since": self.clocks[number]}
         server.ask("subscribe", self.places.places[number].root, name_of(number), query)
+        keep_lists(server, lambda one: one["subscription"] != name_of(number))
         server.client.take_lists()
 
-    def subscribe_to_rules(self, server: Server, number: int, clock: str) -> None:
+    def later(self) -> List[File]:
+        """What changed until now since the lists that were taken. Further lists have what changes from now on."""
+        server = self.server
+        if server is None:
+            return []
+        files: List[File] = []
+        try:
+            for number, place in enumerate(self.places.places):
+                since = {"since": self.clocks[number], "fields": self.fields}
+                found = server.ask("query", place.root, {"expression": self.places.expression(number), **since})
+                self.clocks[number] = found["clock"]
+                self.subscribe(server, number)
+                files += self.places.told(number, found)["files"]
+        except Went:
+            self.lose(server)
+        return files
+
+    def pace(self) -> float:
+        """About how many seconds there are between two scans."""
+        return seconds_between_scans(words_of(self.places.server.peer.process), self.scan)
+
+    def subscribe_to_rules(self, server: Server, number: int) -> None:
         """Hears of files that say what is ignored, if that is left out."""
         if is_wanted(self.options):
-            query = {"expression": ["name", [GITIGNORE, IGNORE]], "fields": FIELDS, "since": clock}
+            query = {"expression": ["name", [GITIGNORE, IGNORE]], "fields": FIELDS, "since": self.clocks[number]}
             server.ask("subscribe", self.places.places[number].root, RULES + name_of(number), query)
             server.client.take_lists()
 
     def words(self) -> str:
         """What is followed, and how often it is scanned."""
         count = f"{self.count:,} file{'' if self.count == 1 else 's'}"
-        words = words_of(self.places.server.peer.process)
-        pace = f"; scans about each {seconds_shown(seconds_between_scans(words, self.scan))}" if words else ""
-        return f"following {count} below {' and '.join(self.places.directories)}{pace}"
+        below = " and ".join(self.places.directories)
+        return f"following {count} below {below}; scans about each {seconds_shown(self.pace())}"
 
     def wait(self, others: Dict[int, int], seconds: Optional[float] = None) -> Dict[int, int]:
         """Waits for the server, and for events of other files, which are given; at most for some seconds."""
@@ -142,13 +169,20 @@ class Window:
 
     def told(self, server: Server, found: Value) -> List[Value]:
         """A list with names as people are shown them. If what is ignored changed, git and the server are asked anew."""
-        names = [name_of(number) for number in range(len(self.places.places))]
         is_of_rules = found["subscription"].startswith(RULES)
+        names = [name_of(number) for number in range(len(self.clocks))]
         number = names.index(found["subscription"][len(RULES) if is_of_rules else 0:])
+        if not is_of_rules:
+            self.clocks[number] = found["clock"]
         ignored = self.places.ignored[number]
         if (is_of_rules or ignored.is_stale()) and ignored.renew():
-            self.subscribe(server, number, found["clock"])
+            self.subscribe(server, number)
         return [] if is_of_rules else [self.places.told(number, found)]
+
+    def drop_lists(self) -> None:
+        """Takes no list of changes that came, so that they are there `later`."""
+        if self.server:
+            keep_lists(self.server, lambda one: one.get("canceled", False) or one["subscription"].startswith(RULES))
 
     def fresh_files(self) -> Optional[List[File]]:
         """The files that match, once after another server was reached."""
@@ -186,7 +220,8 @@ class Window:
         if self.is_started_by_others() and not is_listened_on(self.sockname):
             if not self.has_told and time.monotonic() - self.lost > TELL:
                 self.has_told = True
-                say("the server was stopped; this goes on as soon as another one listens, such as after `wq start`", "yellow")
+                say("the server was stopped; this goes on as soon as another one listens, such as after `wq start`",
+                    "yellow")
             return
         try:
             server = Server(self.home, tells=False)
@@ -222,6 +257,14 @@ class Window:
 
     def __exit__(self, *_: object) -> None:
         self.close()
+
+
+def keep_lists(server: Server, is_kept: Callable[[Value], bool]) -> None:
+    """Of the lists that came keeps some."""
+    lists = server.client.lists
+    found = list(filter(is_kept, lists))
+    lists.clear()
+    lists.extend(found)
 
 
 def name_of(number: int) -> str:

@@ -88,7 +88,13 @@ FORMS: Dict[str, Form] = {
     "run": Form("[DIR|GLOB..] -- COMMAND..", "runs a command now and after each change; {} is for the names", [
         *NARROWING, *IGNORING,
         value("--quiet", metavar="MS", type=int, default=100, help="a burst ends when it is so long quiet; 100"),
+        value("--delay", metavar="MS", type=int, default=0, help="waits so long before a run for a change"),
         flag("--restart", help="a change ends the running one by SIGTERM, and after 5 seconds by SIGKILL"),
+        value("--on-busy", metavar="HOW", help="what a change does to a running one: wait, restart, ignore, signal"),
+        value("--stop-signal", metavar="SIG", default="TERM", help="the signal of restart and signal, as INT; TERM"),
+        flag("--no-self", help="leaves out what changes while the command runs"),
+        flag("--shell", help="the words are a text for sh, in which {} is for the names"),
+        flag("--notify", help="the terminal says that a run ended, or rings"),
         flag("--once", help="ends after one run, with its status"),
         flag("--postpone", help="waits for the first change"),
         flag("--clear", help="clears the terminal before each run"),
