@@ -3,10 +3,12 @@
 import contextlib
 import errno
 import os
-import subprocess
-from typing import Dict, Iterator, List, NamedTuple, Optional
+from typing import TYPE_CHECKING, Dict, Iterator, List, NamedTuple, Optional
 
 from wqclient.harmless import harmless
+
+if TYPE_CHECKING:
+    import subprocess
 
 # A repository could name a program that git runs for its index, and one that fetches what is missing.
 SAFELY = ("git", "-c", "core.fsmonitor=false", "-c", "protocol.allow=never")
@@ -36,6 +38,7 @@ def environment() -> Dict[str, str]:
 
 
 def answer(words: List[str], directory: str) -> bytes:
+    import subprocess  # it is slow to read, and most searches do not ask git
     try:
         ended = subprocess.run([*SAFELY, *words], cwd=directory, env=environment(), stdin=subprocess.DEVNULL,
                                stdout=subprocess.PIPE, stderr=subprocess.PIPE)
@@ -107,6 +110,7 @@ class Judge:
 
     def answers(self, names: List[str]) -> Iterator[str]:
         if self.process is None:
+            import subprocess
             self.process = subprocess.Popen(self.words, cwd=self.directory, env=environment(), stdin=subprocess.PIPE,
                                             stdout=subprocess.PIPE, stderr=subprocess.DEVNULL, bufsize=0)
         assert self.process.stdin is not None and self.process.stdout is not None

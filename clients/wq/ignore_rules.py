@@ -4,12 +4,14 @@ names."""
 import bisect
 import contextlib
 import os
-import tempfile
-from typing import Any, Callable, Dict, List, Optional, Tuple
+from typing import TYPE_CHECKING, Any, Callable, Dict, List, Optional, Tuple
 
 from .git import Judge, Repository, Unanswered, is_repository, no_repository, repository_of, tracked_in
 from .ignore_lines import Terms, terms_of
 from .shadow import GITIGNORE, IGNORE, Shadow, text_of
+
+if TYPE_CHECKING:
+    import tempfile
 
 Ask = Callable[[Dict[str, Any]], Any]
 # A name, and whether it is a directory that is gone.
@@ -52,6 +54,7 @@ class Rules:
         names: List[str] = ask({"suffix": ["git", "gitignore", "ignore"], "fields": ["name"],
                                 "expression": ["name", [".git", GITIGNORE, IGNORE]]})["files"]
         if self.top is None:
+            import tempfile  # it is slow to read, and seldom needed
             self.room = tempfile.TemporaryDirectory(prefix="wq-")
             self.repositories[""] = no_repository(self.root, self.room.name)
             self.tracked[""] = []

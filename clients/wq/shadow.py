@@ -2,7 +2,6 @@
 after its own, since git reads no .ignore."""
 
 import os
-import tempfile
 from typing import List
 
 GITIGNORE, IGNORE = ".gitignore", ".ignore"
@@ -22,6 +21,7 @@ class Shadow:
 
     def __init__(self, top: str, directories: List[str]) -> None:
         """The directories are those with rules, by their whole paths."""
+        import tempfile  # it is slow to read, and seldom needed
         self.top = top
         self.room = tempfile.TemporaryDirectory(prefix="wq-")
         for directory in directories:

@@ -48,7 +48,7 @@ def check_wq(tally: built.Tally, room: Path) -> None:
     for words, expected in (
         (["st"], ["status", "start", "stop"]),
         (["find", "--ex"], ["--exclude", "--expression"]),
-        (["run", "--o"], ["--once"]),
+        (["run", "--onc"], ["--once"]),
         (["since", "a", "-t", ""], ["f", "d", "l"]),
         (["find", str(room) + "/a"], [str(room / "a file")]),
         (["stop", "-"], ["--help"]),
