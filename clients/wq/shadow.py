@@ -4,14 +4,18 @@ after its own, since git reads no .ignore."""
 import os
 from typing import List
 
+from wqclient.files import bytes_of
+
+# A file of rules has at most so many bytes.
+LONGEST = 16_777_216
 GITIGNORE, IGNORE = ".gitignore", ".ignore"
 
 
 def text_of(path: str) -> str:
-    """The text of a file; nothing if it cannot be read. git follows no link for its rules."""
+    """The text of a file; nothing if it cannot be read. git follows no link for its rules. The tree may be that of a
+    stranger, so no pipe is waited for, and a longer file has no rules."""
     try:
-        with open(path, encoding="utf-8", errors="surrogateescape", newline="\n") as stream:
-            return stream.read()
+        return bytes_of(path, LONGEST).decode("utf-8", "surrogateescape")
     except OSError:
         return ""
 

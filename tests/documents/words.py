@@ -12,7 +12,7 @@ MOST = {
     "CONTRIBUTING.md": 1350,
     "CHANGELOG.md": 750,
     "docs/ARCHITECTURE.md": 2050,
-    "docs/CLIENTS.md": 2300,
+    "docs/CLIENTS.md": 2350,
     "docs/DECISIONS.md": 800,
     "crates/*/DECISIONS.md": 6050,
     "docs/PROGRAMS.md": 3250,
@@ -21,7 +21,7 @@ MOST = {
     "docs/REFERENCE.md": 2350,
     "docs/RECIPES.md": 1400,
     "docs/SCRIPTS.md": 1100,
-    "docs/SECURITY.md": 1550,
+    "docs/SECURITY.md": 2050,
     "docs/SERVER.md": 3350,
     "docs/SPEED.md": 1400,
     "docs/TROUBLESHOOTING.md": 1400,
@@ -29,7 +29,7 @@ MOST = {
     "docs/WQ.md": 1350,
     "docs/WQASM.md": 1000,
     "docs/crates": 3250,
-    "tests/README.md": 1250,
+    "tests/README.md": 1350,
 }
 # A sentence of more words is long.
 LONG = 30

@@ -1,5 +1,6 @@
 """Another user of the machine: sockets in the place of this user's, directories that are renamed, project files in `/tmp`."""
 
+import contextlib
 import io
 import json
 import os
@@ -88,12 +89,12 @@ def rename(attack: str, target: str) -> None:
     server = os.fork()
     if server == 0:
         serve(f"{attack}/wqd.sock")
+    waits_for(lambda: os.path.exists(f"{attack}/wqd.sock"))
     while True:
-        try:
-            os.rename(attack, target)
-            os.rename(target, attack)
-        except OSError:
-            time.sleep(0.001)
+        for old, new in ((attack, target), (target, attack)):
+            with contextlib.suppress(OSError):
+                os.rename(old, new)
+            time.sleep(0.0003)
 
 
 def check_a_hook_in_a_race(tally: built.Tally, room: Path) -> None:

@@ -1,5 +1,6 @@
 """Servers of this user that send a line without end, or nothing at all."""
 
+import os
 import socket
 import subprocess
 import sys
@@ -60,6 +61,7 @@ def check_replies_without_end(tally: built.Tally, room: Path) -> None:
         reason = f"wqd: git looks at all files, since the server sends over {SMALL:,} bytes in a line\n"
         same(tally, "git's hook", (ended.status, ended.output, ended.errors.decode()), (1, b"", reason))
         same(tally, "not much more was read", server.sent < 100 * SMALL, True)
+        os.unlink(scene.sockname)
 
 
 def check_hanging(tally: built.Tally, room: Path) -> None:
@@ -70,6 +72,7 @@ def check_hanging(tally: built.Tally, room: Path) -> None:
         ended = said_by([sys.executable, "-I", "-S", hook, "2", ""], scene)
         reason = f"wqd: git looks at all files, since {scene.sockname} does not answer: timed out\n"
         same(tally, "git's hook", (ended.status, ended.output, ended.errors.decode()), (1, b"", reason))
+        os.unlink(scene.sockname)
 
 
 def hook_with(room: Path, old: str, new: str) -> str:
