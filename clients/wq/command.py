@@ -73,8 +73,9 @@ def run(words: List[str], home: Home) -> int:
         return print_names(words[1:], home)
     from .words import FORMS, read
     if command not in FORMS:
+        from .foreign import COMMANDS
         from .vocabulary import meant
-        hint = meant(command, FORMS).replace('"', "")
+        hint = f"; use `wq {COMMANDS[command]}`" if command in COMMANDS else meant(command, FORMS).replace('"', "")
         raise WrongWords(f"there is no command {command}{hint}; `wq --help` says which there are")
     return function_of(command)(read(command, words[1:]), home)
 

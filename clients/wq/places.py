@@ -4,11 +4,12 @@ import argparse
 import os
 from typing import Any, Callable, Dict, List, Set, Tuple
 
+from .braces import all_expanded, has_braces
 from .globs import any_of, expression_of, glob_term, is_left_out
 from .ignored import Ignored, name_of
 from .open_roots import OpenRoots
 from .root_notes import MOMENT, STAYS, WINDOW
-from .roots import Place, is_directory, is_pattern, place_of, real_path, require_utf8
+from .roots import Place, front_of, is_directory, is_pattern, place_of, real_path, require_utf8
 from .server import Server, Value
 from .trouble import WrongWords
 
@@ -19,13 +20,16 @@ class Places:
     """Directories whose roots are watched. A list of files has names as the directory was typed."""
 
     def __init__(self, server: Server, words: List[str], options: argparse.Namespace, purpose: str = STAYS) -> None:
-        self.directories, self.globs = directories_and_globs(words)
+        self.directories, self.words = directories_and_globs(words)
+        self.globs = all_expanded(self.words)
         self.server = server
         self.options = options
         # What the roots are watched for.
         self.purpose = purpose
         watched = server.roots()
         self.places = [place_of(directory, watched) for directory in self.directories]
+        if getattr(options, "absolute", False):
+            self.places = [place._replace(front=front_of(os.path.abspath(place.front))) for place in self.places]
         # Made before a root is watched, since an option may be wrong.
         self.expressions = [expression_of(place, self.globs, options) for place in self.places]
         # The roots that were scanned since this command began, and those that were not watched before.
@@ -103,8 +107,8 @@ class Places:
     def require_known(self) -> None:
         """A word that is neither a directory nor a pattern names files: some that are there, or that the server knows to
         be gone. Else it is a mistake."""
-        for word in self.globs:
-            if not is_pattern(word) and not word.startswith("./") and not self.is_known(word):
+        for word in self.words:
+            if not is_pattern(word) and not has_braces(word) and not word.startswith("./") and not self.is_known(word):
                 if os.path.isabs(word):
                     raise WrongWords(f"{word} is no directory here")
                 raise WrongWords(f"{word} is no directory here; write './{word}' for a file of that name")
@@ -114,7 +118,7 @@ class Places:
             return True
         for place in self.places:
             front = [["dirname", place.below]] if place.below else []
-            expression = ["allof", *front, glob_term(word, place)]
+            expression = ["allof", *front, glob_term(word, place, self.options.ignore_case)]
             # Since a second, so that the server names what is gone too.
             if self.ask(place, {"since": 0, "expression": expression, "fields": ["name"]})["files"]:
                 return True
@@ -130,7 +134,7 @@ def directories_and_globs(words: List[str]) -> Tuple[List[str], List[str]]:
         if is_directory(word):
             directories.append(word)
             continue
-        if os.path.isabs(word) and not is_pattern(word) and not os.path.lexists(word):
+        if os.path.isabs(word) and not is_pattern(word) and not has_braces(word) and not os.path.lexists(word):
             real_path(word)
         if word.endswith("/"):
             raise WrongWords(f"{word} is no directory here")

@@ -9,6 +9,7 @@ from typing import Any, Dict, List, Optional, Tuple
 
 from wqclient.kept import CLOCKS, keep, kept
 
+from .braces import has_braces
 from .changes import FIELDS, counted, print_changes
 from .globs import restrictions
 from .home import Home
@@ -31,7 +32,7 @@ def since(options: argparse.Namespace, home: Home) -> int:
 
 def name_and_words(words: List[str]) -> Tuple[str, List[str]]:
     """The name, which is empty if none is given, and the other words. Without a name the first word is a glob."""
-    if not words or is_pattern(words[0]) and not is_directory(words[0]):
+    if not words or (is_pattern(words[0]) or has_braces(words[0])) and not is_directory(words[0]):
         return "", words
     if is_directory(words[0]):
         raise WrongWords(f"{words[0]} is a directory, and a name comes before it: wq since NAME {shlex.join(words)}")

@@ -4,7 +4,7 @@ files it asks the program about."""
 import argparse
 from typing import Any, Dict, List
 
-from .globs import WITH_DOTS, front_of, glob_term, suffix_of
+from .globs import WITH_DOTS, front_of, glob_term, suffixes_of
 from .roots import Place, require_utf8
 from .trouble import WrongWords
 
@@ -12,8 +12,10 @@ from .trouble import WrongWords
 def require_no_other(options: argparse.Namespace, globs: List[str]) -> None:
     """A program takes the place of an expression, so no option that becomes a part of one may be beside it."""
     require_utf8(options.program, "--program")
-    if any(getattr(options, name) for name in ("expression", "type", "size", "newer", "exclude")):
-        raise WrongWords("--program takes the place of -t, --size, --newer, --exclude and --expression; take them out")
+    others = ("expression", "type", "size", "newer", "older", "exclude", "ignore_case", "max_depth", "min_depth")
+    if any(getattr(options, name) for name in others):
+        raise WrongWords("--program takes the place of -i, -t, --size, --newer, --older, --exclude, --max-depth, --min-depth "
+                         "and --expression; take them out")
     if globs and options.ext:
         raise WrongWords("--program takes globs or -e beside it, and not both")
 
@@ -26,7 +28,7 @@ def query_of(place: Place, globs: List[str], options: argparse.Namespace) -> Dic
     if options.ext:
         if place.below:
             raise WrongWords("-e beside --program is for a whole root; take a glob for a directory below it")
-        return {**query, "suffix": [suffix_of(word) for word in options.ext]}
+        return {**query, "suffix": suffixes_of(options.ext)}
     return {**query, "path": [place.below]} if place.below else query
 
 

@@ -5,6 +5,7 @@ import os
 import shlex
 from typing import Any, Dict, Iterator, List, Tuple
 
+from .braces import has_braces
 from .commands_run import PLACE
 from .globs import expression_of
 from .home import Home
@@ -68,7 +69,7 @@ def require_files(globs: List[str], directory: str) -> None:
     for word in globs:
         if is_directory(os.path.join(directory, word)):
             raise WrongWords(f"{word} is a directory; a trigger has one, which comes before its name")
-        if not is_pattern(word) and not word.startswith("./") and not os.path.lexists(os.path.join(directory, word)):
+        if not is_pattern(word) and not has_braces(word) and not word.startswith("./") and not os.path.lexists(os.path.join(directory, word)):
             raise WrongWords(f"{word} is no file here; write './{word}' for one that may come")
 
 

@@ -6,6 +6,9 @@ from typing import Any, Dict, List, NamedTuple, NoReturn, Tuple
 from .trouble import WrongWords
 
 NEEDS_DASHES = ("run", "trigger")
+# The commands that take one word, and its name.
+ONE_WORD = {"triggers": "directory", "explain": "expression"}
+EXECUTING = {"-x": "each", "--exec": "each", "-X": "batch", "--exec-batch": "batch"}
 
 
 # How many columns a page of help has.
@@ -41,11 +44,16 @@ def value(*names: str, help: str, metavar: str, **settings: Any) -> Option:
 
 ALL = flag("--all", help="leave nothing out, neither .git, .hg, node_modules and target nor directories that changed")
 NARROWING = [
-    value("-t", metavar="KINDS", dest="type", help="kinds of files: f file, d directory, l link, as -t f,d"),
-    value("-e", metavar="EXT", dest="ext", action="append", help="a suffix, as -e c; -e h beside it for either"),
-    value("--exclude", metavar="GLOB", action="append", help="leave out what fits, and all below it"),
+    flag("-i", "--ignore-case", dest="ignore_case", help="the case of A to Z does not count in globs"),
+    value("-t", "--type", metavar="KINDS", dest="type", action="append",
+          help="kinds of files: f or file, d or dir, l or link, as -t f,d"),
+    value("-e", "--extension", metavar="EXT", dest="ext", action="append", help="suffixes, as -e c,h or -e c -e h"),
+    value("-E", "--exclude", metavar="GLOB", dest="exclude", action="append", help="leave out what fits, and all below it"),
+    value("-d", "--max-depth", metavar="N", dest="max_depth", type=int, help="at most so deep; 1 is directly in DIR"),
+    value("--min-depth", metavar="N", type=int, help="at least so deep"),
     ALL,
 ]
+ABSOLUTE = flag("-a", "--absolute-path", dest="absolute", help="names from / on")
 IGNORING = [
     Option(("--no-ignore",), {"dest": "ignore", "action": "store_false", "help": "lists also what git ignores"}),
     flag("--gitignore", help="leaves out what .gitignore and .ignore say, also outside of repositories"),
@@ -72,19 +80,25 @@ class Form(NamedTuple):
 
 FORMS: Dict[str, Form] = {
     "find": Form("[DIR|GLOB..]", "prints the names that match, one a line", [
-        *NARROWING, *IGNORING, value("--size", metavar="SIZE", help="+1M at least, -10k at most, 0 exactly"),
-        value("--newer", metavar="AGE", help="modified within this time, as 30s, 10m, 2h, 3d, 1w"),
+        *NARROWING, *IGNORING, ABSOLUTE,
+        value("--size", metavar="SIZE", help="+1M at least, -10k at most, 0 exactly; k, M, G are 1,024 bytes and so on, kB 1,000"),
+        value("--newer", "--changed-within", metavar="WHEN", dest="newer",
+              help="modified within this time, as 30s, 10min, 2h, 3d, 1w, or since a date, as 2026-11-28"),
+        value("--older", "--changed-before", metavar="WHEN", dest="older", help="modified before that"),
         value("--expression", metavar="JSON", help="an expression of the protocol, beside the other words"),
         value("--program", metavar="NAME", help="a stored program; globs or -e beside it say which files it is asked about"),
         flag("-l", dest="long", help="the kind, size, time and name of each"), ZEROS, JSON, LINES,
         flag("--count", help="how many there are"),
         Option(("--no-sync",), {"dest": "sync", "action": "store_false", "help": "as the last crawl saw it"}),
-        flag("--keep", help="goes on to watch a root that was not watched before"), WORDS]),
+        flag("--keep", help="goes on to watch a root that was not watched before"),
+        value("-x", "--exec", metavar="CMD", dest="each", help="runs CMD, which ends the line or at ;, for each name: {} is its "
+              "place, {/} its last part, {//} its directory, {.} and {/.} without a suffix"),
+        value("-X", "--exec-batch", metavar="CMD", dest="batch", help="runs CMD once, with all names"), WORDS]),
     "since": Form("[NAME] [DIR|GLOB..]", "prints what changed since this was last asked, under a name or without", [
-        *NARROWING, *IGNORING, ZEROS, JSON, LINES,
+        *NARROWING, *IGNORING, ABSOLUTE, ZEROS, JSON, LINES,
         flag("--peek", help="by the clock that the last call wrote; the name does not move"), WORDS]),
     "follow": Form("[DIR|GLOB..]", "prints changes as they come, until you stop it", [
-        *NARROWING, *IGNORING, ZEROS, JSON, LINES, WORDS]),
+        *NARROWING, *IGNORING, ABSOLUTE, ZEROS, JSON, LINES, WORDS]),
     "run": Form("[DIR|GLOB..] -- COMMAND..", "runs a command now and after each change; {} is for the names", [
         *NARROWING, *IGNORING,
         value("--quiet", metavar="MS", type=int, default=100, help="a burst ends when it is so long quiet; 100"),
@@ -135,7 +149,9 @@ def options_of(command: str) -> List[str]:
 
 def read(command: str, words: List[str]) -> argparse.Namespace:
     """The words of a command. Those after two dashes are the command that it runs, and else no options."""
+    refuse_foreign(command, words)
     rest: List[str] = []
+    words, commands = without_commands(command, words)
     if "--" in words:
         place = words.index("--")
         words, rest = words[:place], words[place + 1:]
@@ -145,7 +161,33 @@ def read(command: str, words: List[str]) -> argparse.Namespace:
         found = read_any_order(parser, command, words)
         found.command = rest
         return found
-    return read_any_order(parser, command, words, rest)
+    found = read_any_order(parser, command, words, rest)
+    for name, given in commands.items():
+        setattr(found, name, given)
+    return found
+
+
+def refuse_foreign(command: str, words: List[str]) -> None:
+    """Says what there is in place of an option that other tools have. argparse would take some for others."""
+    known = options_of(command)
+    for word in words:
+        if word == "--" or command == "find" and word in EXECUTING:
+            return
+        if word.startswith("-") and word.partition("=")[0] not in known:
+            from .foreign import hint
+            found = hint(command, word.partition("=")[0])
+            if found:
+                raise WrongWords(f"no option {word.partition('=')[0]}; {found}")
+
+
+def without_commands(command: str, words: List[str]) -> Tuple[List[str], Dict[str, List[str]]]:
+    """The words without the command of `-x` or `-X`, which goes on to the end or to a semicolon; and that command."""
+    end = words.index("--") if "--" in words else len(words)
+    place = next((place for place in range(end) if words[place] in EXECUTING), None)
+    if command != "find" or place is None or place + 1 == len(words):
+        return words, {}
+    last = words.index(";", place) if ";" in words[place:] else len(words)
+    return words[:place] + words[last + 1:], {EXECUTING[words[place]]: words[place + 1:last]}
 
 
 def with_joined_sizes(words: List[str]) -> List[str]:
@@ -160,10 +202,16 @@ def with_joined_sizes(words: List[str]) -> List[str]:
 
 
 def read_any_order(parser: Parser, command: str, words: List[str], rest: Any = ()) -> argparse.Namespace:
-    """Options may be before, between and after the other words."""
-    found, left = parser.parse_known_intermixed_args([*words, *(["--", *rest] if rest else [])])
+    """Options may be before, between and after the other words. The rest has none."""
+    found, left = parser.parse_known_intermixed_args(words)
     if left:
         is_option = left[0].startswith("-") and len(left[0]) > 1
         parser.error(f"there is no option {left[0]}" if is_option else f"{command} takes no further words: {left[0]}")
+    for word in rest:
+        if hasattr(found, "words"):
+            found.words = [*found.words, word]
+        elif command in ONE_WORD and getattr(found, ONE_WORD[command]) == parser.get_default(ONE_WORD[command]):
+            setattr(found, ONE_WORD[command], word)
+        else:
+            parser.error(f"{command} takes no further words: {word}")
     return found
-

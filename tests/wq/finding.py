@@ -176,14 +176,16 @@ def check_wrong_words(tally: built.Tally, scene: Scene) -> None:
     letters = "-t takes letters of f (file), d (directory), l (link), b, c, p, s and D, and not"
     size = "--size takes a number with a unit, such as +1M (at least), -10k (at most) or 0, and not"
     for words, reason in (
-        (["-t", "x"], f'{letters} "x"'),
+        (["-t", "x"], f'{letters} "x"; the server sees no permissions'),
         (["--size", "big"], f'{size} "big"'),
-        (["--newer", "soon"], '--newer takes an age, such as 30s, 10m, 2h, 3d or 1w, and not "soon"'),
+        (["--newer", "soon"], "--newer takes an age, such as 30s, 10min, 2h, 3d or 1w, or a date, such as 2026-11-28 or '2026-11-28 10:00', "
+         'and not "soon"'),
         (["--frob"], "there is no option --frob; see `wq find --help`"),
-        (["-e"], "argument -e: expected one argument; see `wq find --help`"),
+        (["-e"], "argument -e/--extension: expected one argument; see `wq find --help`"),
         (["/not/there"], "/not/there: No such file or directory"),
         (["--program", "p", "-t", "f"],
-         "--program takes the place of -t, --size, --newer, --exclude and --expression; take them out"),
+         "--program takes the place of -i, -t, --size, --newer, --older, --exclude, --max-depth, --min-depth and --expression; "
+         "take them out"),
         (["--program", "p", "*.c", "-e", "c"], "--program takes globs or -e beside it, and not both"),
     ):
         wrong(tally, scene, ["find", *words], reason)
