@@ -2,6 +2,7 @@
 
 import json
 import os
+import shlex
 import socket
 import threading
 import time
@@ -10,8 +11,10 @@ from pathlib import Path
 import built
 from client import same
 from scene import Scene, at_terminal, called_at_terminal, said, wrong
+from wq.examples import EXAMPLES
+from wq.trouble import WrongWords
 from wq.usage import USAGE
-from wq.words import FORMS, options_of
+from wq.words import FORMS, options_of, read
 
 SLOW = 2.3
 
@@ -73,6 +76,7 @@ def check_words(tally: built.Tally, room: Path) -> None:
             text = scene.wq(command, "--help")
             missing = [option for option in options_of(command) if option not in text.output.decode()]
             same(tally, f"wq {command} --help", (text.status, text.errors, missing), (0, b"", []))
+            check_examples(tally, command, text.output.decode())
             same(tally, f"{command} in the help", f" {command}" in USAGE, True)
         full = scene.wq("--help")
         same(tally, "the help fits a terminal of 80 columns", max(map(len, full.output.decode().splitlines())) <= 80, True)
@@ -81,6 +85,21 @@ def check_words(tally: built.Tally, room: Path) -> None:
         with scene.begin("find") as going:
             same(tally, "a server that is started for a command", (going.ends(), going.errors),
                  (0, said(f"started a server at {scene.sockname}")))
+
+
+def check_examples(tally: built.Tally, command: str, text: str) -> None:
+    """The page of help ends with examples, whose words the command takes."""
+    examples = EXAMPLES[command]
+    lines = "".join(f"  {example.line}\n      {example.does}\n" for example in examples)
+    same(tally, f"the examples of {command}", text.endswith(f"\nexamples:\n{lines}"), True)
+    for example in examples:
+        words = shlex.split(example.line.split(" | ")[0])
+        try:
+            read(command, words[2:])
+            fault = ""
+        except WrongWords as error:
+            fault = str(error)
+        same(tally, f"the words of {example.line}", (words[:2], fault), (["wq", command], ""))
 
 
 class Slow:
