@@ -12,7 +12,7 @@ from wqclient.starting import PAUSE
 
 from .processes import state_of
 from .server import Server
-from .silence import ENDED, LATE, Silence, is_stopped
+from .silence import ENDED, LATE, Silence, is_stopped, server_words
 from .terminal import say
 from .trouble import Trouble
 
@@ -57,7 +57,8 @@ def asked(server: Server, is_gone: Callable[[], bool]) -> bool:
             return True
     if is_gone():
         return True
-    say(silence.sentence() or f"process {server.peer.process} still listens on {server.sockname}", "yellow")
+    words = server_words(server.sockname, server.peer.process)
+    say(f"{words} was asked to end, and has not {'ended' if has_answered else 'answered'}: {silence.reason()}", "yellow")
     return False
 
 

@@ -3,10 +3,7 @@
 from typing import IO, Dict, List, Optional
 
 from .root_notes import WINDOW
-from .server import Server
-
-# So long the end of a window waits for each reply of the server.
-PATIENCE = 1.0
+from .server import MOST_AT_END, Server
 
 
 class OpenRoots:
@@ -29,6 +26,6 @@ class OpenRoots:
 
 def give_back(server: Server, root: str) -> None:
     """A trigger was registered by somebody who needs the root for longer."""
-    if server.ask_within(PATIENCE, "trigger-list", root).get("triggers") == []:
-        server.ask_within(PATIENCE, "watch-del", root)
+    if server.ask_within(MOST_AT_END, "trigger-list", root).get("triggers") == []:
+        server.ask_within(MOST_AT_END, "watch-del", root)
         server.notes.forget(root)

@@ -58,7 +58,7 @@ def state_of(process: int) -> str:
     return fields_of(process)[0]
 
 
-def processor_seconds_of(process: int) -> float:
+def own_processor_seconds(process: int) -> float:
     """The processor time that a process took so far; nothing if it is not there."""
     fields = fields_of(process)
     return (int(fields[11]) + int(fields[12])) / TICKS if len(fields) > 12 else 0.0

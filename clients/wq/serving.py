@@ -11,6 +11,7 @@ from .home import Home
 from .pace import OPTIONS, kept_words
 from .processes import is_of_unit, words_of
 from .server import reached, sockname
+from .silence import LATE
 from .terminal import say
 from .trouble import FOUND, Trouble
 
@@ -43,7 +44,7 @@ def restart(options: argparse.Namespace, home: Home) -> int:
             if is_of_unit(server.peer.process):
                 raise Trouble("systemd started this server, and starts it anew by: systemctl --user restart wqd")
             words = words or kept_words(words_of(server.peer.process))
-            roots = server.roots()
+            roots = server.ask_within(LATE, "watch-list").get("roots", [])
             end(server)
         if roots:
             say(f"{len(roots)} root{'' if len(roots) == 1 else 's'} with triggers and cursors went with it; "

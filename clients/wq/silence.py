@@ -2,7 +2,7 @@
 
 import time
 
-from .processes import processor_seconds_of, state_of
+from .processes import own_processor_seconds, state_of
 
 # A reply is late after so many seconds.
 LATE = 5.0
@@ -18,7 +18,7 @@ class Silence:
         self.sockname = sockname
         self.process = process
         self.began = time.monotonic()
-        self.used = processor_seconds_of(process)
+        self.used = own_processor_seconds(process)
         self.is_told = False
 
     def sentence(self, is_at_work: bool = False) -> str:
@@ -30,17 +30,17 @@ class Silence:
             return ""
         self.is_told = True
         words = server_words(self.sockname, self.process)
-        return f"{words} has not answered for {seconds:.0f} s: {self.reason(seconds)}"
+        return f"{words} has not answered for {seconds:.0f} s: {self.reason()}; {way_out(self.process)}"
 
-    def reason(self, seconds: float) -> str:
-        used = processor_seconds_of(self.process) - self.used
+    def reason(self) -> str:
+        used, seconds = own_processor_seconds(self.process) - self.used, time.monotonic() - self.began
         if is_stopped(self.process):
-            return stop_words(self.process)
-        if state_of(self.process) in WAITS_FOR_A_DISK:
+            return "it is stopped"
+        if state_of(self.process) == WAITS_FOR_A_DISK:
             return "it waits for a disk or another file system"
         if used >= BUSY * seconds:
             return f"it is busy, and took {used:.1f} s of processor time meanwhile"
-        return "it waits, and took no processor time; `wq stop` ends it"
+        return "it waits, and took no processor time"
 
 
 def server_words(sockname: str, process: int) -> str:
@@ -52,5 +52,5 @@ def is_stopped(process: int) -> bool:
     return bool(state) and state in STOPPED
 
 
-def stop_words(process: int) -> str:
-    return f"it is stopped; `kill -CONT {process}` lets it go on, and `wq stop` ends it"
+def way_out(process: int) -> str:
+    return (f"`kill -CONT {process}` lets it go on, and " if is_stopped(process) else "") + "`wq stop` ends it"

@@ -15,11 +15,11 @@ from .home import Home
 from .ignored import is_wanted
 from .pace import seconds_between_scans, seconds_shown
 from .places import Places
-from .processes import is_of_unit, processor_seconds_of, words_of
+from .processes import is_of_unit, own_processor_seconds, words_of
 from .root_notes import WINDOW
 from .server import Server, Value, Went
 from .shadow import GITIGNORE, IGNORE
-from .silence import is_stopped, server_words, stop_words
+from .silence import is_stopped, server_words, way_out
 from .terminal import say
 from .trouble import Trouble
 
@@ -46,7 +46,7 @@ class Window:
         self.clocks: List[str] = []
         self.server: Optional[Server] = Server(home)
         self.sockname = self.server.sockname
-        used = processor_seconds_of(self.server.peer.process)
+        used = own_processor_seconds(self.server.peer.process)
         self.places = Places(self.server, options.words, options, WINDOW)
         self.began = self.lost = 0.0
         self.ends_soon = 0
@@ -78,7 +78,7 @@ class Window:
             kinds = [file["type"] for file in told] if has_names else found["files"]
             self.count += len(kinds) if self.options.type else len(kinds) - kinds.count("d")
             files += told if self.takes_names else []
-        self.scan = processor_seconds_of(process) - used
+        self.scan = own_processor_seconds(process) - used
         self.began = time.monotonic()
         self.has_told = False
         return files
@@ -196,7 +196,7 @@ class Window:
         elif not self.has_told:
             self.has_told = True
             process = server.peer.process
-            say(f"{server_words(self.sockname, process)} says nothing: {stop_words(process)}", "yellow")
+            say(f"{server_words(self.sockname, process)} is stopped; {way_out(process)}", "yellow")
 
     # The end of a server.
 
@@ -225,7 +225,7 @@ class Window:
             return
         try:
             server = Server(self.home, tells=False)
-            used = processor_seconds_of(server.peer.process)
+            used = own_processor_seconds(server.peer.process)
             self.places.again(server)
             files = self.begin(server, used)
         except Went:

@@ -121,11 +121,12 @@ def check_hung(tally: built.Tally, room: Path) -> None:
                     "go on, and `wq stop` ends it"
             with scene.begin("find", "*.h") as going:
                 tally.check("a stopped server", going.says(f"wq: {words}\n"))
-                tally.check("in a window", window.says(f"wq: the server, process {process}, says nothing: it is stopped; "))
+                tally.check("in a window", window.says(f"wq: the server, process {process}, is stopped; "))
                 os.kill(process, signal.SIGCONT)
                 same(tally, "one that goes on", (going.ends(), going.output), (0, b"src/deep/c.h\n"))
         os.kill(process, signal.SIGSTOP)
-        ended = said(words, f"process {process} is sent SIGTERM", f"the server at {scene.sockname} has ended")
+        asked = f"the server, process {process}, was asked to end, and has not answered: it is stopped"
+        ended = said(asked, f"process {process} is sent SIGTERM", f"the server at {scene.sockname} has ended")
         same(tally, "stop of a stopped server", scene.wq("stop"), built.Ended(b"", ended, 0))
         same(tally, "it is gone", scene.wq("status").status, 1)
         check_deaf(tally, scene)
@@ -136,9 +137,8 @@ def check_deaf(tally: built.Tally, scene: Scene) -> None:
     with subprocess.Popen([sys.executable, "-c", DEAF, other], stdout=subprocess.PIPE) as deaf:
         assert deaf.stdout is not None
         deaf.stdout.readline()
-        silent = f"the server, process {deaf.pid}, has not answered for 5 s: it waits, and took no processor time; " \
-                 "`wq stop` ends it"
-        lines = said(silent, f"process {deaf.pid} is sent SIGTERM", f"process {deaf.pid} is sent SIGKILL",
+        asked = f"the server, process {deaf.pid}, was asked to end, and has not answered: it waits, and took no processor time"
+        lines = said(asked, f"process {deaf.pid} is sent SIGTERM", f"process {deaf.pid} is sent SIGKILL",
                      f"the server at {other} has ended")
         same(tally, "stop of a process that hears nothing", scene.wq("stop", WQD_SOCK=other), built.Ended(b"", lines, 0))
         same(tally, "it was killed", deaf.wait(PATIENCE), -signal.SIGKILL)

@@ -1,5 +1,6 @@
 """Calls at a terminal; help, and words that are no command; a first crawl that takes long."""
 
+import contextlib
 import json
 import os
 import shlex
@@ -117,7 +118,7 @@ class Slow:
             threading.Thread(target=self.serve, args=(stream,), daemon=True).start()
 
     def serve(self, stream: socket.socket) -> None:
-        with stream.makefile("rwb") as lines:
+        with contextlib.suppress(ConnectionError), stream.makefile("rwb") as lines:
             for line in lines:
                 name, *rest = json.loads(line)
                 if name == "watch":
