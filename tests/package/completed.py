@@ -47,7 +47,7 @@ def check_completion(tally: built.Tally, room: Path) -> None:
 def check_wq(tally: built.Tally, room: Path) -> None:
     for words, expected in (
         (["st"], ["status", "start", "stop"]),
-        (["find", "--ex"], ["--exclude", "--expression"]),
+        (["find", "--exp"], ["--expression"]),
         (["run", "--onc"], ["--once"]),
         (["since", "a", "-t", ""], ["f", "d", "l"]),
         (["find", str(room) + "/a"], [str(room / "a file")]),
