@@ -5,7 +5,7 @@ from typing import List
 from .home import Home
 from .roots import place_of
 from .server import Server, reached
-from .terminal import show
+from .terminal import name_shown, show
 from .trouble import FOUND, Trouble, WrongWords
 
 KINDS = ("programs", "triggers", "roots")
@@ -16,7 +16,7 @@ def print_names(kinds: List[str], home: Home) -> int:
         raise WrongWords(f"--names takes one of {', '.join(KINDS)}")
     try:
         with reached(home, starts=False) as server:
-            show(name for name in names_of(kinds[0], server) if "\n" not in name)
+            show(name_shown(name, None) for name in names_of(kinds[0], server) if "\n" not in name)
     except Trouble:
         pass
     return FOUND

@@ -25,7 +25,7 @@ def run_for_each(command: List[str], names: List[str]) -> int:
     """Runs the command for each name, several at a time, and prints what each wrote in the order of the names."""
     if not names:
         return NOTHING
-    commands = [[filled(word, name) for word in with_place(command)] for name in names]
+    commands = [[argument(word, name) for word in with_place(command)] for name in names]
     if len(commands) == 1:
         return status_of(started(commands[0], None).returncode)
     status = FOUND
@@ -41,7 +41,7 @@ def run_for_all(command: List[str], names: List[str]) -> int:
     status = FOUND if names else NOTHING
     for some in pieces(names):
         words = [one for word in with_place(command)
-                 for one in ([filled(word, name) for name in some] if has_place(word) else [word])]
+                 for one in ([argument(word, name) for name in some] if has_place(word) else [word])]
         status = status_of(started(words, None).returncode) or status
     return status
 
@@ -52,6 +52,12 @@ def with_place(command: List[str]) -> List[str]:
 
 def has_place(word: str) -> bool:
     return any(place in word for place in PLACES)
+
+
+def argument(word: str, name: str) -> str:
+    """A word with what the name puts in its places. A part of a name at its front is no option: `-x`, `+x` and `@x`."""
+    text = filled(word, name)
+    return as_argument(text) if word.startswith(tuple(PLACES)) and text.startswith(("-", "+", "@")) else text
 
 
 def filled(word: str, name: str) -> str:

@@ -3,6 +3,8 @@
 import os
 import sys
 
+from wqclient.harmless import harmless
+
 from .terminal import is_terminal
 
 BELL = "\a"
@@ -13,7 +15,7 @@ TERMS = ("xterm-kitty", "xterm-ghostty", "foot")
 
 def notify(text: str) -> None:
     if is_terminal(sys.stderr):
-        print(f"\x1b]9;{text}{BELL}" if shows_texts() else BELL, end="", file=sys.stderr, flush=True)
+        print(f"\x1b]9;{harmless(text)}{BELL}" if shows_texts() else BELL, end="", file=sys.stderr, flush=True)
 
 
 def shows_texts() -> bool:

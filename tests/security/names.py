@@ -32,6 +32,10 @@ def check_names_of_runs(tally: built.Tally, room: Path) -> None:
         same(tally, "names as arguments", names_in(found.output), expected)
         found = scene.wq("run", "--once", "--stdin", "-0", "/*.c", "--", "cat")
         same(tally, "names on standard input", names_in(found.output), expected)
+        for place in ("{}", "{/}", "{.}", "{/.}", "{//}"):
+            found = scene.wq("find", "/*.c", "-x", "printf", "%s\\0", place)
+            options = [name for name in names_in(found.output) if name.startswith(("-", "+", "@"))]
+            same(tally, f"wq find -x with {place}", (found.status, options, found.output != b""), (0, [], True))
         check_compiler(tally, scene)
 
 

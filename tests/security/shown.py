@@ -38,10 +38,31 @@ def check_roots_shown(tally: built.Tally, room: Path) -> None:
         for words in calls:
             found = at_terminal(scene, *words, NO_COLOR="1")
             same(tally, f"wq {' '.join(words)!a}", (harm_in(found), "Traceback" in found), ([], False))
-        ended = called_at_terminal(scene, ["follow", str(root)], {"NO_COLOR": "1"}, keys=b"\x03", after="")
-        same(tally, "wq follow", harm_in(ended.text.replace("^C", "")), [])
+        check_changes_shown(tally, scene, root)
         status = scene.wq("find", str(root)).output.decode()
         same(tally, "names in a pipe are as they are", ESCAPES in status, True)
+
+
+def check_changes_shown(tally: built.Tally, scene: Scene, root: Path) -> None:
+    """Names of files that come while `wq follow` and `wq run` wait."""
+    has_ended = threading.Event()
+
+    def change() -> None:
+        turn = 0
+        while not has_ended.wait(0.1):
+            turn += 1
+            scene.write(f"{ESCAPES}/{ESCAPES}{turn}.c")
+
+    changes = threading.Thread(target=change)
+    changes.start()
+    try:
+        for words in (["follow", str(root)], ["follow", str(root), "--json"], ["run", str(root), "--", "echo", "again.c"]):
+            ended = called_at_terminal(scene, words, {"NO_COLOR": "1"}, keys=b"\x03", after=".c")
+            found = (harm_in(ended.text.replace("^C", "")), ".c" in ended.text)
+            same(tally, f"wq {words[0]} {words[2:]}", found, ([], True))
+    finally:
+        has_ended.set()
+        changes.join()
 
 
 class Forger:
