@@ -58,7 +58,8 @@ def asked(server: Server, is_gone: Callable[[], bool]) -> bool:
     if is_gone():
         return True
     words = server_words(server.sockname, server.peer.process)
-    say(f"{words} was asked to end, and has not {'ended' if has_answered else 'answered'}: {silence.reason()}", "yellow")
+    lacks = "ended" if has_answered else "answered"
+    say(f"{words} was asked to end, and has not {lacks}: {silence.reason()}", "yellow")
     return False
 
 

@@ -4,8 +4,8 @@ import os
 from typing import Dict, List
 
 PLACE = "{}"
-# Of what the system takes for arguments and variables so many bytes stay free, as with xargs. Linux never takes more than
-# the other number.
+# Of what the system takes for arguments and variables so many bytes stay free, as with xargs. Linux never takes more
+# than the other number.
 FREE, MOST = 2_048, 6 * 1024 * 1024
 # Each argument has a byte 0 at its end, and its address.
 BESIDE_EACH = 9
@@ -14,7 +14,7 @@ MOST_OF_VARIABLE = 65_536
 
 
 def as_argument(path: str) -> str:
-    """A path that no command takes for anything else: some take `-x` and `+x` for options, `@x` for a file of options."""
+    """A path that no command takes for anything else: some take `-x` and `+x` for options, `@x` for a file of them."""
     return path if path.startswith(("/", "./", "../")) else f"./{path}"
 
 

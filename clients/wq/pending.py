@@ -20,8 +20,8 @@ class Pending:
         self.is_due = False
         # Since when it is due, and since when nothing more changed. A run without a change is due at once.
         self.due_since = self.quiet_since = -NEVER
-        # The names that the command is given, in the order in which they came; and of each file that changed when it was
-        # modified, in milliseconds. One that is gone was not.
+        # The names that the command is given, in the order in which they came; and of each file that changed when it
+        # was modified, in milliseconds. One that is gone was not.
         self.names: Dict[str, None] = {}
         self.changed: Dict[str, Optional[int]] = {}
 

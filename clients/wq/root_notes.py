@@ -28,8 +28,8 @@ class Notes:
         return str(note.get("for", STAYS)) if note.get("run") == run_of(self.process) else ""
 
     def note(self, root: str, purpose: str, is_new: bool) -> None:
-        """Notes that a root was asked about. One that another client watches is noted only if it is to stay. Another command
-        may have begun to need a new one meanwhile."""
+        """Notes that a root was asked about. One that another client watches is noted only if it is to stay. Another
+        command may have begun to need a new one meanwhile."""
         before = self.purpose(root)
         if is_new or before or purpose == STAYS:
             self.keep(root, max(before, purpose, key=RANKS.index))

@@ -13,7 +13,6 @@ from wqclient.sockets import default_sockname
 from . import unproved
 from .home import Home
 from .root_notes import MOMENT, STAYS, Notes
-from .silence import Silence
 from .terminal import Progress, say
 from .trouble import NOTHING, Trouble
 
@@ -77,10 +76,9 @@ class Server:
         with contextlib.suppress(BrokenPipeError, ConnectionResetError):
             self.client.send_bytes(line + b"\n")
         progress = Progress(self.notes.look(crawls)) if crawls else None
-        silence = Silence(self.sockname, self.peer.process)
         try:
             while True:
-                found = self.next_line(progress, silence)
+                found = self.next_line(progress)
                 if b'"unilateral":true' not in found:
                     return found
                 value = json.loads(found)
@@ -93,8 +91,9 @@ class Server:
             if progress:
                 progress.end()
 
-    def next_line(self, progress: Optional[Progress], silence: Silence) -> bytes:
+    def next_line(self, progress: Optional[Progress]) -> bytes:
         """The next line. While it does not come, a person is told how a first crawl goes on, or why nothing comes."""
+        silence = None
         while True:
             line = self.client.take()
             if line is not None:
@@ -104,6 +103,9 @@ class Server:
                 continue
             if progress:
                 progress.tell()
+            if silence is None:
+                from .silence import Silence  # a reply is seldom late
+                silence = Silence(self.sockname, self.peer.process, A_SECOND)
             sentence = silence.sentence(is_at_work=progress is not None)
             if sentence:
                 if progress:

@@ -12,12 +12,12 @@ STOPPED, WAITS_FOR_A_DISK, ENDED = "Tt", "D", "Z"
 
 
 class Silence:
-    """A wait for the reply of one process."""
+    """A wait for the reply of one process, which has gone on for some seconds."""
 
-    def __init__(self, sockname: str, process: int) -> None:
+    def __init__(self, sockname: str, process: int, seconds: float = 0.0) -> None:
         self.sockname = sockname
         self.process = process
-        self.began = time.monotonic()
+        self.began = time.monotonic() - seconds
         self.used = own_processor_seconds(process)
         self.is_told = False
 

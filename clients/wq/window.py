@@ -84,8 +84,8 @@ class Window:
         return files
 
     def subscribe(self, server: Server, number: int) -> None:
-        """Subscribes to what changes below one of the directories since its clock. Lists of a subscription before it are
-        dropped."""
+        """Subscribes to what changes below one of the directories since its clock. Lists of a subscription before it
+        are dropped."""
         query = {"expression": self.places.expression(number), "fields": self.fields, "since": self.clocks[number]}
         server.ask("subscribe", self.places.places[number].root, name_of(number), query)
         keep_lists(server, lambda one: one["subscription"] != name_of(number))
@@ -213,7 +213,8 @@ class Window:
         """Gives up if no server stays."""
         self.ends_soon += 1
         if self.ends_soon > MOST_SOON:
-            raise Trouble(f"the server has ended {self.ends_soon} times, each too soon", f"its log is {log_of(self.sockname)}")
+            raise Trouble(f"the server has ended {self.ends_soon} times, each too soon",
+                          f"its log is {log_of(self.sockname)}")
 
     def search(self) -> None:
         """Reaches another server, which is started if nobody else is about to start one."""

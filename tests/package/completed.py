@@ -49,6 +49,8 @@ def check_wq(tally: built.Tally, room: Path) -> None:
         (["st"], ["status", "start", "stop"]),
         (["find", "--exp"], ["--expression"]),
         (["run", "--onc"], ["--once"]),
+        (["run", "--on-busy", ""], ["wait", "restart", "ignore", "signal"]),
+        (["run", "--stop-signal", "US"], ["USR1", "USR2"]),
         (["since", "a", "-t", ""], ["f", "d", "l"]),
         (["find", str(room) + "/a"], [str(room / "a file")]),
         (["stop", "-"], ["--help"]),

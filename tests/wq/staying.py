@@ -1,5 +1,5 @@
-"""Windows that stay: `wq follow` and `wq run` beyond the end of a server, a server that hangs, and the roots that are given
-back."""
+"""Windows that stay: `wq follow` and `wq run` beyond the end of a server, a server that hangs, and the roots that are
+given back."""
 
 import os
 import re
@@ -55,7 +55,8 @@ def check_follow_after(tally: built.Tally, scene: Scene) -> None:
         tally.check("a third server", going.says("another one listens"))
         scene.write("src/b b.c", "after the restart")
         tally.check("a change after that", going.prints("~ src/b b.c\n"))
-        same(tally, "Ctrl-C after two servers", (going.ends(signal.SIGINT), going.output), (130, b"~ src/a.c\n~ src/b b.c\n"))
+        changes = b"~ src/a.c\n~ src/b b.c\n"
+        same(tally, "Ctrl-C after two servers", (going.ends(signal.SIGINT), going.output), (130, changes))
         gap = "; what changed between is not listed"
         is_said(tally, "a line for each server", going.errors, FOLLOWING,
                 f"the server has ended, and another one was started; {FOLLOWING}{gap}",
@@ -86,7 +87,8 @@ def check_stop_beside(tally: built.Tally, scene: Scene) -> None:
     with scene.begin("follow", "src") as going:
         tally.check("a window", going.says("following"))
         ended = scene.wq("stop")
-        same(tally, "stop beside a window", ended, built.Ended(b"", said(f"the server at {scene.sockname} has ended"), 0))
+        line = said(f"the server at {scene.sockname} has ended")
+        same(tally, "stop beside a window", ended, built.Ended(b"", line, 0))
         tally.check("it waits", going.says("the server was stopped; this goes on as soon as another one listens"))
         same(tally, "no server is started", scene.wq("status").status, 1)
         scene.wq("start", "--interval", "40")
@@ -117,8 +119,8 @@ def check_hung(tally: built.Tally, room: Path) -> None:
         with scene.begin("follow") as window:
             tally.check("a window of a server that will be stopped", window.says("following"))
             os.kill(process, signal.SIGSTOP)
-            words = f"the server, process {process}, has not answered for 5 s: it is stopped; `kill -CONT {process}` lets it " \
-                    "go on, and `wq stop` ends it"
+            words = f"the server, process {process}, has not answered for 5 s: it is stopped; " \
+                    f"`kill -CONT {process}` lets it go on, and `wq stop` ends it"
             with scene.begin("find", "*.h") as going:
                 tally.check("a stopped server", going.says(f"wq: {words}\n"))
                 tally.check("in a window", window.says(f"wq: the server, process {process}, is stopped; "))
@@ -137,10 +139,12 @@ def check_deaf(tally: built.Tally, scene: Scene) -> None:
     with subprocess.Popen([sys.executable, "-c", DEAF, other], stdout=subprocess.PIPE) as deaf:
         assert deaf.stdout is not None
         deaf.stdout.readline()
-        asked = f"the server, process {deaf.pid}, was asked to end, and has not answered: it waits, and took no processor time"
+        asked = f"the server, process {deaf.pid}, was asked to end, and has not answered: it waits, and took no processor " \
+                "time"
         lines = said(asked, f"process {deaf.pid} is sent SIGTERM", f"process {deaf.pid} is sent SIGKILL",
                      f"the server at {other} has ended")
-        same(tally, "stop of a process that hears nothing", scene.wq("stop", WQD_SOCK=other), built.Ended(b"", lines, 0))
+        ended = scene.wq("stop", WQD_SOCK=other)
+        same(tally, "stop of a process that hears nothing", ended, built.Ended(b"", lines, 0))
         same(tally, "it was killed", deaf.wait(PATIENCE), -signal.SIGKILL)
 
 
@@ -199,8 +203,10 @@ def check_sixteen(tally: built.Tally, room: Path) -> None:
                 scene.wq("find", name, "--keep")
             scene.wq("find", names[4])
             same(tally, "sixteen roots are watched", scene.names("roots"), names[:16])
-            dropped = [f"{name} was asked about least lately, and is watched no longer: 16 roots may be" for name in names]
-            same(tally, "a search drops the least lately asked", scene.wq("find", names[16]), built.Ended(b"", said(dropped[5]), 1))
+            words = "was asked about least lately, and is watched no longer: 16 roots may be"
+            dropped = [f"{name} {words}" for name in names]
+            ended = scene.wq("find", names[16])
+            same(tally, "a search drops the least lately asked", ended, built.Ended(b"", said(dropped[5]), 1))
             scene.wq("find", names[16], "--keep")
             with Going(scene, ["follow", names[17]]) as other:
                 tally.check("a window drops the next", other.says(dropped[6]))
@@ -211,4 +217,5 @@ def check_sixteen(tally: built.Tally, room: Path) -> None:
         same(tally, "the others stay", scene.names("roots"), kept)
         scene.wq("watch", *kept)
         scene.wq("watch", names[18])
-        same(tally, "none that must stay is dropped", scene.wq("find", names[19]).errors.split(b"\n")[0], b"wq: E13: too many roots")
+        first = scene.wq("find", names[19]).errors.split(b"\n")[0]
+        same(tally, "none that must stay is dropped", first, b"wq: E13: too many roots")

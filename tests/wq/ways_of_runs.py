@@ -41,13 +41,15 @@ def check_many_names(tally: built.Tally, scene: Scene) -> None:
     many.mkdir()
     for number in range(900):
         (many / f"{number:04}{'x' * 200}.long").touch()
-    with scene.begin("run", "many", "--", "sh", "-c", 'printf "%s %s" "$WQ_CHANGED_COUNT" "$WQ_CHANGED" | wc -c') as going:
+    script = 'printf "%s %s" "$WQ_CHANGED_COUNT" "$WQ_CHANGED" | wc -c'
+    with scene.begin("run", "many", "--", "sh", "-c", script) as going:
         tally.check("a first run", going.prints("2\n"))
         for number in range(900):
             (many / f"{number:04}{'x' * 200}.long").write_text("changed")
-        tally.check("names of at most 64 KiB", going.waits_for(lambda one: 60_000 < int(b"0" + one.output.split()[-1]) < 65_542))
+        tally.check("names of 64 KiB", going.waits_for(lambda one: 60_000 < int(one.output.split()[-1]) < 65_542))
     # A small stack has the system take fewer bytes of arguments.
-    ended = run_by_shell(scene, 'ulimit -s 256; exec "$0" run many --once -- sh -c "echo \\$#; exit \\$(( \\$# > 400 ))" sh {}')
+    script = "echo \\$#; exit \\$(( \\$# > 400 ))"
+    ended = run_by_shell(scene, f'ulimit -s 256; exec "$0" run many --once -- sh -c "{script}" sh {{}}')
     counts = [int(word) for word in ended.output.split()]
     tally.check("names for several processes", len(counts) > 1 and sum(counts) == 900, [str(ended)[:300]])
     status = 1 if max(counts or [0]) > 400 else 0
@@ -64,7 +66,8 @@ def run_by_shell(scene: Scene, text: str) -> built.Ended:
 def check_shell(tally: built.Tally, scene: Scene) -> None:
     scene.write("src/$x.h")
     ended = scene.wq("run", "src", "*.h", "--once", "--shell", "--", "echo {} && echo $((1 + 1)) | cat")
-    same(tally, "a text for a shell", ended, built.Ended(b"./src/$x.h ./src/deep/c.h\n2\n", said("echo ended with status 0"), 0))
+    output = b"./src/$x.h ./src/deep/c.h\n2\n"
+    same(tally, "a text for a shell", ended, built.Ended(output, said("echo ended with status 0"), 0))
     ended = scene.wq("run", "--once", "--shell", "--", "exit", "3")
     same(tally, "words for a shell", ended, built.Ended(b"", said("exit ended with status 3"), 3))
 
@@ -130,7 +133,8 @@ def check_delay(tally: built.Tally, scene: Scene, log: Log) -> None:
 def check_ways(tally: built.Tally, scene: Scene) -> None:
     for words, line in (
         (["--on-busy", "queue"], "--on-busy takes wait, restart, ignore or signal, and not queue"),
-        (["--restart", "--on-busy", "wait"], "--restart is --on-busy restart, and --on-busy wait is beside it: take one out"),
+        (["--restart", "--on-busy", "wait"],
+         "--restart is --on-busy restart, and --on-busy wait is beside it: take one out"),
         (["--no-self", "--restart"],
          "--no-self leaves out what changes while the command runs, and --on-busy restart goes by that: take one out"),
         (["--stop-signal", "never"], "--stop-signal takes a signal, such as INT, HUP or 15, and not never"),
@@ -146,8 +150,8 @@ def check_own(tally: built.Tally, room: Path) -> None:
         writes = ["--", "sh", "-c", 'echo run >> "$LOG"; date +%N > src/out.o; date +%N > made.txt']
         with scene.begin("run", *writes) as going:
             tally.check("its own changes", going.says("which causes the next one"))
-            words = "each run of sh changes made.txt, src/out.o, which causes the next one; --exclude made.txt --exclude " \
-                    "src/out.o, or --no-self, leaves that out"
+            words = "each run of sh changes made.txt, src/out.o, which causes the next one; " \
+                    "--exclude made.txt --exclude src/out.o, or --no-self, leaves that out"
             lines = [line for line in following(going).decode().splitlines() if ENDED not in line]
             same(tally, "what is said of them", lines, [f"wq: {words}"])
             going.waits_for(has_runs(log, log.runs() + 2))
@@ -171,16 +175,18 @@ def check_terminal_of_run(tally: built.Tally, room: Path) -> None:
         more = [(ENDED, b"c"), ("\x1b[3J", b"q")]
         found = called_at_terminal(scene, words, {"NO_COLOR": "1"}, keys=b"\n", after=ENDED, more=more)
         runs = f"ran ./src/deep/c.h\nwq: {ENDED}\n"
-        same(tally, "Enter, c and q", (found.text.split("\n", 1)[1], found.status), (f"{runs}{runs}\x1b[H\x1b[2J\x1b[3J", 0))
-        first = found.text.split("\n", 1)[0]
+        first, rest = found.text.split("\n", 1)
+        same(tally, "Enter, c and q", (rest, found.status), (f"{runs}{runs}\x1b[H\x1b[2J\x1b[3J", 0))
         tally.check("the keys are named", first.endswith("; Enter runs it again, q ends, c clears"), [first])
         held = ["run", "--restart", "--", "sh", "-c", "echo begun; sleep 1000"]
         found = called_at_terminal(scene, held, keys=b"\r", after="begun", more=[("begun", b"q")])
         same(tally, "Enter restarts", (found.status, found.text.count("begun"), "SIGTERM" in found.text), (0, 2, True))
         for variables, end in (({}, "\a"), ({"TERM": "xterm-kitty"}, "\x1b]9;true ended with status 0\a")):
-            found = called_at_terminal(scene, ["run", "--once", "--notify", "--", "true"], {**variables, "NO_COLOR": "1"})
+            words = ["run", "--once", "--notify", "--", "true"]
+            found = called_at_terminal(scene, words, {**variables, "NO_COLOR": "1"})
             same(tally, f"an end is told by {end!r}", found, AtTerminal(f"wq: true ended with status 0\n{end}", 0))
-        same(tally, "and to no file", scene.wq("run", "--once", "--notify", "--", "true").errors, said("true ended with status 0"))
+        errors = scene.wq("run", "--once", "--notify", "--", "true").errors
+        same(tally, "and to no file", errors, said("true ended with status 0"))
         check_mode(tally, scene)
 
 
