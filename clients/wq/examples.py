@@ -13,6 +13,7 @@ EXAMPLES: Dict[str, List[Example]] = {
         Example("wq find '*.c' '*.h'", "the sources below here"),
         Example("wq find src -e py --newer 2h", "what was written in src within two hours"),
         Example("wq find -0 '*.log' --size +1M | xargs -0 gzip", "packs large logs"),
+        Example("wq find -i '*.jpg' -x convert {} {.}.png", "a command for each picture"),
     ],
     "since": [
         Example("wq since", "what changed here since the last call"),

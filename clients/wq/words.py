@@ -43,16 +43,21 @@ def value(*names: str, help: str, metavar: str, **settings: Any) -> Option:
 
 
 ALL = flag("--all", help="leave nothing out, neither .git, .hg, node_modules and target nor directories that changed")
-NARROWING = [
-    flag("-i", "--ignore-case", dest="ignore_case", help="the case of A to Z does not count in globs"),
+IGNORE_CASE = flag("--ignore-case", help="the case of A to Z does not count in globs")
+MAX_DEPTH = value("--max-depth", metavar="N", type=int, help="at most so deep; 1 is directly in DIR")
+OTHERS = [
     value("-t", "--type", metavar="KINDS", dest="type", action="append",
           help="kinds of files: f or file, d or dir, l or link, as -t f,d"),
     value("-e", "--extension", metavar="EXT", dest="ext", action="append", help="suffixes, as -e c,h or -e c -e h"),
-    value("-E", "--exclude", metavar="GLOB", dest="exclude", action="append", help="leave out what fits, and all below it"),
-    value("-d", "--max-depth", metavar="N", dest="max_depth", type=int, help="at most so deep; 1 is directly in DIR"),
+    value("-E", "--exclude", metavar="GLOB", dest="exclude", action="append",
+          help="leave out what fits, and all below it"),
     value("--min-depth", metavar="N", type=int, help="at least so deep"),
     ALL,
 ]
+# To watchexec and entr, `-i` and `-d` are other things than to fd. So a command that runs another one has neither.
+NARROWING = [IGNORE_CASE, MAX_DEPTH, *OTHERS]
+SEARCHING = [Option(("-i", *IGNORE_CASE.names), {**IGNORE_CASE.settings, "dest": "ignore_case"}),
+             Option(("-d", *MAX_DEPTH.names), {**MAX_DEPTH.settings, "dest": "max_depth"}), *OTHERS]
 ABSOLUTE = flag("-a", "--absolute-path", dest="absolute", help="names from / on")
 IGNORING = [
     Option(("--no-ignore",), {"dest": "ignore", "action": "store_false", "help": "lists also what git ignores"}),
@@ -80,8 +85,9 @@ class Form(NamedTuple):
 
 FORMS: Dict[str, Form] = {
     "find": Form("[DIR|GLOB..]", "prints the names that match, one a line", [
-        *NARROWING, *IGNORING, ABSOLUTE,
-        value("--size", metavar="SIZE", help="+1M at least, -10k at most, 0 exactly; k, M, G are 1,024 bytes and so on, kB 1,000"),
+        *SEARCHING, *IGNORING, ABSOLUTE,
+        value("--size", metavar="SIZE", 
+              help="+1M at least, -10k at most, 0 exactly; k is 1,024 bytes, kB is 1,000"),
         value("--newer", "--changed-within", metavar="WHEN", dest="newer",
               help="modified within this time, as 30s, 10min, 2h, 3d, 1w, or since a date, as 2026-11-28"),
         value("--older", "--changed-before", metavar="WHEN", dest="older", help="modified before that"),
@@ -91,14 +97,15 @@ FORMS: Dict[str, Form] = {
         flag("--count", help="how many there are"),
         Option(("--no-sync",), {"dest": "sync", "action": "store_false", "help": "as the last crawl saw it"}),
         flag("--keep", help="goes on to watch a root that was not watched before"),
-        value("-x", "--exec", metavar="CMD", dest="each", help="runs CMD, which ends the line or at ;, for each name: {} is its "
-              "place, {/} its last part, {//} its directory, {.} and {/.} without a suffix"),
+        value("-x", "--exec", metavar="CMD", dest="each",
+              help="runs CMD, which goes on to the end or to ;, for each name: {} is its place, {/} that of its last part, "
+                   "{//} of its directory, {.} and {/.} without a suffix"),
         value("-X", "--exec-batch", metavar="CMD", dest="batch", help="runs CMD once, with all names"), WORDS]),
     "since": Form("[NAME] [DIR|GLOB..]", "prints what changed since this was last asked, under a name or without", [
-        *NARROWING, *IGNORING, ABSOLUTE, ZEROS, JSON, LINES,
+        *SEARCHING, *IGNORING, ABSOLUTE, ZEROS, JSON, LINES,
         flag("--peek", help="by the clock that the last call wrote; the name does not move"), WORDS]),
     "follow": Form("[DIR|GLOB..]", "prints changes as they come, until you stop it", [
-        *NARROWING, *IGNORING, ABSOLUTE, ZEROS, JSON, LINES, WORDS]),
+        *SEARCHING, *IGNORING, ABSOLUTE, ZEROS, JSON, LINES, WORDS]),
     "run": Form("[DIR|GLOB..] -- COMMAND..", "runs a command now and after each change; {} is for the names", [
         *NARROWING, *IGNORING,
         value("--quiet", metavar="MS", type=int, default=100, help="a burst ends when it is so long quiet; 100"),

@@ -139,6 +139,11 @@ def check_foreign(tally: built.Tally, scene: Scene) -> None:
     for words, reason in (
         (["run", "--debounce", "500", "--", "true"], "no option --debounce; use --quiet MS"),
         (["run", "-r", "--", "true"], "no option -r; use --restart"),
+        (["run", "-i", "*.md", "--", "true"], "no option -i; use --exclude GLOB, or --ignore-case"),
+        (["run", "-d", "500", "--", "true"], "no option -d; use --quiet MS"),
+        (["run", "-s", "--", "true"], "no option -s; use --shell"),
+        (["follow", "-x", "echo"], "no option -x; use `wq run`"),
+        (["trigger", "-maxdepth", "1", "t", "--", "true"], "no option -maxdepth; use --max-depth N"),
         (["run", "-w", "src", "--", "true"], "no option -w; a word that is a directory is watched"),
         (["find", "-name", "*.c"], "no option -name; a word is a glob, such as '*.c'"),
         (["find", "-type", "f"], "no option -type; use -t KINDS"),
