@@ -45,6 +45,8 @@ class Log:
         self.server = server
         self.path = path_of(server.peer.process)
         self.triggers: Dict[Tuple[str, str], Failures] = {}
+        # Where in the log each trigger was registered.
+        self.registered: Dict[Tuple[str, str], int] = {}
         self.left_out: Dict[str, Tuple[int, int]] = {}
         for place, line in self.lines():
             self.take(place, line)
@@ -69,7 +71,9 @@ class Log:
             self.add(root, name, rest, place)
 
     def add(self, root: str, name: str, said: str, place: int) -> None:
-        if place < registered_at(self.server, root, name):
+        if (root, name) not in self.registered:
+            self.registered[root, name] = registered_at(self.server, root, name)
+        if place < self.registered[root, name]:
             return
         before = self.triggers.get((root, name), Failures())
         if ENDED.fullmatch(said):
@@ -84,7 +88,8 @@ class Log:
         """Where a person reads more."""
         if self.path:
             return self.path
-        return "journalctl --user -u wqd" if is_of_unit(self.server.peer.process) else "at the terminal of the server"
+        process = self.server.peer.process
+        return "journalctl --user -u wqd" if is_of_unit(process) else f"standard error of process {process}, which is no file"
 
 
 def quoted_of(line: str, separator: str = ": ") -> Tuple[str, str]:
@@ -121,12 +126,23 @@ def path_of(process: int) -> str:
 
 def note_registered(server: Server, root: str, name: str) -> None:
     """Notes that a trigger begins anew here: what the log says before is of another one of its name."""
+    process = server.peer.process
     with contextlib.suppress(OSError):
-        size = os.stat(f"/proc/{server.peer.process}/fd/2").st_size
-        keep({"run": run_of(server.peer.process), "place": size}, TRIGGERS, server.sockname, root, name)
+        keep({"run": run_of(process), "place": size_of(process)}, TRIGGERS, server.sockname, root, name)
 
 
 def registered_at(server: Server, root: str, name: str) -> int:
+    """Where the log says something of a trigger at the earliest, unless the log was cut since."""
     note = kept(TRIGGERS, server.sockname, root, name)
     place = note.get("place")
-    return place if note.get("run") == run_of(server.peer.process) and isinstance(place, int) else 0
+    if note.get("run") != run_of(server.peer.process) or not isinstance(place, int):
+        return 0
+    return place if place <= size_of(server.peer.process) else 0
+
+
+def size_of(process: int) -> int:
+    """How many bytes a process wrote to its standard error, if that is a file."""
+    try:
+        return os.stat(f"/proc/{process}/fd/2").st_size
+    except OSError:
+        return 0

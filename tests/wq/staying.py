@@ -1,6 +1,7 @@
 """Windows that stay: `wq follow` and `wq run` beyond the end of a server, a server that hangs, and the roots that are
 given back."""
 
+import contextlib
 import os
 import re
 import signal
@@ -8,7 +9,7 @@ import subprocess
 import sys
 import time
 from pathlib import Path
-from typing import List
+from typing import Iterator, List
 
 import built
 from client import PATIENCE, same
@@ -16,16 +17,17 @@ from scene import Going, Scene, said
 from serving_told import facts
 
 FOLLOWING = r"following ([0-9,]+) files? below (\S+); scans about each [0-9.]+ s"
-# Listens, answers nothing, and hears no SIGTERM.
-DEAF = """
+# Listen and answer nothing. The one hears no SIGTERM, the other is busy.
+SILENT = """
 import signal, socket, sys, time
 signal.signal(signal.SIGTERM, signal.SIG_IGN)
 listener = socket.socket(socket.AF_UNIX)
 listener.bind(sys.argv[1])
 listener.listen(5)
 print("listens", flush=True)
-time.sleep(1000)
 """
+DEAF = f"{SILENT}time.sleep(1000)"
+BUSY = f"{SILENT}while True: sum(range(100_000)); time.sleep(0.001)"
 
 
 def is_said(tally: built.Tally, name: str, errors: bytes, *patterns: str) -> None:
@@ -135,17 +137,33 @@ def check_hung(tally: built.Tally, room: Path) -> None:
 
 
 def check_deaf(tally: built.Tally, scene: Scene) -> None:
-    other = str(scene.room / "deaf")
-    with subprocess.Popen([sys.executable, "-c", DEAF, other], stdout=subprocess.PIPE) as deaf:
-        assert deaf.stdout is not None
-        deaf.stdout.readline()
-        asked = f"the server, process {deaf.pid}, was asked to end, and has not answered: it waits, and took no processor " \
-                "time"
-        lines = said(asked, f"process {deaf.pid} is sent SIGTERM", f"process {deaf.pid} is sent SIGKILL",
-                     f"the server at {other} has ended")
-        ended = scene.wq("stop", WQD_SOCK=other)
-        same(tally, "stop of a process that hears nothing", ended, built.Ended(b"", lines, 0))
-        same(tally, "it was killed", deaf.wait(PATIENCE), -signal.SIGKILL)
+    """A search hears of a server that is busy, and meanwhile another one is stopped that hears nothing."""
+    busy_at, deaf_at = str(scene.room / "busy"), str(scene.room / "deaf")
+    with silent(BUSY, busy_at) as busy, silent(DEAF, deaf_at) as deaf:
+        with scene.begin("find", WQD_SOCK=busy_at) as going:
+            asked = f"the server, process {deaf.pid}, was asked to end, and has not answered: it waits, and took no " \
+                    "processor time"
+            lines = said(asked, f"process {deaf.pid} is sent SIGTERM", f"process {deaf.pid} is sent SIGKILL",
+                         f"the server at {deaf_at} has ended")
+            ended = scene.wq("stop", WQD_SOCK=deaf_at)
+            same(tally, "stop of a process that hears nothing", ended, built.Ended(b"", lines, 0))
+            same(tally, "it was killed", deaf.wait(PATIENCE), -signal.SIGKILL)
+            words = f"wq: the server, process {busy.pid}, has not answered for 5 s: it is busy, and took "
+            tally.check("a busy server", going.says(words))
+            busy.kill()
+            same(tally, "one that is killed", (going.ends(), going.errors.endswith(said("the server has ended"))), (3, True))
+
+
+@contextlib.contextmanager
+def silent(script: str, sockname: str) -> "Iterator[subprocess.Popen[bytes]]":
+    """A process that listens and answers nothing."""
+    with subprocess.Popen([sys.executable, "-c", script, sockname], stdout=subprocess.PIPE) as process:
+        assert process.stdout is not None
+        process.stdout.readline()
+        try:
+            yield process
+        finally:
+            process.kill()
 
 
 def check_given_back(tally: built.Tally, room: Path) -> None:
