@@ -17,7 +17,7 @@ from wqclient.client import Client
 from wqclient.sockets import is_listened_on
 from wqclient.starting import PAUSE, Unstarted, alone, said
 
-from .processes import processor_seconds, words_of
+from .processes import children_of, processor_seconds, words_of
 
 Tell = Callable[[str], None]
 SIGNALS = {signal.SIGHUP, signal.SIGINT, signal.SIGTERM}
@@ -26,7 +26,7 @@ WAITS = "waiting for another command that compiles the program"
 # After so many seconds, and again each time, a person hears how far the compiler is.
 TELL = 15.0
 # So many seconds of a processor the compiler takes, if it has not run on this machine.
-USUAL = 280.0
+USUAL = 150.0
 # So many programs are kept: the ones that were used last.
 KEPT = 3
 # The program serves this long at most while it is copied, in seconds.
@@ -148,9 +148,16 @@ def wait_for(compiler: "subprocess.Popen[bytes]", sockname: str, log: str, tell:
             raise Unstarted(f"the program could not be compiled: {said(log)} (all of it is in {log})")
         if time.monotonic() - told >= TELL:
             told = time.monotonic()
-            tell(how_far(told - began, processor_seconds(compiler.pid), needs))
+            tell(how_far(told - began, used_for(sockname, compiler.pid), needs))
         time.sleep(PAUSE)
-    note_seconds(processor_seconds(compiler.pid))
+    note_seconds(used_for(sockname, compiler.pid))
+
+
+def used_for(sockname: str, kit: int) -> float:
+    """The seconds of a processor that the compiler took. The kit hands it the words of the program, and starts a check
+    beside it that nobody waits for."""
+    found = [process for process in children_of(kit) if sockname in words_of(process)]
+    return processor_seconds(found[0] if found else kit)
 
 
 def how_far(took: float, used: float, needs: float) -> str:

@@ -2,7 +2,7 @@
 
 import os
 import time
-from typing import Dict, List, NamedTuple, Optional, Set
+from typing import Dict, List, NamedTuple, Optional, Set, Tuple
 
 UNIT = "wqd.service"
 TICKS = os.sysconf("SC_CLK_TCK")
@@ -36,6 +36,21 @@ def facts_of(process: int) -> Optional[Facts]:
 
 def processor_seconds(process: int) -> float:
     """The seconds of a processor that a process took, with all that it started."""
+    taken, children = processes()
+    found, wanted = 0.0, [process]
+    while wanted:
+        each = wanted.pop()
+        found += taken.get(each, 0.0)
+        wanted += children.get(each, [])
+    return found
+
+
+def children_of(process: int) -> List[int]:
+    return processes()[1].get(process, [])
+
+
+def processes() -> Tuple[Dict[int, float], Dict[int, List[int]]]:
+    """The seconds of a processor that each process took, and the children of each."""
     taken: Dict[int, float] = {}
     children: Dict[int, List[int]] = {}
     for each in [int(name) for name in os.listdir("/proc") if name.isdigit()]:
@@ -45,12 +60,7 @@ def processor_seconds(process: int) -> float:
             continue
         taken[each] = sum(map(int, fields[11:15])) / TICKS
         children.setdefault(int(fields[1]), []).append(each)
-    found, wanted = 0.0, [process]
-    while wanted:
-        each = wanted.pop()
-        found += taken.get(each, 0.0)
-        wanted += children.get(each, [])
-    return found
+    return taken, children
 
 
 def state_of(process: int) -> str:
