@@ -22,7 +22,7 @@ MOST = {
     "docs/RECIPES.md": 1400,
     "docs/SCRIPTS.md": 1100,
     "docs/SECURITY.md": 2050,
-    "docs/SERVER.md": 3350,
+    "docs/SERVER.md": 4150,
     "docs/SPEED.md": 1750,
     "docs/TROUBLESHOOTING.md": 1400,
     "docs/TUTORIAL.md": 1100,
