@@ -33,8 +33,8 @@ class Repository(NamedTuple):
 
 def environment() -> Dict[str, str]:
     """Without the variables by which git gives its own commands another repository."""
-    kept = {name: text for name, text in os.environ.items() if not name.startswith("GIT_") or name.startswith("GIT_CONFIG")}
-    return {**kept, "LC_ALL": "C", "GIT_OPTIONAL_LOCKS": "0", "GIT_NO_LAZY_FETCH": "1"}
+    kept = [name for name in os.environ if not name.startswith("GIT_") or name.startswith("GIT_CONFIG")]
+    return {**{name: os.environ[name] for name in kept}, "LC_ALL": "C", "GIT_OPTIONAL_LOCKS": "0", "GIT_NO_LAZY_FETCH": "1"}
 
 
 def answer(words: List[str], directory: str) -> bytes:
@@ -73,7 +73,8 @@ def no_repository(directory: str, room: str) -> Repository:
 def everywhere(directory: str) -> str:
     """The file that says what a user ignores in each repository."""
     with contextlib.suppress(Unanswered):
-        return os.path.join(directory, os.fsdecode(answer(["config", "--type=path", "--get", "core.excludesFile"], directory)[:-1]))
+        found = answer(["config", "--type=path", "--get", "core.excludesFile"], directory)
+        return os.path.join(directory, os.fsdecode(found[:-1]))
     home = os.environ.get("XDG_CONFIG_HOME") or os.path.join(os.path.expanduser("~"), ".config")
     return os.path.join(home, "git", "ignore")
 

@@ -24,6 +24,7 @@ NAMES_OF_KINDS = {
     "file": "f", "dir": "d", "directory": "d", "link": "l", "symlink": "l", "block-device": "b", "char-device": "c",
     "pipe": "p", "fifo": "p", "socket": "s",
 }
+HINTS_OF_KINDS = {"x": "; the server sees no permissions", "e": "; --size 0 is for empty ones"}
 SIZE = re.compile(r"([+-]?)([0-9]+)([bkKmMgGtT]?)(i?[bB])?")
 UNITS = {"": 0, "b": 0, "k": 1, "m": 2, "g": 3, "t": 4}
 
@@ -120,9 +121,8 @@ def kinds_of(words: List[str]) -> List[str]:
     letters = [letter for part in parts for letter in NAMES_OF_KINDS.get(part, part)]
     for letter in letters:
         if letter not in KINDS:
-            hint = "; the server sees no permissions" if letter == "x" else "; for empty ones --size 0" if letter == "e" else ""
             raise WrongWords("-t takes letters of f (file), d (directory), l (link), b, c, p, s and D, and not "
-                             f"{quoted(letter)}{hint}")
+                             f"{quoted(letter)}{HINTS_OF_KINDS.get(letter, '')}")
     if not letters:
         raise WrongWords("-t takes a letter: f (file), d (directory), l (link), b, c, p, s or D")
     return letters
@@ -143,8 +143,8 @@ def suffix_of(word: str) -> str:
 
 
 def size_term(word: str) -> List[Any]:
-    """`+1M` is at least so much, `-1M` at most, `1M` just that. As GNU's tools have it, `k` and `KiB` are 1,024 bytes, and
-    `kB` is 1,000."""
+    """`+1M` is at least so much, `-1M` at most, `1M` just that. As GNU's tools have it, `k` and `KiB` are 1,024 bytes,
+    and `kB` is 1,000."""
     found = SIZE.fullmatch(word)
     if not found:
         raise WrongWords("--size takes a number with a unit, such as +1M (at least), -10k (at most) or 0, and not "

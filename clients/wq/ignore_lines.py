@@ -11,8 +11,8 @@ Terms = List[Any]
 
 
 def terms_of(text: str, directory: Optional[str]) -> Terms:
-    """The terms of the lines of a file. Its patterns with a slash are for names below its directory, which is none for a
-    file outside of the root: then the last part of such a pattern counts."""
+    """The terms of the lines of a file. Its patterns with a slash are for names below its directory. A file outside of
+    the root has none here, and then the last part of such a pattern counts."""
     names: Dict[str, None] = {}
     terms: Terms = []
     for line in text.lstrip("\ufeff").split("\n"):

@@ -2,7 +2,7 @@
 lists the ignored names are taken out. A file that git tracks is not ignored."""
 
 import argparse
-from typing import Any, List, Optional, Set
+from typing import Any, Dict, List, Optional, Set
 
 from .git import Unanswered
 from .globs import any_of, left_out_terms, note
@@ -22,8 +22,8 @@ def is_wanted(options: argparse.Namespace) -> bool:
 
 
 class Ignored:
-    """What is ignored below a place, of whose root `ask` asks the server. `terms` are those that a query leaves out. For a
-    window that stays `renew` reads the rules anew, once they changed or `is_stale` says so."""
+    """What is ignored below a place, of whose root `ask` asks the server. `terms` are those that a query leaves out. For
+    a window that stays `renew` reads the rules anew, once they changed or `is_stale` says so."""
 
     def __init__(self, ask: Ask, place: Place, options: argparse.Namespace) -> None:
         self.ask = ask
@@ -35,6 +35,7 @@ class Ignored:
     def begin(self) -> None:
         # The ignored directories without a tracked file, terms of those that queries leave out, and of the others.
         self.whole: Set[str] = set()
+        self.found: Dict[str, bool] = {}
         self.terms: Terms = []
         self.partly: Terms = []
         if not is_wanted(self.options):
@@ -65,15 +66,18 @@ class Ignored:
         for name, is_ignored in zip(names, rules.judged([(name, False) for name in names])):
             if is_ignored and rules.is_tracked(name):
                 self.partly.append(["dirname", name])
-            elif is_ignored and not self.is_within(name):
+            elif is_ignored and not any(above in self.whole for above in directories_of(name)):
                 self.whole.add(name)
         nearest = sorted(self.whole, key=lambda name: (name.count("/"), name))[:MOST_TERMS]
         if nearest:
             self.terms = [["name", nearest, "wholename"], *(["dirname", name] for name in nearest)]
 
     def is_within(self, name: str) -> bool:
-        """Whether a name lies in a directory in which all is ignored."""
-        return any(above in self.whole for above in directories_of(name))
+        """Whether a name lies in a directory in which all is ignored. Of each directory that is found once."""
+        directory = name.rpartition("/")[0]
+        if directory not in self.found:
+            self.found[directory] = bool(directory) and (directory in self.whole or self.is_within(directory))
+        return self.found[directory]
 
     def within(self, parts: List[Any]) -> Any:
         below = self.place.below

@@ -105,8 +105,8 @@ class Places:
         return found
 
     def require_known(self) -> None:
-        """A word that is neither a directory nor a pattern names files: some that are there, or that the server knows to
-        be gone. Else it is a mistake."""
+        """A word that is neither a directory nor a pattern names files: some that are there, or that the server knows
+        to be gone. Else it is a mistake."""
         for word in self.words:
             if not is_pattern(word) and not has_braces(word) and not word.startswith("./") and not self.is_known(word):
                 if os.path.isabs(word):

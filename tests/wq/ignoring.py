@@ -1,4 +1,4 @@
-"""What git ignores is left out by `find`, `since`, `follow` and `run`: drawn trees beside `git ls-files`, and scenes."""
+"""`find`, `since`, `follow` and `run` leave out what git ignores: drawn trees beside `git ls-files`, and scenes."""
 
 import json
 import os
@@ -18,15 +18,16 @@ TREES, AT_ONCE = 300, 15
 DIRECTORIES = ["a", "b", "build", "a b", ".x"]
 FILES = ["a", "b", "c.o", "keep.o", "#c", "!d", "a b", "Build", ".x", "é", "[a]"]
 LINES = [
-    "a", "/a", "a/", "/a/", "b", "b/", "*.o", "!keep.o", "build/", "/build/*", "!/build/keep.o", "!build/", "b/*", "!b/a",
-    "**/b", "a/**", "!a/**/keep.o", "a/**/b", "[ab]", "[!a]", "?", "\\#c", "#c", "\\!d", "!d", "a b", "a b ", "a\\ b", "*",
-    "!*/", "!a", "!*.o", ".x", ".*", "!.gitignore", "é", "??", "\\[a\\]", "[a]", "b/build", "/*/a", "a/b/c.o", "\\", "[", "**",
-    "B*", "b**/", "***/a", "", "   ", "x" * 300,
+    "a", "/a", "a/", "/a/", "b", "b/", "*.o", "!keep.o", "build/", "/build/*", "!/build/keep.o", "!build/", "b/*",
+    "!b/a", "**/b", "a/**", "!a/**/keep.o", "a/**/b", "[ab]", "[!a]", "?", "\\#c", "#c", "\\!d", "!d", "a b", "a b ",
+    "a\\ b", "*", "!*/", "!a", "!*.o", ".x", ".*", "!.gitignore", "é", "??", "\\[a\\]", "[a]", "b/build", "/*/a",
+    "a/b/c.o", "\\", "[", "**", "B*", "b**/", "***/a", "", "   ", "x" * 300,
 ]
 
 
 def git(directory: Path, *words: str) -> bytes:
-    settings = {**os.environ, "HOME": str(directory), "XDG_CONFIG_HOME": str(directory), "GIT_CONFIG_NOSYSTEM": "1"}
+    home = {"HOME": str(directory), "XDG_CONFIG_HOME": str(directory), "GIT_CONFIG_NOSYSTEM": "1"}
+    settings = {**os.environ, **home}
     return subprocess.run(["git", *words], cwd=directory, env=settings, check=True, stdout=subprocess.PIPE).stdout
 
 
@@ -203,7 +204,8 @@ def check_ignored_in_windows(tally: built.Tally, scene: Scene) -> None:
         git(scene.tree, "add", "--force", "two.c")
         scene.write("two.c", "more")
         tally.check("a file that is tracked now", going.prints("two.c\n"))
-        same(tally, "no ignored file", [line for line in going.output.split(b"\n") if b".o" in line or b"more.js" in line], [])
+        ignored = [line for line in going.output.split(b"\n") if b".o" in line or b"more.js" in line]
+        same(tally, "no ignored file", ignored, [])
         same(tally, "Ctrl-C", (going.ends(signal.SIGINT), going.errors.count(b"\n")), (130, 1))
         tally.check("what follow counts", going.errors.startswith(b"wq: following 8 files below ."), [going.errors])
     git(scene.tree, "rm", "--quiet", "--cached", "--force", "two.c")
@@ -228,7 +230,17 @@ def check_repositories(tally: built.Tally, scene: Scene) -> None:
     same(tally, "one that the other ignores", scene.wq("find", "?", "-t", "f"), built.Ended(b"", b"", 1))
     scene.write("src/.watchmanconfig", "{}")
     same(tally, "a root below its repository", scene.names("find", "src", "*.o", "*.js"), ["src/keep.o"])
-    same(tally, "of another user", scene.wq("find", "src/deep", GIT_TEST_ASSUME_DIFFERENT_OWNER="1").output, b"src/deep/c.h\n")
+    (scene.room / "monitor").write_text("#!/bin/sh\necho > \"$0.ran\"\n")
+    (scene.room / "monitor").chmod(0o755)
+    git(scene.tree, "config", "core.fsmonitor", str(scene.room / "monitor"))
+    same(tally, "a repository that names a program", scene.names("find", "src", "*.o"), ["src/keep.o"])
+    same(tally, "which does not run", (scene.room / "monitor.ran").exists(), False)
+    git(scene.tree, "config", "core.worktree", "/not/there")
+    ended = scene.wq("find", "*.o")
+    words = f"ignored files of {scene.tree} are listed too, since git does not answer: "
+    found = (ended.status, ended.errors.startswith(said(words)[:-1]), ended.errors.count(b"\n"))
+    same(tally, "a repository that git refuses", found, (0, True, 1))
+    git(scene.room, "config", "--file", str(scene.tree / ".git" / "config"), "--unset", "core.worktree")
 
 
 def check_without_git(tally: built.Tally, scene: Scene) -> None:

@@ -78,7 +78,8 @@ def check_times(tally: built.Tally, scene: Scene) -> None:
         (["--changed-before", "2018-01-01"], ["Makefile"]),
     ):
         same(tally, f"find {words}", scene.names("find", "-t", "f", *words), expected)
-    takes = "--newer takes an age, such as 30s, 10min, 2h, 3d or 1w, or a date, such as 2026-11-28 or '2026-11-28 10:00'"
+    takes = "--newer takes an age, such as 30s, 10min, 2h, 3d or 1w, or a date, such as 2026-11-28 or " \
+            "'2026-11-28 10:00'"
     for word in ("soon", "10 fortnights", "2026-13-01"):
         wrong(tally, scene, ["find", "--newer", word], f'{takes}, and not "{word}"')
     wrong(tally, scene, ["find", "--older", "90y"], '--older takes a time since 1970, and not "90y"')
@@ -87,7 +88,9 @@ def check_times(tally: built.Tally, scene: Scene) -> None:
 def check_sizes(tally: built.Tally, scene: Scene) -> None:
     """As GNU's tools have it, k is 1,024 bytes, and kB 1,000."""
     scene.write("size", "x" * 1_024)
-    for size, expected in (("1k", 1), ("1KiB", 1), ("+1k", 1), ("1kB", 0), ("+1kB", 1), ("-1kB", 0), ("1024", 1), ("1024b", 1)):
+    for size, expected in (
+        ("1k", 1), ("1KiB", 1), ("+1k", 1), ("1kB", 0), ("+1kB", 1), ("-1kB", 0), ("1024", 1), ("1024b", 1),
+    ):
         found = scene.wq("find", "size", "--size", size)
         same(tally, f"find --size {size}", (found.output.count(b"\n"), found.errors), (expected, b""))
     (scene.tree / "size").unlink()
@@ -98,7 +101,8 @@ def check_commands(tally: built.Tally, scene: Scene) -> None:
     for words, expected in (
         (["*.c", "-x", "echo", "{}"], "./src/a.c\n./src/b b.c\n"),
         (["*.c", "-x", "echo"], "./src/a.c\n./src/b b.c\n"),
-        (["src", "*.c", "--exec", "echo", "{.}.o", "{/}", "{//}", "{/.}"], "./src/a.o a.c src a\n./src/b b.o b b.c src b b\n"),
+        (["src", "*.c", "--exec", "echo", "{.}.o", "{/}", "{//}", "{/.}"],
+         "./src/a.o a.c src a\n./src/b b.o b b.c src b b\n"),
         (["*.h", "-x", "echo", "x{}y", "{"], "x./src/deep/c.hy {\n"),
         (["*.c", "-X", "printf", "%s;", "{}"], "./src/a.c;./src/b b.c;"),
         (["*.c", "--exec-batch", "echo"], "./src/a.c ./src/b b.c\n"),
@@ -107,8 +111,8 @@ def check_commands(tally: built.Tally, scene: Scene) -> None:
     ):
         same(tally, f"find {words}", scene.wq("find", *words), built.Ended(expected.encode(), b"", 0))
     for words, status in (
-        (["*.c", "-x", "sh", "-c", "exit 7"], 7), (["*.h", "-x", "sh", "-c", "kill $$"], 143), (["*.h", "-X", "false"], 1),
-        (["*.nothing", "-x", "echo"], 1), (["*.nothing", "-X", "echo"], 1),
+        (["*.c", "-x", "sh", "-c", "exit 7"], 7), (["*.h", "-x", "sh", "-c", "kill $$"], 143),
+        (["*.h", "-X", "false"], 1), (["*.nothing", "-x", "echo"], 1), (["*.nothing", "-X", "echo"], 1),
     ):
         same(tally, f"the status of find {words}", scene.wq("find", *words), built.Ended(b"", b"", status))
     wrong(tally, scene, ["find", "*.c", "-x", "not-there"], "not-there: there is no such command", status=127)
