@@ -30,7 +30,7 @@ def room(kind: str) -> str:
     home = os.path.expanduser("~")
     if not os.path.isabs(above()):
         raise OSError(errno.ENOENT, "there is no home", home)
-    require_own(home if above().startswith(f"{home}/") else above())
+    require_own(home if above().startswith(f"{home}/") else above(), may_be_link=True)
     os.makedirs(above(), mode=0o700, exist_ok=True)
     for path in (directory(), os.path.join(directory(), kind)):
         try:
@@ -40,10 +40,10 @@ def room(kind: str) -> str:
     return path
 
 
-def require_own(path: str) -> None:
-    """Refuses a directory of another user, and a link in place of one of these notes. One that is not there is made."""
+def require_own(path: str, may_be_link: bool = False) -> None:
+    """Refuses a directory of another user, and a link to one. One that is not there is none of another user."""
     try:
-        found = os.lstat(path) if path.startswith(directory()) else os.stat(path)
+        found = os.stat(path, follow_symlinks=may_be_link)
     except FileNotFoundError:
         return
     if not stat.S_ISDIR(found.st_mode) or found.st_uid != os.getuid():
