@@ -9,15 +9,15 @@ from typing import Dict, List
 
 import built
 from bridged import COMMAND, PROGRAM, VERSION, Bridge, codec
-from client import PATIENCE, same
+from client import PATIENCE, Client, same
 
 
 def run(
-    room: Path, *words: str, sockname: str = "sock", output: int = subprocess.PIPE, given: bytes = b"",
+    room: Path, *words: str, sockname: str = "sock", output: int = subprocess.PIPE, given: bytes = b"", **variables: str,
 ) -> subprocess.CompletedProcess:
     """Runs the command in a directory, with names that are relative to it, and with bytes on its standard input."""
     environment = {**os.environ, "WATCHMAN_SOCK": sockname, "WQD": os.path.relpath(str(built.program_path()), str(room)),
-                   "XDG_STATE_HOME": str(room.resolve() / "state")}
+                   "XDG_STATE_HOME": str(room.resolve() / "state"), **variables}
     environment.pop("WQD_SOCK", None)
     return subprocess.run([str(COMMAND), *words], env=environment, cwd=str(room), input=given,
                           stdout=output, stderr=subprocess.PIPE, timeout=PATIENCE)
@@ -40,6 +40,21 @@ def check_starts(tally: built.Tally, room: Path) -> None:
              (1, b"watchman: standard output: No space left on device\n"))
     finally:
         same(tally, "it is ended by its relative name", run(room, "--no-spawn", "shutdown-server").returncode, 0)
+
+
+def check_words_of_the_server(tally: built.Tally, room: Path) -> None:
+    """How a server works that the command starts: as wq starts one, unless variables say otherwise."""
+    room = room.resolve()
+    for variables, expected in (
+        ({}, ["--share", "10", "--interval", "100"]),
+        ({"WQD_INTERVAL": "500"}, ["--share", "10", "--interval", "500"]),
+        ({"WQD_SHARE": "50", "WQD_INTERVAL": "20"}, ["--share", "50", "--interval", "20"]),
+    ):
+        run(room, "version", **variables)
+        with Client(str(room / "sock.wqd")) as client:
+            words = Path(f"/proc/{client.peer().process}/cmdline").read_text().split("\0")
+        same(tally, f"words of the server with {variables}", words[-5:-1], expected)
+        run(room, "--no-spawn", "shutdown-server")
 
 
 def check_roots_by_relative_names(tally: built.Tally, room: Path) -> None:
