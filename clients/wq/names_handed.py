@@ -40,12 +40,13 @@ def bytes_of(word: str) -> int:
 
 
 def variables(root: str, clock: str, changed: List[str]) -> Dict[str, str]:
-    """The variables of a run: where and when, and which files changed, as many names as may be."""
+    """The variables of a run: where and when, and which files changed, as many names as may be. One with a newline would
+    be two lines."""
     lines: List[str] = []
     left = MOST_OF_VARIABLE
-    for name in changed:
-        left -= len(os.fsencode(name)) + 1
+    for path in (as_argument(name) for name in changed if "\n" not in name):
+        left -= len(os.fsencode(path)) + 1
         if left < 0:
             break
-        lines.append(name)
+        lines.append(path)
     return {"WQ_ROOT": root, "WQ_CLOCK": clock, "WQ_CHANGED": "\n".join(lines), "WQ_CHANGED_COUNT": str(len(changed))}

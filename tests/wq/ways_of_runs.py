@@ -23,9 +23,13 @@ def check_handed(tally: built.Tally, room: Path) -> None:
         with scene.begin("run", "src", "*.h", "--", "sh", "-c", SHOWS) as going:
             tally.check("nothing changed before the first run", going.prints(f"{scene.tree} 0 []\n"))
             scene.write("src/x y.h")
-            tally.check("one name", going.prints(f"{scene.tree} 1 [src/x y.h]\n"))
+            tally.check("one name", going.prints(f"{scene.tree} 1 [./src/x y.h]\n"))
+            scene.write("src/new\nline.h")
+            tally.check("one that is counted alone", going.prints(f"{scene.tree} 1 []\n"))
+            (scene.tree / "src/new\nline.h").unlink()
+            tally.check("and when it goes", going.waits_for(lambda one: one.output.count(b" 1 []\n") == 2))
             (scene.tree / "src/x y.h").unlink()
-            tally.check("one that went", going.waits_for(lambda one: one.output.count(b"1 [src/x y.h]\n") == 2))
+            tally.check("one that went", going.waits_for(lambda one: one.output.count(b"1 [./src/x y.h]\n") == 2))
         with scene.begin("run", "src", "*.h", "--", "sh", "-c", 'echo "$WQ_CLOCK"') as going:
             tally.check("the clock of a run", going.prints("\n"))
             clock = going.output.decode().strip()
