@@ -16,7 +16,7 @@ def terms_of(text: str, directory: Optional[str]) -> Terms:
     names: Dict[str, None] = {}
     terms: Terms = []
     for line in text.lstrip("\ufeff").split("\n"):
-        pattern = pattern_of(line)
+        pattern = pattern_of(line[:-1] if line.endswith("\r") else line)
         if not pattern:
             continue
         if "/" in pattern and directory is None:

@@ -32,7 +32,8 @@ def git(directory: Path, *words: str) -> bytes:
 
 
 def check_drawn_trees(tally: built.Tally, room: Path) -> None:
-    """Of each tree wq lists the files that `git ls-files` lists. Half of them have a file .ignore, which says nothing."""
+    """Of each tree wq lists the files that `git ls-files` lists. Half of them have a file .ignore, which says nothing, and
+    six are large."""
     draw = random.Random(7)
     with Scene(room) as scene:
         model = room / "model"
@@ -40,7 +41,7 @@ def check_drawn_trees(tally: built.Tally, room: Path) -> None:
         git(model, "init", "--quiet", "--template=")
         names = [f"t{number}" for number in range(TREES)]
         for name in names:
-            draw_tree(draw, room / "drawn" / name, model / ".git")
+            draw_tree(draw, room / "drawn" / name, model / ".git", is_large=name.endswith(("00", "50")))
         for place in range(0, TREES, AT_ONCE):
             some = names[place:place + AT_ONCE]
             ended = scene.call(["find", "-0", "-t", "f,l", *(str(room / "drawn" / name) for name in some)])
@@ -56,18 +57,22 @@ def check_drawn_trees(tally: built.Tally, room: Path) -> None:
                 tally.passed += own == expected
 
 
-def draw_tree(draw: random.Random, top: Path, repository: Path) -> None:
+def draw_tree(draw: random.Random, top: Path, repository: Path, is_large: bool) -> None:
     places = [top]
     top.mkdir(parents=True)
+    if is_large:
+        for number in range(90):
+            places.append(top / draw.choice(DIRECTORIES) / f"{number % 12}" / draw.choice([*DIRECTORIES, f"{number}"]))
+            places[-1].mkdir(parents=True, exist_ok=True)
     for _ in range(draw.randrange(1, 7)):
         place = draw.choice(places) / draw.choice(DIRECTORIES)
         place.mkdir(exist_ok=True)
         places.append(place)
     for place in places:
-        for name in draw.sample(FILES, draw.randrange(6)):
+        for name in draw.sample(FILES, 8 if is_large else draw.randrange(6)):
             if not (place / name).exists():
                 (place / name).touch()
-        if draw.random() < 0.5:
+        if draw.random() < (0.05 if is_large else 0.5):
             (place / ".gitignore").write_text(drawn_lines(draw))
     if draw.random() < 0.3 and not os.path.lexists(top / "link"):
         (top / "link").symlink_to(draw.choice(DIRECTORIES))
@@ -84,7 +89,8 @@ def draw_tree(draw: random.Random, top: Path, repository: Path) -> None:
 
 
 def drawn_lines(draw: random.Random) -> str:
-    return "\n".join(draw.sample(LINES, draw.randrange(1, 6))) + draw.choice(["", "\n"])
+    ending = draw.choice(["\n", "\n", "\r\n"])
+    return ending.join(draw.sample(LINES, draw.randrange(1, 6))) + draw.choice(["", ending])
 
 
 def check_ignored(tally: built.Tally, room: Path) -> None:
