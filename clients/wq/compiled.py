@@ -162,13 +162,9 @@ def used_for(sockname: str, kit: int) -> float:
 
 def how_far(took: float, used: float, needs: float) -> str:
     """What a person hears. A compiler that shares its processor with others takes longer by that."""
-    return f"compiling for {took:.0f} s so far, {about(took * (needs - used) / max(used, 1.0))} left"
-
-
-def about(seconds: float) -> str:
-    if seconds < 5:
-        return "some seconds"
-    return f"about {seconds:.0f} s" if seconds < 90 else f"about {seconds / 60:.0f} minutes"
+    left = took * (needs - used) / max(used, 1.0)
+    rest = "nearly done" if left < 5 else f"about {left:.0f} s left" if left < 90 else f"about {left / 60:.0f} minutes left"
+    return f"compiling for {took:.0f} s so far, {rest}"
 
 
 def usual_seconds() -> float:

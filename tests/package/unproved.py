@@ -145,10 +145,11 @@ def check_kept(tally: built.Tally, room: Path) -> None:
 def check_how_far(tally: built.Tally, room: Path) -> None:
     """What a person hears while the kit compiles: by the clock, of the processor, and how much of that it needs."""
     for (took, used, needs), left in (
-        ((15, 15, 200), "about 3 minutes"), ((15, 5, 65), "about 3 minutes"), ((90, 80, 120), "about 45 s"),
-        ((90, 120, 120), "some seconds"), ((300, 250, 200), "some seconds"), ((15, 0, 6), "about 2 minutes"),
+        ((15, 15, 200), "about 3 minutes left"), ((15, 5, 65), "about 3 minutes left"),
+        ((90, 80, 120), "about 45 s left"), ((90, 120, 120), "nearly done"), ((300, 250, 200), "nearly done"),
+        ((15, 0, 6), "about 2 minutes left"),
     ):
-        same(tally, f"{used} of {needs} s", how_far(took, used, needs), f"compiling for {took} s so far, {left} left")
+        same(tally, f"{used} of {needs} s", how_far(took, used, needs), f"compiling for {took} s so far, {left}")
 
 
 def check_turns(tally: built.Tally, room: Path) -> None:
