@@ -11,7 +11,7 @@ from wqclient.kept import CLOCKS, keep, kept
 
 from .braces import has_braces
 from .changes import FIELDS, counted, print_changes
-from .globs import restrictions
+from .globs import note, restrictions
 from .home import Home
 from .places import Places
 from .roots import Place, is_directory, is_pattern, require_utf8
@@ -49,7 +49,7 @@ def list_since(places: Places, number: int, name: str) -> Value:
     query: Dict[str, Any] = {"fields": FIELDS, "expression": places.expression(number)}
     found = places.ask(place, query if bound is None else {**query, "since": bound})
     if found["is_fresh_instance"]:
-        say(f"{why_all(name, before, found['clock'], place)}, so all files are listed", "yellow")
+        note(f"{why_all(name, before, found['clock'], place)}, so all files are listed")
     if not is_peek:
         keep_clock(found["clock"], sockname, place, cursor)
     found["files"] = counted(found["files"], places.options)

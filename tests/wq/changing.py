@@ -50,8 +50,9 @@ def check_since_questions(tally: built.Tally, scene: Scene) -> None:
     first = said("this was not asked as q before, so all files are listed")
     for words in questions[:5]:
         same(tally, f"a first since {words}", scene.wq("since", *words).errors, first)
-    for words in questions[5:]:
+    for words in questions[5:7]:
         scene.wq("since", *words)
+    same(tally, "a first since of two directories", scene.wq("since", *questions[7]).errors, first)
     scene.write("src/deep/d.h")
     scene.write("src/e.c")
     scene.write("dir/f.c")
