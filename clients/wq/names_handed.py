@@ -4,12 +4,12 @@ import os
 from typing import Dict, List
 
 PLACE = "{}"
-# Of what the system takes for arguments and variables so many bytes stay free, as with xargs. Linux never takes more
-# than the other number.
+# The system takes a limited number of bytes as arguments and variables. FREE of them are left free, as by xargs, and
+# Linux never takes more than MOST.
 FREE, MOST = 2_048, 6 * 1024 * 1024
 # Each argument has a byte 0 at its end, and its address.
 BESIDE_EACH = 9
-# In a variable there are at most so many bytes of names.
+# The most bytes of names in a variable.
 MOST_OF_VARIABLE = 65_536
 
 

@@ -5,7 +5,7 @@ from typing import List, Set
 
 from .globs import escaped
 
-# So many runs in a row are no accident, and so many names are shown.
+# How many runs in a row are no accident, and how many names are shown.
 ENOUGH, SHOWN = 3, 3
 
 

@@ -19,7 +19,7 @@ def kept_words(words: List[str]) -> List[str]:
 
 
 def seconds_between_scans(words: List[str], scan: float) -> float:
-    """From one scan of a root to the next, if a scan takes so many seconds and the root has the whole share."""
+    """The time from one scan of a root to the next, if the root has the whole share. A scan takes `scan` seconds."""
     numbers: Dict[str, int] = dict(USUAL)
     given = kept_words(words)
     for option, value in zip(given[::2], given[1::2]):

@@ -1,4 +1,4 @@
-"""What the next run of `wq run` is for: the files that changed, and when it begins."""
+"""The changes that the next run of `wq run` is for, and when it begins."""
 
 import time
 from typing import Any, Dict, List, Optional

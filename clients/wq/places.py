@@ -2,7 +2,8 @@
 
 import argparse
 import os
-from typing import Any, Callable, Dict, List, Set, Tuple
+import sys
+from typing import Any, Callable, Dict, List, Optional, Set, Tuple
 
 from .braces import all_expanded, has_braces
 from .globs import any_of, expression_of, glob_term, is_left_out
@@ -42,21 +43,23 @@ class Places:
             self.require_known()
             self.ignored = [Ignored(self.asks(place), place, options) for place in self.places]
         except BaseException:
-            self.close()
+            self.close(sys.exc_info()[1])
             raise
 
     def __enter__(self) -> "Places":
         return self
 
-    def __exit__(self, *_: object) -> None:
-        self.close()
+    def __exit__(self, kind: object, error: Optional[BaseException], _: object) -> None:
+        self.close(error)
 
-    def close(self) -> None:
-        """Gives back each root that was watched for this command, unless it is to stay."""
+    def close(self, error: Optional[BaseException] = None) -> None:
+        """Gives back each root that was watched for this command, unless it is to stay. A command that a person ends waits
+        for no reply."""
         for ignored in self.ignored:
             ignored.close()
+        is_hurried = error is not None and not isinstance(error, Exception)
         for root in self.added if self.purpose == MOMENT else []:
-            self.server.give_back(root)
+            self.server.give_back(root, is_hurried)
         self.open.close(self.server)
 
     def roots(self) -> List[str]:

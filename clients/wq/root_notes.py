@@ -9,7 +9,7 @@ from typing import IO, List, Optional
 from wqclient.files import opened_as_own
 from wqclient.kept import LOOKS, ROOTS, WINDOWS, keep, kept, path_of, room, run_of
 
-# What a root is watched for, and which of two purposes wins: one query; a window; `find --keep`; `watch`, `since` and
+# The purposes of a watch, of which a later one wins: one query; a window; `find --keep`; `watch`, `since` and
 # triggers.
 MOMENT, WINDOW, KEPT, STAYS = "moment", "window", "kept", "stays"
 RANKS = ("", MOMENT, WINDOW, KEPT, STAYS)
@@ -23,7 +23,7 @@ class Notes:
         self.process = process
 
     def purpose(self, root: str) -> str:
-        """What wq has this server watch a root for; nothing if it does not."""
+        """The purpose for which wq has this server watch a root; nothing if it does not."""
         note = kept(ROOTS, self.sockname, root)
         return str(note.get("for", STAYS)) if note.get("run") == run_of(self.process) else ""
 

@@ -32,7 +32,7 @@ def run(options: argparse.Namespace, home: Home) -> int:
 
 
 def manner_of(options: argparse.Namespace) -> Manner:
-    """What a change does while the command runs."""
+    """How a change counts while the command runs."""
     on_busy = options.on_busy or (RESTART if options.restart else WAIT)
     if on_busy not in WAYS:
         raise WrongWords(f"--on-busy takes {', '.join(WAYS[:-1])} or {WAYS[-1]}, and not {on_busy}")

@@ -19,9 +19,9 @@ from .terminal import is_terminal, say, write
 from .trouble import FOUND, NOTHING, Trouble
 from .window import Window
 
-# What a change does while the command runs.
+# The ways in which a change may count while the command runs.
 WAIT, RESTART, IGNORE, SIGNAL = WAYS = ("wait", "restart", "ignore", "signal")
-# A run that is to end gets a signal, and SIGKILL after so many seconds.
+# A run that is to end gets a signal, and SIGKILL after this time, in seconds.
 GRACE = 5.0
 # A run that begins so soon after the last one, and that much after a scan, may be caused by it, in seconds.
 SOON = 1.0
@@ -32,8 +32,8 @@ CLEAR = b"\x1b[H\x1b[2J\x1b[3J"
 
 
 class Manner(NamedTuple):
-    """What a change does to a run that goes on, and by which signal; whether what changed while the command ran is left
-    out."""
+    """How a change counts while the command runs: what it does to that run, by which signal, and whether changes of that
+    time are left out."""
 
     on_busy: str
     stop_signal: signal.Signals

@@ -20,7 +20,7 @@ Value = Dict[str, Any]
 A_SECOND = 1.0
 TOO_MANY_ROOTS = "E13:"
 # So long the end of a command waits for a reply, since the server may hang.
-MOST_AT_END = 1.0
+MOST_AT_END = 2.0
 # From so many roots on each search is noted, since one of 16 may have to make room soon.
 MANY_ROOTS = 8
 
@@ -179,10 +179,10 @@ class Server:
                 return True
         return False
 
-    def give_back(self, root: str) -> None:
+    def give_back(self, root: str, is_hurried: bool = False) -> None:
         """Ends the watch of a root that was watched for a moment, unless another command needs it meanwhile."""
         if self.notes.is_for_a_moment(root):
-            self.ask_within(MOST_AT_END, "watch-del", root)
+            self.ask_within(0.0 if is_hurried else MOST_AT_END, "watch-del", root)
             self.notes.forget(root)
 
     def unwatch(self, root: str) -> None:

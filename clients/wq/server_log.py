@@ -1,4 +1,4 @@
-"""What the log of a server says of its roots and triggers: failures, and what scans leave out. The server tells it
+"""The log of a server, as far as it is of roots and triggers: failures, and what scans leave out. The server tells it
 nowhere else."""
 
 import contextlib
@@ -13,7 +13,7 @@ from wqclient.kept import TRIGGERS, keep, kept, run_of
 from .processes import is_of_unit
 from .server import Server
 
-# Of a long log so many bytes are read, the last ones.
+# How many bytes of a long log are read, the last ones.
 MOST = 4 * 1024 * 1024
 LISTENS = "listening on "
 TRIGGER = "trigger "
@@ -39,13 +39,13 @@ class Failures(NamedTuple):
 
 
 class Log:
-    """What the server said since it began to listen. Of some servers nobody but their terminal has it."""
+    """The lines that a server wrote since it began to listen, if they are in a file."""
 
     def __init__(self, server: Server) -> None:
         self.server = server
         self.path = path_of(server.peer.process)
         self.triggers: Dict[Tuple[str, str], Failures] = {}
-        # Where in the log each trigger was registered.
+        # The place in the log at which each trigger was registered.
         self.registered: Dict[Tuple[str, str], int] = {}
         self.left_out: Dict[str, Tuple[int, int]] = {}
         for place, line in self.lines():
@@ -85,7 +85,7 @@ class Log:
         return self.triggers.get((root, name), Failures())
 
     def words(self) -> str:
-        """Where a person reads more."""
+        """The file or the command that shows the log to a person."""
         if self.path:
             return self.path
         process = self.server.peer.process
@@ -132,7 +132,7 @@ def note_registered(server: Server, root: str, name: str) -> None:
 
 
 def registered_at(server: Server, root: str, name: str) -> int:
-    """Where the log says something of a trigger at the earliest, unless the log was cut since."""
+    """The place from which on the log is of this trigger, unless the log was cut since."""
     note = kept(TRIGGERS, server.sockname, root, name)
     place = note.get("place")
     if note.get("run") != run_of(server.peer.process) or not isinstance(place, int):

@@ -4,11 +4,11 @@ import time
 
 from .processes import own_processor_seconds, state_of
 
-# A reply is late after so many seconds.
+# A reply is late after this time, in seconds.
 LATE = 5.0
 # A process that took this part of one processor meanwhile is busy.
-BUSY = 0.1
-STOPPED, WAITS_FOR_A_DISK, ENDED = "Tt", "D", "Z"
+BUSY = 0.02
+STOPPED, RUNS, WAITS_FOR_A_DISK, ENDED = "Tt", "R", "D", "Z"
 
 
 class Silence:
@@ -36,9 +36,10 @@ class Silence:
         used, seconds = own_processor_seconds(self.process) - self.used, time.monotonic() - self.began
         if is_stopped(self.process):
             return "it is stopped"
-        if state_of(self.process) == WAITS_FOR_A_DISK:
+        state = state_of(self.process)
+        if state == WAITS_FOR_A_DISK:
             return "it waits for a disk or another file system"
-        if used >= BUSY * seconds:
+        if state == RUNS or used >= BUSY * seconds:
             return f"it is busy, and took {used:.1f} s of processor time meanwhile"
         return "it waits, and took no processor time"
 

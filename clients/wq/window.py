@@ -1,5 +1,5 @@
-"""What `wq follow` and `wq run` keep open: a subscription that outlives its server, and the root that was watched for
-it."""
+"""The window that `wq follow` and `wq run` keep open: subscriptions that outlive their server, and the roots that were
+watched for them."""
 
 import argparse
 import select
@@ -60,10 +60,10 @@ class Window:
             raise
 
     def begin(self, server: Server, used: float) -> List[File]:
-        """Begins with what is there now, and gives the files that match if names are taken. The server took so many
-        seconds of a processor before."""
+        """Begins with what is there now, and gives the files that match if names are taken. `used` is the processor
+        time that the server had taken before, in seconds."""
         process = server.peer.process
-        # What is asked if the server ends: its process may have gone then.
+        # These are needed when the server ends: its process may have gone then.
         self.run, self.is_of_unit = run_of(process), is_of_unit(process)
         self.count, self.clocks = 0, []
         files: List[File] = []
@@ -92,7 +92,7 @@ class Window:
         server.client.take_lists()
 
     def later(self) -> List[File]:
-        """What changed until now since the lists that were taken. Further lists have what changes from now on."""
+        """The files that changed since the lists that were taken. Further lists have what changes from now on."""
         server = self.server
         if server is None:
             return []
@@ -120,10 +120,11 @@ class Window:
             server.client.take_lists()
 
     def words(self) -> str:
-        """What is followed, and how often it is scanned."""
+        """Says how many files are followed, and how often the server scans them."""
         count = f"{self.count:,} file{'' if self.count == 1 else 's'}"
         below = " and ".join(self.places.directories)
-        return f"following {count} below {below}; scans about each {seconds_shown(self.pace())}"
+        pace = f"; scans about each {seconds_shown(self.pace())}" if words_of(self.places.server.peer.process) else ""
+        return f"following {count} below {below}{pace}"
 
     def wait(self, others: Dict[int, int], seconds: Optional[float] = None) -> Dict[int, int]:
         """Waits for the server, and for events of other files, which are given; at most for some seconds."""
@@ -247,6 +248,8 @@ class Window:
 
     def close(self) -> None:
         """Gives the roots back that were watched for windows alone, if this is the last one."""
+        for ignored in self.places.ignored:
+            ignored.close()
         for ignored in self.places.ignored:
             ignored.close()
         self.places.open.close(self.server)

@@ -179,9 +179,10 @@ def check_given_back(tally: built.Tally, room: Path) -> None:
                 same(tally, "beside a search too", scene.names("roots"), [str(scene.tree)])
                 second.ends(signal.SIGTERM)
         same(tally, "and is given back by it", scene.wq("roots").status, 1)
-        for words in (["watch"], ["since", "a"], ["trigger", ".", "t", "--", "true"], ["find", "--keep"]):
-            for before in (True, False):
-                check_stays(tally, scene, words, before)
+        check_stays(tally, scene, ["watch"], is_before=False)
+        check_stays(tally, scene, ["since", "a"], is_before=True)
+        check_stays(tally, scene, ["trigger", ".", "t", "--", "true"], is_before=False)
+        check_stays(tally, scene, ["find", "--keep"], is_before=True)
         scene.wq("ask", f'["watch","{scene.tree}"]')
         with scene.begin("follow") as going:
             going.says("following")
@@ -202,7 +203,7 @@ def check_stays(tally: built.Tally, scene: Scene, words: List[str], is_before: b
         if not is_before:
             scene.wq(*words)
         going.ends(signal.SIGINT)
-    same(tally, f"the root of {words} stays, {is_before}", scene.names("roots"), [str(scene.tree)])
+    same(tally, f"the root of {words} stays", scene.names("roots"), [str(scene.tree)])
     scene.wq("unwatch")
 
 
