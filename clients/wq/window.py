@@ -176,7 +176,8 @@ class Window:
         if not is_of_rules:
             self.clocks[number] = found["clock"]
         ignored = self.places.ignored[number]
-        if (is_of_rules or ignored.is_stale()) and ignored.renew():
+        has_changed = bool(found["files"]) if is_of_rules else ignored.is_stale()
+        if has_changed and ignored.renew():
             self.subscribe(server, number)
         return [] if is_of_rules else [self.places.told(number, found)]
 
