@@ -3,23 +3,30 @@
 
 usage() {
     cat << 'END'
-usage: wqd serve [--sockname PATH] [--interval MS] [--share P] [--workers N] [--start N] [--pid N]
+usage: wqd serve [--sockname PATH] [--interval MS] [--share P] [--workers N]
+                 [--start N] [--pid N]
        wqd replay < SCRIPT
        wqd check FILE
        wqd --help | --version
 
-  serve    watches directories, and answers clients on a Unix socket until one of them ends it
+  serve    watches directories, and answers clients on a Unix socket until one
+           of them ends it
   replay   reads a script, and writes what each client in it is sent
   check    says whether a program file may run, and what it can cost
 
-  --sockname PATH   the path of the socket: at most 107 bytes, and that of its directory at most 99. If left out, it is
-                    $WQD_SOCK, else $XDG_RUNTIME_DIR/wqd.sock, else wqd.sock in a directory of your own below $TMPDIR or /tmp
-  --interval MS     the pause between two rounds of crawls in milliseconds, 10 to 3600000. It is 1000 if left out
-  --share P         how much of one processor rounds may take at most, in percent: 1 to 100. There is no limit if it is
-                    left out. A query that synchronises never waits for the pause that this makes
-  --workers N       how many threads a query may use, 1 to 16. It is 1 if left out
-  --start N         the second of the start and
-  --pid N           the number of the process: they name this run in clock ids. Each is 0 to 2^62, and filled in if left out
+  --sockname PATH   the path of the socket: at most 107 bytes, and that of its
+                    directory at most 99. If left out, it is $WQD_SOCK, else
+                    wqd.sock in $XDG_RUNTIME_DIR, else wqd.sock in a directory
+                    of your own below $TMPDIR or /tmp
+  --interval MS     the pause between two rounds of scans in milliseconds, 10
+                    to 3600000; 1000 if left out
+  --share P         how much of one processor rounds may take at most, in
+                    percent, 1 to 100; no limit if left out. A query that
+                    synchronises never waits for the pause that this makes
+  --workers N       how many threads a query may use, 1 to 16; 1 if left out
+  --start N         the second of the start, and
+  --pid N           the number of the process: they name this run in clock
+                    ids. Each is 0 to 2^62, and filled in if left out
 
 wq is the command that asks the server, and starts one if none runs.
 END
@@ -42,7 +49,7 @@ answer_help() {
 word_fault() {
     case "${1-}" in
         '') say "there is no command; wqd --help says which there are" ;;
-        replay) [ "$#" -eq 1 ] || say "replay takes no further words, and its script on standard input" ;;
+        replay) [ "$#" -eq 1 ] || say "replay takes no further words, and reads its script from standard input" ;;
         check) [ "$#" -eq 2 ] || say "check takes one file" ;;
         serve) shift; serve_fault "$@" ;;
         *) say "there is no command $1; wqd --help says which there are" ;;
@@ -58,7 +65,8 @@ serve_fault() {
                 if [ "$#" -eq 1 ]; then say "$1 needs a value"; return; fi
                 name=$1 value=$2
                 shift ;;
-            *) say "serve takes no word $1"; return ;;
+            -*) say "serve has no option $1"; return ;;
+            *) say "serve takes no further words: $1"; return ;;
         esac
         shift
         case "$seen" in *"$name "*) say "$name is given twice"; return ;; esac
@@ -112,9 +120,9 @@ absolute() {
     esac
 }
 
-# Whether a path names a directory of this user.
+# Whether a path names a directory of this user, to which no other user may write.
 is_own() {
-    [ -n "$1" ] && [ -d "$1" ] && [ -O "$1" ]
+    [ -n "$1" ] && [ -d "$1" ] && [ -O "$1" ] && [ -n "$(find -H "$(absolute "$1")" -prune -type d ! -perm /022)" ]
 }
 
 # Whether one of the words, after the first, says this option.
@@ -161,9 +169,9 @@ socket_fault() {
     fi
 }
 
-# Whether somebody listens on a socket, as far as python3 can tell.
+# Whether somebody listens on a socket, as far as python3 can tell. It takes no module of the current directory.
 is_listened_on() {
-    python3 -c '
+    python3 -I -S -c '
 import socket, sys
 stream = socket.socket(socket.AF_UNIX)
 stream.setblocking(False)

@@ -2,8 +2,10 @@
 
 import io
 import os
+import py_compile
 import subprocess
 import sys
+import tempfile
 import zipfile
 from pathlib import Path
 from typing import List, NamedTuple
@@ -11,7 +13,8 @@ from typing import List, NamedTuple
 import completion
 import manual
 
-from wq import words as wq_words
+from wq import examples
+from wq.usage import USAGE as WQ_USAGE
 
 TOP = Path(__file__).resolve().parent.parent
 COMMAND = str(TOP / "wqd")
@@ -71,14 +74,17 @@ def said(word: str) -> str:
 def built_program() -> bytes:
     """The program that the variable WQD names, or else the proved one, which is built if it is not built yet."""
     named = os.environ.get("WQD")
-    if not named and subprocess.run([COMMAND, "--is-built"]).returncode != 0:
+    if named:
+        print(f"The variable WQD names the program {named}: nobody checks whether it is proved.", file=sys.stderr)
+    elif subprocess.run([COMMAND, "--is-built"]).returncode != 0:
         if subprocess.run([COMMAND, "--build"]).returncode != 0:
             sys.exit(1)
     return Path(named or TOP / "crates" / "wqd" / "out" / "wqd").read_bytes()
 
 
 def files(prefix: str) -> List[File]:
-    """The files for a prefix."""
+    """The files for a prefix. One that the unit cannot name is refused before anything is built."""
+    made_unit = unit(prefix)
     return [
         File("bin/wqd", 0o755, (HEAD.format(version=version()) + text("contrib/command.sh") + TAIL).encode()),
         File("bin/wq", 0o755, archive(["wq", "wqprogram", "wqclient"], WQ_MAIN)),
@@ -89,7 +95,7 @@ def files(prefix: str) -> List[File]:
         File("share/man/man1/wq.1", 0o644, wq_manual().encode()),
         File("share/man/man1/wqasm.1", 0o644, wqasm_manual().encode()),
         *(File(f"share/man/man7/{name}.7", 0o644, reference_manual(name).encode()) for name in REFERENCE),
-        File("share/systemd/user/wqd.service", 0o644, unit(prefix).encode()),
+        File("share/systemd/user/wqd.service", 0o644, made_unit.encode()),
         File("share/bash-completion/completions/wq", 0o644, completion.bash().encode()),
         File("share/zsh/site-functions/_wq", 0o644, completion.zsh().encode()),
         File("share/fish/vendor_completions.d/wq.fish", 0o644, completion.fish().encode()),
@@ -114,15 +120,27 @@ def text(path: str) -> str:
 
 
 def archive(packages: List[str], main: str) -> bytes:
-    """A tool as one file: an archive of its packages, of which Python runs this text. It is the same on every machine."""
-    written = io.BytesIO(b"#!/usr/bin/env python3\n")
+    """A tool as one file: an archive of its packages, of which Python runs this text. Beside each module is what this
+    Python compiled from it, and a Python of another version takes the module itself."""
+    written = io.BytesIO(b"#!/usr/bin/env -S python3 -I\n")
     written.seek(0, io.SEEK_END)
     with zipfile.ZipFile(written, "a") as found:
         for package in packages:
             for module in sorted((TOP / "clients" / package).glob("*.py")):
-                found.writestr(zipfile.ZipInfo(f"{package}/{module.name}"), module.read_bytes())
+                path = f"{package}/{module.name}"
+                found.writestr(zipfile.ZipInfo(path), module.read_bytes())
+                found.writestr(zipfile.ZipInfo(f"{path}c"), compiled(module, path))
         found.writestr(zipfile.ZipInfo("__main__.py"), main)
     return written.getvalue()
+
+
+def compiled(module: Path, shown: str) -> bytes:
+    """What Python compiles from a module. Errors name it by the path that is shown."""
+    with tempfile.TemporaryDirectory() as room:
+        made = os.path.join(room, "made")
+        mode = py_compile.PycInvalidationMode.UNCHECKED_HASH
+        py_compile.compile(str(module), made, shown, doraise=True, invalidation_mode=mode)
+        return Path(made).read_bytes()
 
 
 def server_manual() -> str:
@@ -145,12 +163,12 @@ def without(page: str, heading: str) -> str:
 
 def wq_manual() -> str:
     summary = "asks wqd which files match and which changed, and runs commands on changes"
-    return manual.page(text("docs/WQ.md"), "wq", 1, summary, version(), wq_words.USAGE)
+    return manual.page(text("docs/WQ.md"), "wq", 1, summary, version(), WQ_USAGE, examples.markdown())
 
 
 def wqasm_manual() -> str:
     summary = "writes, reads, explains and tries programs for wqd"
-    usage = subprocess.run([sys.executable, str(TOP / "clients" / "wqasm"), "--help"], stdout=subprocess.PIPE, check=True)
+    usage = subprocess.run([sys.executable, "-I", str(TOP / "clients" / "wqasm"), "--help"], stdout=subprocess.PIPE, check=True)
     return manual.page(text("docs/WQASM.md"), "wqasm", 1, summary, version(), usage.stdout.decode())
 
 

@@ -1,14 +1,16 @@
 """A page of man, in the macros `man` of roff, from a page of docs/ in Markdown.
 
 Of Markdown it knows what these pages have: headings, paragraphs, lists with `-`, blocks of code, tables, and within a line
-code, bold and slanted text and links. A table becomes a list: each row has its first cell as a tag, and the others below.
-Comments and lists of links are left out.
+code, bold and slanted text and links. A narrow table stays one. A wide one becomes a list: each row has its first cell as a
+tag, and the others below. Comments and lists of links are left out.
 """
 
 import re
 from typing import Callable, Dict, Iterator, List, Tuple
 
 COMMENT = re.compile(r"<!--.*?-->", re.DOTALL)
+# What marks code, bold and slanted text.
+MARKS = re.compile(r"[`*]")
 LINK = re.compile(r"\[([^\]]*)\]\(([^)]*)\)")
 # The parts of a line: code, bold, slanted, a link.
 INLINE = re.compile(r"`([^`]+)`|\*\*(.+?)\*\*|\*([^* ][^*]*)\*|" + LINK.pattern)
@@ -24,18 +26,31 @@ PAGES = {
 }
 # Lines are not stretched, and words are not cut: most are code.
 LAYOUT = [".ad l", ".nh"]
+# Code of so many letters may be too long for a line.
+LONG = 40
 ESCAPES = {"\\": "\\e", "-": "\\-", "'": "\\(aq", "`": "\\(ga", "^": "\\(ha", "~": "\\(ti"}
 
 
-def page(text: str, name: str, section: int, summary: str, version: str, synopsis: str = "") -> str:
-    """The page of man. Its synopsis, if it has one, is shown as it is."""
+# So many columns a block of code has at a terminal of 80.
+COLUMNS = 71
+
+
+def page(text: str, name: str, section: int, summary: str, version: str, usage: str = "", more: str = "") -> str:
+    """The page of man. Its synopsis is the front of the usage that the command prints. More sections, in Markdown, come
+    after those of the page."""
     lines = [f'.TH {name.upper()} {section} "" "wqd {version}" ""', *LAYOUT, ".SH NAME", f"{name} \\- {prose(summary)}"]
-    if synopsis:
-        lines += [".SH SYNOPSIS", *block(synopsis.rstrip("\n").split("\n"))]
-    lines += [".SH DESCRIPTION", *body(COMMENT.sub("", text).split("\n"))]
+    if usage:
+        lines += [".SH SYNOPSIS", *block(synopsis(usage))]
+    lines += [".SH DESCRIPTION", *body(COMMENT.sub("", text + more).split("\n"))]
     others = [other for other in PAGES.values() if other != f"{name}({section})"]
     lines += [".SH SEE ALSO", *(f".B {other}" for other in others)]
     return "\n".join(lines) + "\n"
+
+
+def synopsis(usage: str) -> List[str]:
+    """The lines of a usage up to the first blank one, without the word before them."""
+    front = usage.split("\n\n")[0].rstrip("\n").split("\n")
+    return [line[len("usage: "):] for line in front]
 
 
 def body(lines: List[str]) -> Iterator[str]:
@@ -92,18 +107,29 @@ def item(lines: List[str]) -> List[str]:
 
 
 def block(lines: List[str]) -> List[str]:
-    return [".PP", ".RS 4", ".nf", *(at_start(plain(line)) for line in lines), ".fi", ".RE"]
+    return [".PP", ".RS 2", ".nf", *(at_start(plain(line)) for line in lines), ".fi", ".RE"]
 
 
 def table(lines: List[str]) -> Iterator[str]:
     header, _, *rows = [[cell.strip() for cell in line.strip()[1:-1].split("|")] for line in lines]
+    aligned = narrow([header, *rows]) if len(header) > 2 else []
+    if aligned:
+        yield from block(aligned)
+        return
     for tag, *cells in rows:
         yield from (".TP", prose(tag) or "\\&")
-        named = [(name, cell) for name, cell in zip(header[1:], cells) if cell]
-        if len(header) == 2:
-            named = [("", cell) for _, cell in named]
-        texts = [prose(f"{name}: {cell}" if name else cell) for name, cell in named] or ["\\&"]
+        # The second cell says what the row is, and each further one what its column is called.
+        named = [cells[0], *(f"{name.capitalize()}: {cell}" for name, cell in zip(header[2:], cells[1:]) if cell)]
+        texts = [prose(cell) for cell in named if cell] or ["\\&"]
         yield from "\n.br\n".join(texts).split("\n")
+
+
+def narrow(rows: List[List[str]]) -> List[str]:
+    """The lines of a table whose columns fit beside each other; none if they do not."""
+    texts = [[MARKS.sub("", LINK.sub(lambda found: found[1], cell)) for cell in row] for row in rows]
+    widths = [max(map(len, column)) for column in zip(*texts)]
+    lines = ["  ".join(cell.ljust(width) for cell, width in zip(row, widths)).rstrip() for row in texts]
+    return lines if max(map(len, lines)) <= COLUMNS else []
 
 
 WRITERS: Dict[str, Callable[[List[str]], object]] = {
@@ -129,13 +155,19 @@ def prose(text: str) -> str:
 def marked(found: "re.Match[str]") -> str:
     code, bold, slanted, words, target = found.groups()
     if code is not None:
-        return f"\\fB{plain(code)}\\fR"
+        written = plain(code)
+        return f"\\fB{written if len(code) < LONG else breaking(written)}\\fR"
     if bold is not None:
         return f"\\fB{escaped(bold.replace('`', ''))}\\fR"
     if slanted is not None:
         return f"\\fI{escaped(slanted)}\\fR"
     other = target.rpartition("/")[2].partition("#")[0]
-    return prose(PAGES.get(other, words) if words == other else words)
+    return prose(PAGES.get(other, words) if words in (other, other[:-len(".md")]) else words)
+
+
+def breaking(written: str) -> str:
+    """Code that may go on in another line after each comma."""
+    return written.replace(",", ",\\:")
 
 
 def plain(text: str) -> str:

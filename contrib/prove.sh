@@ -56,7 +56,9 @@ prove_copy() {
     told=0 done_weight=0 all_weight=0
     for crate in $(crates); do all_weight=$((all_weight + $(weight "$crate"))); done
     : > "$1/log"
-    (cd "$1" && exec rt ci) > "$1/log" 2>&1 &
+    # The kit's own temporary files have names that can be guessed, so they are in the copy too.
+    mkdir "$1/tmp" || return 1
+    (cd "$1" && TMPDIR="$1/tmp" exec rt ci) > "$1/log" 2>&1 &
     prover=$!
     while kill -0 "$prover" 2> /dev/null; do
         tell "$1"

@@ -9,7 +9,7 @@ _wqd() {
             --sockname) mapfile -t COMPREPLY < <(compgen -f -- "$word"); return ;;
             --start) choices=$(date +%s) ;;
             --pid) choices=$$ ;;
-            --interval) choices="1000 60000 600000" ;;
+            --interval) choices="100 1000 60000 600000" ;;
             --share) choices="5 10 25 50 100" ;;
             --workers) choices=1 ;;
             *) choices="--sockname --start --pid --interval --share --workers" ;;

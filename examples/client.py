@@ -1,4 +1,4 @@
-#!/usr/bin/env python3
+#!/usr/bin/env -S python3 -I
 """Prints the files below a directory, and after each Return that you press those that changed since. With a program file it
 prints only those for which the program says yes. The variable WQD_SOCK names the socket of the server; without it, it is the
 one at which `wqd serve` and `wq start` listen.
@@ -10,6 +10,7 @@ import base64
 import json
 import os
 import socket
+import struct
 import sys
 from pathlib import Path
 
@@ -20,6 +21,9 @@ class Client:
     def __init__(self, sockname: str) -> None:
         stream = socket.socket(socket.AF_UNIX)
         stream.connect(sockname)
+        _, user, _ = struct.unpack("3i", stream.getsockopt(socket.SOL_SOCKET, socket.SO_PEERCRED, struct.calcsize("3i")))
+        if user not in (os.getuid(), 0):
+            sys.exit(f"the server at {sockname} is that of user {user}")
         self.lines = stream.makefile("rw", encoding="utf-8")
 
     def ask(self, *command: object) -> dict:
@@ -36,11 +40,16 @@ def default_sockname() -> str:
     if os.environ.get("WQD_SOCK"):
         return os.environ["WQD_SOCK"]
     room = os.environ.get("XDG_RUNTIME_DIR", "")
-    if not (os.path.isdir(room) and os.stat(room).st_uid == os.getuid() and os.access(room, os.W_OK | os.X_OK)):
+    if not is_own(room, 0o022):
         room = os.path.join(os.environ.get("TMPDIR") or "/tmp", f"wqd-{os.getuid()}")
-        if os.path.lexists(room) and (os.lstat(room).st_uid != os.getuid() or os.lstat(room).st_mode & 0o077):
-            sys.exit(f"{room} is no directory of yours alone")
+        if os.path.islink(room) or not is_own(room, 0o077):
+            sys.exit(f"{room} is no directory of yours alone; `wq start` makes it, and starts a server")
     return os.path.join(room, "wqd.sock")
+
+
+def is_own(path: str, others: int) -> bool:
+    """Whether it is a directory of this user, in which others have none of these rights."""
+    return os.path.isdir(path) and os.stat(path).st_uid == os.getuid() and not os.stat(path).st_mode & others
 
 
 def main() -> None:

@@ -47,7 +47,7 @@ def script(bars: List[Bar], picture: Path) -> str:
     names = ", ".join(f'"{bar.name}" {place}' for place, bar in enumerate(reversed(bars)))
     return f"""set terminal svg size 800,{60 + 26 * len(bars)} font "sans,13" background "white"
 set output "{picture}"
-set title "how many times better than Watchman wqd is: the least and the greatest of the runs"
+set title "wqd beside Watchman, times better: median, least and greatest"
 set logscale x
 set grid x
 set ytics ({names})

@@ -1,7 +1,8 @@
-/* The walk by several threads that bench/walk_bench compares with. One walk finds the directories. Then 1, 2 and 4
- * threads draw these from one counter, and look at each entry: openat, getdents64 and statx by name. It keeps nothing,
- * and prints how many microseconds each took and how many entries it saw. */
+/* The walk by several threads that bench/walk_bench and bench/far compare with. One walk finds the directories. Then 1, 2
+ * and 4 threads, or those that further words say, draw these from one counter, and look at each entry: openat, getdents64
+ * and statx by name. It keeps nothing, and prints how many microseconds each took and how many entries it saw. */
 #define _GNU_SOURCE
+#include <dirent.h>
 #include <fcntl.h>
 #include <pthread.h>
 #include <stdatomic.h>
@@ -13,7 +14,7 @@
 #include <time.h>
 #include <unistd.h>
 
-enum { BLOCK = 65536, MOST_THREADS = 4 };
+enum { BLOCK = 65536, MOST_THREADS = 64 };
 
 struct entry {
   unsigned long long ino;
@@ -44,11 +45,11 @@ static void keep_below(const char *path, const char *name) {
 
 /* Looks at the entries of a directory. While the directories are not known yet, it keeps those that it finds. */
 static void look(const char *path, int is_first) {
-  int directory = open(path, O_RDONLY | O_DIRECTORY | O_CLOEXEC);
+  int directory = openat(AT_FDCWD, path, O_RDONLY | O_DIRECTORY | O_CLOEXEC);
   if (directory < 0) return;
   char block[BLOCK];
   long count, seen = 0;
-  while ((count = syscall(SYS_getdents64, directory, block, sizeof block)) > 0) {
+  while ((count = getdents64(directory, block, sizeof block)) > 0) {
     for (long at = 0; at < count;) {
       struct entry *entry = (struct entry *)(block + at);
       at += entry->length;
@@ -92,6 +93,10 @@ int main(int count, char **words) {
   if (count < 2) return 2;
   keep(strdup(words[1]));
   for (long at = 0; at < known; at++) look(directories[at], 1);
-  for (int threads = 1; threads <= MOST_THREADS; threads *= 2) walk(threads);
+  for (int at = 2; at < count; at++) {
+    int threads = atoi(words[at]);
+    if (threads >= 1 && threads <= MOST_THREADS) walk(threads);
+  }
+  for (int threads = 1; count == 2 && threads <= 4; threads *= 2) walk(threads);
   return 0;
 }

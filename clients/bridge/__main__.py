@@ -1,4 +1,4 @@
-"""Runs the bridge: python3 clients/bridge --help."""
+"""Runs the bridge: python3 -I clients/bridge --help."""
 
 import sys
 from pathlib import Path

@@ -7,6 +7,7 @@ from typing import Dict, List, NamedTuple, Optional
 
 from bridge.sockets import server_of, sockname_by_default
 from bridge.version import VERSION
+from wqclient.harmless import harmless_json, harmless_lines
 from wqclient.lines import Ended, Lines
 from wqclient.sockets import is_listened_on
 
@@ -67,6 +68,8 @@ def main(arguments: List[str], home: str) -> None:
         run(words, home)
     except KeyboardInterrupt:
         sys.exit(130)
+    except SystemExit as end:
+        sys.exit(harmless_lines(end.code) if isinstance(end.code, str) else end.code)
     except Unwritten as fault:
         if not isinstance(fault.__cause__, BrokenPipeError):
             print(f"watchman: standard output: {fault}", file=sys.stderr)
@@ -219,6 +222,8 @@ class Printer:
     def in_json(self, reply: Dict[str, object]) -> bytes:
         separators = (",", ": ") if self.indent else (",", ":")
         text = json.dumps(reply, indent=self.indent, separators=separators, ensure_ascii=False)
+        if sys.stdout.isatty():
+            text = harmless_json(text)
         return text.encode("utf-8", "surrogateescape") + b"\n"
 
     def in_bser(self, reply: Dict[str, object]) -> bytes:

@@ -1,6 +1,7 @@
 """Settings that users wrote for Watchman: the file `.watchmanconfig` of a root, and the file of the whole system."""
 
 import json
+import math
 import os
 import threading
 from typing import Callable, Dict, List, Optional
@@ -8,6 +9,7 @@ from typing import Callable, Dict, List, Optional
 from bridge.expressions import Term
 from bridge.faults import Refused
 from bridge.filesystems import kind_of
+from wqclient.files import bytes_of
 
 OF_A_ROOT = ".watchmanconfig"
 # The variable names the file of the system, as for Watchman; Debian's Watchman reads this one without it.
@@ -16,6 +18,8 @@ OF_THE_SYSTEM_BY, OF_THE_SYSTEM = "WATCHMAN_CONFIG_FILE", "/etc/watchman.json"
 OF_SOURCE_CONTROL = (".git", ".svn", ".hg")
 ROOT_FILES = (OF_A_ROOT, ".hg", ".git", ".svn")
 ADVICE = "relocate the dir to an allowed filesystem type"
+# A longer file, and one with a longer number, holds no settings. A number counts as at most a day of milliseconds.
+LONGEST, MOST_DIGITS, MOST_NUMBER = 1_048_576, 18, 86_400_000
 FORBIDDEN = ("Your watchman administrator has configured watchman to prevent watching this path.  None of the files listed in "
              "global config root_files are present and enforce_root_files is set to true")
 
@@ -23,14 +27,27 @@ FORBIDDEN = ("Your watchman administrator has configured watchman to prevent wat
 def read(path: str, say: Callable[[str], None]) -> Dict[str, object]:
     """The object that a file holds. One that is not there, or holds none, is as an empty one."""
     try:
-        with open(path, "rb") as file:
-            found = json.loads(file.read().decode("utf-8"))
+        text = bytes_of(path, LONGEST).decode("utf-8")
+        found = json.loads(text, parse_int=integer_of, parse_float=float_of, parse_constant=float_of)
     except FileNotFoundError:
         return {}
     except (OSError, ValueError, RecursionError) as error:
         say(f"{json.dumps(path)} is not read: {error}")
         return {}
     return found if isinstance(found, dict) else {}
+
+
+def integer_of(digits: str) -> int:
+    if len(digits) > MOST_DIGITS:
+        raise ValueError(f"a number has over {MOST_DIGITS} digits")
+    return int(digits)
+
+
+def float_of(text: str) -> float:
+    value = float(text)
+    if not math.isfinite(value):
+        raise ValueError(f"a number is {value}")
+    return value
 
 
 def texts_in(value: object) -> List[str]:
@@ -53,7 +70,7 @@ class Configuration:
 
     def number(self, key: str) -> int:
         value = self.settings.get(key, 0)
-        return value if isinstance(value, int) and not isinstance(value, bool) and value > 0 else 0
+        return min(value, MOST_NUMBER) if isinstance(value, int) and not isinstance(value, bool) and value > 0 else 0
 
     def is_true(self, key: str) -> bool:
         return self.settings.get(key) is True
@@ -81,10 +98,14 @@ class Configurations:
         self.system = read(os.environ.get(OF_THE_SYSTEM_BY) or OF_THE_SYSTEM, say)
 
     def of(self, root: str) -> Configuration:
+        """The settings of a root. No other session waits while they are read."""
         with self.lock:
-            if root not in self.roots:
-                self.roots[root] = Configuration(root, read(os.path.join(root, OF_A_ROOT), self.say))
-            return self.roots[root]
+            found = self.roots.get(root)
+        if found is None:
+            found = Configuration(root, read(os.path.join(root, OF_A_ROOT), self.say))
+            with self.lock:
+                found = self.roots.setdefault(root, found)
+        return found
 
     def forget(self, root: str) -> None:
         with self.lock:

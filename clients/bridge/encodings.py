@@ -9,14 +9,18 @@ from typing import Dict, Iterable, List, NamedTuple, Optional, cast
 
 from bridge.cutting import ESCAPED, Column
 from bridge.faults import Ended
-from bridge.shape import INTEGER_SIZES, NoValue, TooDeep, Walk
+from bridge.held import Held
+from bridge.shape import INTEGER_SIZES, NoValue, TooDeep, TooMany, Walk
 
 # The distribution keeps its packages for Python here, and another Python than its own does not look there.
 DISTRIBUTION = "/usr/lib/python3/dist-packages"
 CODECS = ("pywatchman.bser", "pywatchman.pybser")
 MISSING = "BSER is not spoken here, since this Python has no pywatchman; Debian has it as python3-pywatchman"
-# No message of a client is longer.
-LONGEST = 33_554_432
+# No message of a client is longer. The server takes lines of an eighth of that.
+LONGEST = 8_388_608
+# So many bytes of each client are kept whatever the others send, so an ordinary message finds its place.
+SMALL = 65_536
+FULL = "the bridge keeps as much of its clients' messages as it may"
 
 MAGIC = {b"\x00\x01": 1, b"\x00\x02": 2}
 # A message begins with the two bytes of MAGIC, in BSER 2 four bytes of capabilities, and its length as a BSER integer.
@@ -162,17 +166,31 @@ def column_in_json(column: Column) -> List[bytes]:
 class Inbox:
     """Cuts what a client sends into messages. Each may have another encoding."""
 
-    def __init__(self, codec: Optional[ModuleType]) -> None:
+    def __init__(self, codec: Optional[ModuleType], share: Held) -> None:
         self.codec = codec
+        self.share = share
+        # So many bytes are counted in the share: those over SMALL of `held`, and of the message that is answered now.
+        self.counted = 0
         self.held = bytearray()
         # So many bytes of `held` have no newline.
         self.looked = 0
 
     def add(self, data: bytes) -> None:
+        more = max(0, len(self.held) + len(data) - SMALL - self.counted)
+        if not self.share.take(more):
+            raise Ended(FULL)
+        self.counted += more
         self.held += data
 
+    def keep(self, length: int) -> None:
+        """Counts so many bytes of this client from now on, but for the small part."""
+        count = max(0, length - SMALL)
+        self.share.give(self.counted - count)
+        self.counted = count
+
     def take(self) -> Optional[Message]:
-        """The next message, if the whole of it is there."""
+        """The next message, if the whole of it is there. That before it is answered."""
+        self.keep(len(self.held))
         while self.held[:1] != b"\x00":
             line = self.line()
             if line is None:
@@ -204,6 +222,8 @@ class Inbox:
             raise Unreadable(encoding, "a text is not UTF-8, and wqd has no names that are not")
         except TooDeep:
             raise Unreadable(encoding, "the value is too deep")
+        except TooMany:
+            raise Unreadable(encoding, "the value has more values in it than a command can have")
         except (NoValue, ValueError, TypeError, LookupError, ArithmeticError, SystemError, MemoryError, struct.error) as error:
             raise Unreadable(encoding, f"this is no BSER: {error}")
 

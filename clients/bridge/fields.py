@@ -7,6 +7,7 @@ from typing import Callable, Dict, List, NamedTuple, Optional, cast
 
 from bridge.cutting import ESCAPED, Column, Columns
 from bridge.faults import Refused
+from wqclient.files import opened
 
 # The server knows these at the clock that it names.
 KEPT = ("name", "exists", "new", "size", "type", "cclock", "oclock", "mtime", "mtime_ms")
@@ -39,22 +40,14 @@ def times(letter: str) -> Dict[str, Look]:
 
 
 def sum_of_content(path: bytes, found: os.stat_result) -> Optional[str]:
-    """The SHA-1 of a regular file, and nothing of another."""
+    """The SHA-1 of a regular file, and nothing of another. It may have become one since it was looked at."""
     if not stat.S_ISREG(found.st_mode):
         return None
     total = hashlib.sha1()
-    with open(path, "rb", opener=opened_as_it_is) as file:
-        if not stat.S_ISREG(os.fstat(file.fileno()).st_mode):
-            return None
+    with open(path, "rb", opener=opened) as file:
         for piece in iter(lambda: file.read(PIECE), b""):
             total.update(piece)
     return total.hexdigest()
-
-
-def opened_as_it_is(path: str, flags: int) -> int:
-    """Opens a file that may have become a link or a pipe since it was looked at: a link is an error, and a pipe is not waited
-    for."""
-    return os.open(path, flags | os.O_NOFOLLOW | os.O_NONBLOCK)
 
 
 def target_of_link(path: bytes, found: os.stat_result) -> Optional[str]:

@@ -4,6 +4,7 @@ import os
 from typing import List, NamedTuple, Optional
 
 from bridge.faults import Refused
+from wqclient.files import is_of_own_user
 
 
 class Project(NamedTuple):
@@ -95,11 +96,11 @@ def lies_in(path: str, root: str) -> bool:
 
 def project_root(directory: str, root_files: List[str]) -> Optional[str]:
     """The directory above, or this one, that a file of a project is in. A file of the first kind counts however far above it
-    is."""
+    is, and one that another user made does not count."""
     for name in root_files:
         at = directory
         while True:
-            if os.path.lexists(os.path.join(at, name)):
+            if is_of_own_user(os.path.join(at, name)):
                 return at
             if at == "/":
                 break

@@ -8,7 +8,6 @@ import select
 import signal
 import socket
 import stat
-import struct
 import sys
 import threading
 import time
@@ -17,6 +16,7 @@ from typing import IO, List, Optional
 from bridge.commands import answer
 from bridge.configuration import Configurations
 from bridge.encodings import MISSING, find_codec
+from bridge.held import MOST_CLIENTS, Held
 from bridge.keeper import Keeper
 from bridge.notices import Mailboxes
 from bridge.recrawls import Recrawls
@@ -24,12 +24,14 @@ from bridge.running import Running
 from bridge.session import Session
 from bridge.states import States
 from bridge.symlinks import Follower
-from wqclient.sockets import is_listened_on, opened
+from wqclient.files import opened_as_own
+from wqclient.harmless import harmless
+from wqclient.lines import SUPERUSER, peer_of
+from wqclient.sockets import is_listened_on
 
 GRACE = 1.0
 PAUSE = 0.2
 WAITING = 128
-SUPERUSER = 0
 
 
 def main(words: List[str]) -> None:
@@ -54,7 +56,7 @@ def seconds(text: str) -> float:
 
 
 def say(text: str) -> None:
-    print(f"bridge: {text}", file=sys.stderr, flush=True)
+    print(f"bridge: {harmless(text)}", file=sys.stderr, flush=True)
 
 
 class Serving:
@@ -67,6 +69,8 @@ class Serving:
         self.recrawls = Recrawls(self.configurations)
         self.states = States()
         self.mailboxes = Mailboxes()
+        self.messages = Held()
+        self.places = threading.Semaphore(MOST_CLIENTS)
         self.keeper = Keeper(server, grace, say, self.forget)
         self.follower = Follower(server, self.configurations, self.keeper, say)
         # A byte in this pipe ends the bridge.
@@ -103,7 +107,7 @@ class Serving:
         self.states.forget(root)
 
     def begin(self, listener: socket.socket) -> None:
-        """Begins the session of the client that waits, if it is one of the same user."""
+        """Begins the session of the client that waits, if it is one of the same user and there is a place."""
         try:
             client, _ = listener.accept()
         except OSError as error:
@@ -111,26 +115,27 @@ class Serving:
                 say(f"a client waits: {error.strerror}")
                 time.sleep(PAUSE)
             return
-        if user_of(client) not in (os.getuid(), SUPERUSER):
+        if peer_of(client).user not in (os.getuid(), SUPERUSER) or not self.places.acquire(blocking=False):
             client.close()
             return
         session = Session(self, client, self.codec, answer)
         try:
-            threading.Thread(target=session.run, daemon=True).start()
+            threading.Thread(target=self.serve, args=(session,), daemon=True).start()
         except RuntimeError as error:
             say(f"a client is not served: {error}")
             session.close()
+            self.places.release()
 
-
-def user_of(client: socket.socket) -> int:
-    size = struct.calcsize("3i")
-    _, user, _ = struct.unpack("3i", client.getsockopt(socket.SOL_SOCKET, socket.SO_PEERCRED, size))
-    return user
+    def serve(self, session: Session) -> None:
+        try:
+            session.run()
+        finally:
+            self.places.release()
 
 
 def locked(sockname: str) -> IO[str]:
     """The lock of the socket, which is held as long as the bridge runs, so that no other takes its name."""
-    file = open(f"{sockname}.lock", "w", opener=opened)
+    file = open(f"{sockname}.lock", "w", opener=opened_as_own)
     try:
         fcntl.flock(file, fcntl.LOCK_EX | fcntl.LOCK_NB)
     except BlockingIOError:

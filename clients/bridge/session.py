@@ -11,6 +11,7 @@ from bridge.configuration import Configurations
 from bridge.encodings import JSON, Broken, Inbox, Message, Unreadable, Writer
 from bridge.faults import Ended, Refused, of_server
 from bridge.fields import Lister
+from bridge.held import Held
 from bridge.link import Link, comes_by_itself
 from bridge.links import Links
 from bridge.listing import Listed, Listing, Passing, list_for
@@ -52,6 +53,7 @@ class Bridge(Protocol):
     follower: Follows
     configurations: Configurations
     mailboxes: Mailboxes
+    messages: Held
     recrawls: Recrawls
     running: Running
     states: States
@@ -78,7 +80,7 @@ class Session:
         self.client = client
         client.setsockopt(socket.SOL_SOCKET, socket.SO_SNDTIMEO, struct.pack("ll", PATIENCE, 0))
         self.has_bser = codec is not None
-        self.inbox = Inbox(codec)
+        self.inbox = Inbox(codec, bridge.messages)
         self.writer = Writer(codec)
         self.encoding = JSON
         self.ready = select.poll()
@@ -97,6 +99,7 @@ class Session:
 
     def close(self) -> None:
         self.client.close()
+        self.inbox.keep(0)
         self.links.close()
         for root, name in self.bridge.states.abandon(self):
             self.bridge.mailboxes.put(Notice(root, {"root": root, LEAVES: name, "abandoned": True}))
@@ -207,7 +210,7 @@ class Session:
     def listens(self) -> None:
         """From now on the client gets notices of others."""
         if self.mailbox is None:
-            self.mailbox = Mailbox()
+            self.mailbox = Mailbox(self.bridge.mailboxes.share)
             self.ready.register(self.mailbox, select.POLLIN)
             self.bridge.mailboxes.add(self.mailbox)
 

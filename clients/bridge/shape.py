@@ -1,6 +1,7 @@
 """Looks whether a BSER message holds one value, before the codec reads it.
 
-The codec is written in C, has no limit of depth, and makes room for as many values as a message claims.
+The codec is written in C, has no limit of depth, and makes room for as many values as a message claims. An object takes
+hundreds of times as much memory as the one byte that a template needs for it.
 """
 
 import sys
@@ -14,6 +15,8 @@ INTEGER_SIZES = {3: 1, 4: 2, 5: 4, 6: 8}
 FIXED_SIZES = {**INTEGER_SIZES, 0x07: 8, 0x08: 0, 0x09: 0, 0x0A: 0, 0x0C: 0}
 # The server takes no deeper lines.
 DEEPEST = 128
+# The server takes lines of 1,048,576 bytes, in which each value has at least one and a comma.
+MOST_VALUES = 524_288
 
 
 class NoValue(Exception):
@@ -22,6 +25,10 @@ class NoValue(Exception):
 
 class TooDeep(Exception):
     """The value has more arrays and objects in one another than the server takes."""
+
+
+class TooMany(Exception):
+    """The value has more values in it than a command can have."""
 
 
 class Group:
@@ -38,6 +45,8 @@ class Walk:
     def __init__(self, data: bytes, place: int) -> None:
         self.data = data
         self.place = place
+        # So many values were there, and are claimed to come.
+        self.values = 0
 
     def check(self) -> None:
         """Goes past one value, which has to be the last."""
@@ -69,14 +78,29 @@ class Walk:
         elif kind in TEXTS:
             self.skip(self.count())
         elif kind == ARRAY:
-            return Group(self.count())
+            return self.group(self.count())
         elif kind == OBJECT:
-            return Group(self.count(), has_keys=True)
+            return self.group(self.count(), has_keys=True)
         elif kind == TEMPLATE:
-            return Group(self.keys() * self.count())
+            return self.group(self.values_of_template())
         else:
             raise NoValue(f"no value begins with the byte {kind:02x}")
         return None
+
+    def group(self, count: int, has_keys: bool = False) -> Group:
+        self.values += count
+        if self.values > MOST_VALUES:
+            raise TooMany
+        return Group(count, has_keys)
+
+    def values_of_template(self) -> int:
+        """Goes past the head of a template, and says how many values it has: so many objects, each with all keys."""
+        keys, objects = self.keys(), self.count()
+        if objects and not keys:
+            raise NoValue(f"a template has no keys, and {objects} objects")
+        if keys * objects > len(self.data) - self.place:
+            raise NoValue(f"a template has {keys * objects} values, and {len(self.data) - self.place} bytes follow")
+        return keys * objects
 
     def keys(self) -> int:
         """Goes past the keys of a template, and says how many there are."""

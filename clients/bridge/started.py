@@ -31,7 +31,7 @@ def main() -> None:
     definition, sockname, names = json.loads(sys.argv[1]), sys.argv[2], sys.argv[3:]
     root, below = os.environ["WATCHMAN_ROOT"], definition.get("relative_root", "").strip("/")
     above = f"{below}/" if below else ""
-    command = [*definition["command"], *(name[len(above):] for name in names)]
+    command = [*definition["command"], *(as_argument(name[len(above):]) for name in names)]
     os.environ["WATCHMAN_SOCK"] = sockname
     if below:
         os.environ["WATCHMAN_RELATIVE_ROOT"] = os.path.join(root, below)
@@ -44,13 +44,18 @@ def main() -> None:
     os.execvp(command[0], command)
 
 
+def as_argument(name: str) -> str:
+    """The name as Watchman has it. But a command takes `-x` and `+x` for options, and `@x` for a file of options."""
+    return name if name[:1].isalnum() or name[:1] in "._/" else f"./{name}"
+
+
 def give_input(style: object, root: str, above: str) -> None:
     """Puts the names or the fields of the files in the place of the standard input."""
     if style == "/dev/null":
         return
     text = sys.stdin.buffer.read().decode("utf-8", "surrogateescape")
     if style == "NAME_PER_LINE":
-        text = "".join(f"{line[len(above):]}\n" for line in text.splitlines())
+        text = "".join(f"{line[len(above):]}\n" for line in text.split("\n") if line)
     else:
         text = json.dumps([row_of(found, style, root, above) for found in json.loads(text)], separators=(",", ":")) + "\n"
     number = os.memfd_create("input")

@@ -14,14 +14,13 @@ BRIDGE = os.path.dirname(os.path.realpath(__file__))
 
 
 class Start:
-    """The processes that are started for the socket of a bridge. The log is beside it."""
+    """The processes that are started for the socket of a bridge."""
 
     def __init__(self, sockname: str, home: str) -> None:
         self.sockname = sockname
         self.home = home
         self.given = os.environ.get("WQD_SOCK")
         self.server = server_of(sockname)
-        self.log = f"{sockname}.log"
 
     def start(self) -> None:
         try:
@@ -29,20 +28,17 @@ class Start:
                 if not is_listened_on(self.server):
                     self.start_server()
                 if not is_listened_on(self.sockname):
-                    words = [sys.executable, BRIDGE, "--server", self.server, "--sockname", self.sockname]
-                    begin(words, self.sockname, self.log, self.environment())
+                    words = [sys.executable, "-I", "-B", BRIDGE, "--server", self.server, "--sockname", self.sockname]
+                    begin(words, self.sockname, self.environment())
         except Unstarted as reason:
             sys.exit(f"watchman: {reason}")
 
     def start_server(self) -> None:
         if self.given:
             sys.exit(f"watchman: nobody listens on {self.given}, which the variable WQD_SOCK names")
-        words, share, interval = serve_words(self.server), os.environ.get("WQD_SHARE"), os.environ.get("WQD_INTERVAL")
-        if share:
-            words[words.index("--share") + 1] = share
-        if interval:
-            words += ["--interval", interval]
-        begin([self.program(), *words], self.server, self.log, self.environment())
+        values = {"--share": os.environ.get("WQD_SHARE"), "--interval": os.environ.get("WQD_INTERVAL")}
+        given = [word for option, value in values.items() if value for word in (option, value)]
+        begin([self.program(), *serve_words(self.server, given)], self.server, self.environment())
 
     def program(self) -> str:
         """The command wqd: that of the repository, which has to be built, or that which is installed beside this one."""

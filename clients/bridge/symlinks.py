@@ -1,5 +1,6 @@
 """Watches where the links of a root lead, if its configuration has `watch_symlinks`."""
 
+import contextlib
 import json
 import os
 import threading
@@ -55,15 +56,17 @@ class Follower:
                     self.say(f"links are not followed: {value['error']}")
         except Ended:
             pass
-        with self.lock:
-            self.link = None
-        link.close()
+        finally:
+            with self.lock:
+                self.link = None
+            link.close()
 
     def follow(self, root: str, names: Iterable[str]) -> None:
         """Watches the projects that these links of a root lead to."""
         targets: List[str] = []
+        seen: Set[str] = set()
         for name in names:
-            targets += targets_of(f"{root}/{name}", set())
+            targets += targets_of(f"{root}/{name}", seen)
         if not targets:
             return
         try:
@@ -101,17 +104,22 @@ class Follower:
 
 
 def targets_of(path: str, seen: Set[str]) -> List[str]:
-    """Where a path leads: the target of each link in it and behind it."""
-    if path in seen or path == "/":
-        return []
-    seen.add(path)
-    above = os.path.dirname(path)
-    try:
-        target = os.path.join(above, os.readlink(path))
-    except OSError:
-        return targets_of(above, seen)
-    try:
-        found = [os.path.join(real_path(os.path.dirname(target)), os.path.basename(target))]
-    except NotThere:
-        found = []
-    return found + targets_of(os.path.normpath(target), seen) + targets_of(above, seen)
+    """Where a path leads: the target of each link in it and behind it, however many there are. Paths that were seen before
+    are left out, since their targets are known."""
+    found: List[str] = []
+    left = [path]
+    while left:
+        path = left.pop()
+        if path in seen or path == "/":
+            continue
+        seen.add(path)
+        above = os.path.dirname(path)
+        left.append(above)
+        try:
+            target = os.path.join(above, os.readlink(path))
+        except OSError:
+            continue
+        left.append(os.path.normpath(target))
+        with contextlib.suppress(NotThere):
+            found.append(os.path.join(real_path(os.path.dirname(target)), os.path.basename(target)))
+    return found

@@ -3,8 +3,8 @@
 import argparse
 from typing import Any, Dict, List
 
-from .roots import Place
 from .terminal import OF_MARKS, name_shown, show
+from .values_shown import print_lists_as_json
 
 FIELDS = ["name", "exists", "new", "type"]
 File = Dict[str, Any]
@@ -22,6 +22,11 @@ def mark_of(file: File) -> str:
     return "-" if not file["exists"] else "+" if file["new"] else "~"
 
 
-def print_changes(files: List[File], place: Place, ending: str) -> None:
-    marked = ((mark_of(file), place.shown(file["name"])) for file in files)
+def print_changes(lists: List[Dict[str, Any]], options: argparse.Namespace) -> None:
+    """The changes of lists that a person is told."""
+    if options.json or options.lines:
+        print_lists_as_json(lists, options)
+        return
+    ending = "\0" if options.print0 else "\n"
+    marked = ((mark_of(file), file["name"]) for found in lists for file in found["files"])
     show((name_shown(f"{mark} {name}", OF_MARKS[mark], ending) for mark, name in marked), ending)

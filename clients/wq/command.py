@@ -9,8 +9,6 @@ from typing import Callable, Dict, List
 from .home import Home
 from .terminal import say
 from .trouble import BROKEN_PIPE, FAILED, FOUND, INTERRUPTED, Trouble, WrongWords
-from .vocabulary import meant
-from .words import FORMS, USAGE, read
 
 # The module of each command that is not named after it.
 MODULES: Dict[str, str] = {
@@ -38,39 +36,52 @@ def main(words: List[str], directory: str) -> int:
     except KeyboardInterrupt:
         return INTERRUPTED
     except BrokenPipeError:
-        # The reader of the output has gone. Nothing is to be written at the end either.
-        os.dup2(os.open(os.devnull, os.O_WRONLY), sys.stdout.fileno())
+        write_no_more()
         return BROKEN_PIPE
     except OSError as error:
+        write_no_more()
         say(f"{error.filename or 'output'}: {error.strerror or error}", "red")
         return FAILED
+
+
+def write_no_more() -> None:
+    """The output cannot be written, as when its reader has gone. Nothing is to be written at the end either."""
+    os.dup2(os.open(os.devnull, os.O_WRONLY), sys.stdout.fileno())
 
 
 def speak_utf8() -> None:
     """Names of files are UTF-8 to the server, whatever the locale is. Python has one encoding for a whole run."""
     if sys.getfilesystemencoding() != "utf-8":
-        os.execv(sys.executable, [sys.executable, "-X", "utf8", *sys.argv])
+        os.execv(sys.executable, [sys.executable, "-I", "-X", "utf8", *sys.argv])
 
 
 def run(words: List[str], home: Home) -> int:
     if not words:
         raise WrongWords("there is no command; `wq --help` says which there are")
     command = words[0]
+    # What a command does not need is not read.
     if command in ("--help", "-h", "help"):
+        from .usage import USAGE
         sys.stdout.write(USAGE)
         sys.stdout.flush()
         return FOUND
     if command == "--version":
         print(home.version().replace("wqd ", "wq ", 1) or "wq", flush=True)
         return FOUND
+    if command == "--names":
+        from .completing import print_names
+        return print_names(words[1:], home)
+    from .words import FORMS, read
     if command not in FORMS:
-        hint = meant(command, FORMS).replace('"', "")
+        from .foreign import COMMANDS
+        from .vocabulary import meant
+        hint = f"; use `wq {COMMANDS[command]}`" if command in COMMANDS else meant(command, FORMS).replace('"', "")
         raise WrongWords(f"there is no command {command}{hint}; `wq --help` says which there are")
     return function_of(command)(read(command, words[1:]), home)
 
 
 def function_of(command: str) -> Callable[..., int]:
-    """The function of a command. What the others need is not read."""
+    """The function of a command."""
     module = import_module(f".{MODULES.get(command, command)}", __package__)
     found: Callable[..., int] = getattr(module, command)
     return found

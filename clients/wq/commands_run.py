@@ -1,13 +1,17 @@
-"""A command that `wq run` starts: where the names of files go, and how a run ends."""
+"""A command that `wq run` starts: where the names of files go, and how it is started and ends."""
 
 import errno
 import os
 import signal
 import subprocess
 import tempfile
-from typing import IO, List, Optional, Set, Tuple
+from typing import IO, Dict, List, Optional, Set, Tuple
+
+from .names_handed import as_argument, batches
 
 PLACE = "{}"
+# A shell takes the names in place of `{}` from its own words.
+SHELL, NAMES_OF_SHELL = "/bin/sh", '"$@"'
 # As shells end if a command is not there, or cannot be started.
 NOT_FOUND, CANNOT_START = 127, 126
 
@@ -23,43 +27,31 @@ class Unrunnable(Exception):
 class Command:
     """The words of a command. The names take the place of the word `{}`, or come on standard input."""
 
-    def __init__(self, words: List[str], directory: str, on_input: bool, with_zeros: bool, is_alone: bool) -> None:
-        self.words = words
-        self.directory = directory
+    def __init__(self, words: List[str], on_input: bool, with_zeros: bool, is_alone: bool, by_shell: bool) -> None:
+        self.name = words[0].split()[0] if by_shell and words[0].split() else words[0]
+        self.words = shell_words(" ".join(words)) if by_shell else words
         self.on_input = on_input
         self.ending = "\0" if with_zeros else "\n"
         # Whether each run has a process group of its own, which a signal ends as a whole.
         self.is_alone = is_alone
-        self.name = words[0]
-        self.takes_names = on_input or PLACE in words
+        self.takes_names = on_input or PLACE in self.words
+        # Whether it may read the terminal.
+        self.has_terminal = not on_input and not is_alone
 
-    def start(self, names: List[str], signals: Set[signal.Signals]) -> "Run":
-        """Starts a run, which blocks these signals alone."""
-        paths = [self.path_of(name) for name in names]
-        words = [word for given in self.words for word in (paths if given == PLACE else [given])]
-        stream = self.input_of(paths)
-        try:
-            process = subprocess.Popen(words, stdin=stream, preexec_fn=lambda: prepare(self.is_alone, signals))
-            return Run(process, self.is_alone)
-        except OSError as error:
-            raise Unrunnable(*self.reason_of(error, len(names))) from None
-        finally:
-            if stream is not None:
-                stream.close()
+    def run(self, names: List[str], variables: Dict[str, str], signals: Set[signal.Signals]) -> "Run":
+        """A run that has not begun, which blocks these signals alone."""
+        paths = [as_argument(name) for name in names]
+        environment = {**os.environ, **variables}
+        parts = batches(paths, self.words, environment) if PLACE in self.words else [[]]
+        lines = [[word for given in self.words for word in (part if given == PLACE else [given])] for part in parts]
+        return Run(self, lines, paths, environment, signals)
 
-    def reason_of(self, error: OSError, count: int) -> Tuple[str, int]:
+    def reason_of(self, error: OSError) -> Tuple[str, int]:
         if isinstance(error, FileNotFoundError):
             return f"{self.name}: there is no such command", NOT_FOUND
         if error.errno == errno.E2BIG:
-            reason = f"the names of {count:,} files are too long for a command; take them on standard input, by --stdin"
-            return reason, CANNOT_START
+            return f"{self.name}: its words are too long for a command", CANNOT_START
         return f"{self.name}: {error.strerror}", CANNOT_START
-
-    def path_of(self, name: str) -> str:
-        """The name as the command finds it, which runs in the current directory. A dash at its front would be an
-        option."""
-        path = name if self.directory in (".", "") else os.path.join(self.directory, name)
-        return f"./{path}" if path.startswith("-") else path
 
     def input_of(self, paths: List[str]) -> "Optional[IO[bytes]]":
         """Standard input of a run, if it is not this command's own: its names, or nothing for a group of its own, which
@@ -72,6 +64,13 @@ class Command:
         return stream
 
 
+def shell_words(text: str) -> List[str]:
+    """The words of a shell that runs a text, in which `{}` is for the names."""
+    if PLACE not in text:
+        return [SHELL, "-c", text]
+    return [SHELL, "-c", text.replace(PLACE, NAMES_OF_SHELL), "sh", PLACE]
+
+
 def prepare(is_alone: bool, signals: Set[signal.Signals]) -> None:
     """Prepares the process of a run, before it becomes the command."""
     if is_alone:
@@ -80,39 +79,69 @@ def prepare(is_alone: bool, signals: Set[signal.Signals]) -> None:
 
 
 class Run:
-    """A run of the command."""
+    """A run of the command. If its names are too long for one process, several run one after the other."""
 
-    def __init__(self, process: "subprocess.Popen[bytes]", is_alone: bool) -> None:
-        self.process = process
-        self.is_alone = is_alone
+    def __init__(self, command: Command, lines: List[List[str]], paths: List[str], environment: Dict[str, str],
+                 signals: Set[signal.Signals]) -> None:
+        self.command = command
+        self.lines = lines
+        self.paths = paths
+        self.environment = environment
+        self.signals = signals
+        self.process: "Optional[subprocess.Popen[bytes]]" = None
         self.is_ending = False
+        # How the first process ended that did not end well.
+        self.fault = 0
+
+    def begin(self) -> None:
+        """Begins the next process. A signal that comes meanwhile is held back until the process can be ended for it."""
+        words, self.lines = self.lines[0], self.lines[1:]
+        before = signal.pthread_sigmask(signal.SIG_BLOCK, {signal.SIGHUP, signal.SIGINT, signal.SIGTERM})
+        stream = self.command.input_of(self.paths)
+        try:
+            self.process = subprocess.Popen(
+                words, stdin=stream, env=self.environment,
+                preexec_fn=lambda: prepare(self.command.is_alone, self.signals),
+            )
+        except OSError as error:
+            raise Unrunnable(*self.command.reason_of(error)) from None
+        finally:
+            if stream is not None:
+                stream.close()
+            signal.pthread_sigmask(signal.SIG_SETMASK, before)
 
     def has_ended(self) -> bool:
-        return self.process.poll() is not None
-
-    def code(self) -> int:
-        assert self.process.returncode is not None
-        return self.process.returncode
+        """Whether the last process has ended. After each of the others the next one begins."""
+        while self.process is None or self.process.poll() is not None:
+            if self.process is not None:
+                self.fault = self.fault or self.process.returncode
+            if not self.lines or self.is_ending or self.fault < 0:
+                return True
+            self.begin()
+        return False
 
     def status(self) -> int:
         """The status, as a shell says it: a signal counts from 128 on."""
-        return self.code() if self.code() >= 0 else 128 - self.code()
+        return self.fault if self.fault >= 0 else 128 - self.fault
 
-    def signal(self, number: int) -> None:
-        """Sends a signal to the run, and to all that it started if it has a group."""
+    def signal(self, number: int, to_all: bool = True) -> None:
+        """Sends a signal to the run, and to all that it started if it has a group and they are meant."""
+        if self.process is None:
+            return
         try:
-            if self.is_alone:
+            if self.command.is_alone and to_all:
                 os.killpg(self.process.pid, number)
             else:
                 self.process.send_signal(number)
         except ProcessLookupError:
             pass
 
-    def end_at_once(self, grace: float) -> None:
+    def end_at_once(self, number: int, grace: float) -> None:
         """Ends the run, since this command ends: a run that does not go by itself is killed."""
-        if self.has_ended():
+        self.is_ending = True
+        if self.process is None or self.has_ended():
             return
-        self.signal(signal.SIGTERM)
+        self.signal(number)
         try:
             self.process.wait(grace)
         except (subprocess.TimeoutExpired, KeyboardInterrupt):
@@ -120,9 +149,9 @@ class Run:
             self.process.wait()
 
 
-def status_words(code: Optional[int]) -> str:
+def status_words(code: int) -> str:
     """How a run ended, in words."""
-    if code is not None and code < 0:
+    if code < 0:
         try:
             return f"was ended by {signal.Signals(-code).name}"
         except ValueError:

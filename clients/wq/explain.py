@@ -4,6 +4,7 @@ import argparse
 import sys
 from typing import Any
 
+from wqclient.harmless import harmless
 from wqprogram.compiler import LONGEST_CODE, LONGEST_LIST, TooLarge, compiled
 from wqprogram.explainer import explained
 from wqprogram.errors import PROGRAM_TOO_LARGE
@@ -37,7 +38,7 @@ def explain(options: argparse.Namespace, home: Home) -> int:
         reason = f"the program would have {large.length + 1:,} instructions of {LONGEST_CODE:,}, or a list over " \
                  f"{LONGEST_LIST:,} texts"
         raise Trouble(PROGRAM_TOO_LARGE, reason) from None
-    show(["A file matches if", *lines_of(value, "  "), "", "Its program, whose cost is for a name of 4,096 bytes:"])
+    show(["A file matches if", *map(harmless, lines_of(value, "  ")), "", "Its program, whose cost is for a name of 4,096 bytes:"])
     write(explained(program).encode("utf-8"))
     return FOUND
 

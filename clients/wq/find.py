@@ -2,90 +2,68 @@
 
 import argparse
 import time
-from typing import Any, Dict, List
+from typing import Any, Dict, Iterator, List
 
-from .globs import expression_of, is_left_out
 from .home import Home
-from .roots import Place, directory_and_globs, place_of, require_utf8
+from .places import Places, directories_and_globs
+from .root_notes import KEPT, MOMENT
 from .server import Value, reached
+from .stored import query_of, require_no_other
 from .terminal import OF_KINDS, name_shown, show
-from .trouble import FOUND, NOTHING, WrongWords
-from .values_shown import json_line
+from .trouble import FOUND, NOTHING
+from .values_shown import print_lists_as_json
 
 ROW_FIELDS = ["name", "type", "size", "mtime_ms"]
 
 
 def find(options: argparse.Namespace, home: Home) -> int:
-    directory, globs = directory_and_globs(options.words)
-    require_no_other(options, globs)
+    if options.program is not None:
+        require_no_other(options, directories_and_globs(options.words)[1])
     with reached(home) as server:
-        watched = server.roots()
-        place = place_of(directory, watched)
-        query = query_of(place, globs, options)
-        query.update(server.watch(place.root, watched, stays=options.keep))
-        try:
-            found = server.ask("query", place.root, query)
-        finally:
-            if place.root not in watched and not options.keep:
-                server.give_back(place.root)
-    if options.program is not None and not options.all:
-        found["files"] = [file for file in found["files"] if not is_left_out(place.shown(name_of(file)))]
-    print_found(found, place, options)
-    return FOUND if found["files"] else NOTHING
+        with Places(server, options.words, options, KEPT if options.keep else MOMENT) as places:
+            asked = enumerate(queries(places, options))
+            lists = [places.told(number, places.ask(places.places[number], query)) for number, query in asked]
+    if options.each or options.batch:
+        from .for_each import run_for_all, run_for_each
+        names = [file["name"] for found in lists for file in found["files"]]
+        return run_for_each(options.each, names) if options.each else run_for_all(options.batch, names)
+    print_lists(lists, options)
+    return FOUND if any(found["files"] for found in lists) else NOTHING
 
 
-def require_no_other(options: argparse.Namespace, globs: List[str]) -> None:
-    """A program takes the place of an expression, so no word that becomes a part of one may be beside it."""
-    if options.program is None:
-        return
-    require_utf8(options.program, "--program")
-    others = [name for name in ("expression", "type", "ext", "size", "newer", "exclude") if getattr(options, name)]
-    if globs or others:
-        raise WrongWords("--program takes the place of globs, -t, -e, --size, --newer, --exclude and --expression; "
-                         "take them out")
+def queries(places: Places, options: argparse.Namespace) -> Iterator[Dict[str, Any]]:
+    fields = ROW_FIELDS if options.long else ["name"] if options.count else ["name", "type"]
+    if options.json and not options.long and not options.lines:
+        fields = ["name"]
+    for number, place in enumerate(places.places):
+        if options.program is None:
+            yield {"fields": fields, "expression": places.expression(number)}
+        else:
+            yield {"fields": fields, **query_of(place, places.globs, options)}
 
 
-def query_of(place: Place, globs: List[str], options: argparse.Namespace) -> Dict[str, Any]:
-    query: Dict[str, Any] = {"fields": ROW_FIELDS if options.long else ["name"] if options.count else ["name", "type"]}
-    if options.json and not options.long:
-        query["fields"] = ["name"]
-    if options.program is None:
-        query["expression"] = expression_of(place, globs, options)
-    else:
-        query["program"] = options.program
-        if place.below:
-            query["path"] = [place.below]
-    if not options.sync:
-        query["sync_timeout"] = 0
-    return query
-
-
-def name_of(file: Any) -> str:
-    return file["name"] if isinstance(file, dict) else file
-
-
-def print_found(found: Value, place: Place, options: argparse.Namespace) -> None:
+def print_lists(lists: List[Value], options: argparse.Namespace) -> None:
     ending = "\0" if options.print0 else "\n"
-    if options.json:
-        show([json_line(found)])
+    files = [file for found in lists for file in found["files"]]
+    if options.json or options.lines:
+        print_lists_as_json(lists, options)
     elif options.count:
-        show([str(len(found["files"]))])
+        show([str(len(files))])
     elif options.long:
-        show(rows_of(found["files"], place, ending), ending)
+        show(rows_of(files, ending), ending)
     else:
-        show((shown(file, place, ending) for file in found["files"]), ending)
+        show((shown(file, ending) for file in files), ending)
 
 
-def shown(file: Dict[str, Any], place: Place, ending: str) -> str:
-    return name_shown(place.shown(file["name"]), OF_KINDS.get(file["type"]), ending)
+def shown(file: Dict[str, Any], ending: str) -> str:
+    return name_shown(file["name"], OF_KINDS.get(file["type"]), ending)
 
 
-def rows_of(files: List[Dict[str, Any]], place: Place, ending: str) -> List[str]:
+def rows_of(files: List[Dict[str, Any]], ending: str) -> List[str]:
     """A row for each file: its kind, size, time and name."""
     width = max((len(str(file["size"])) for file in files), default=0)
     return [
-        f"{file['type']} {file['size']:>{width}} {time_of(file['mtime_ms'])} {shown(file, place, ending)}"
-        for file in files
+        f"{file['type']} {file['size']:>{width}} {time_of(file['mtime_ms'])} {shown(file, ending)}" for file in files
     ]
 
 

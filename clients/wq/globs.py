@@ -2,12 +2,13 @@
 out."""
 
 import argparse
+import functools
 import re
-import time
-from typing import Any, List
+from typing import Any, Iterator, List
 
+from .braces import all_expanded
+from .moments import second_of
 from .roots import Place
-from .term_faults import fault_in
 from .terminal import say
 from .trouble import Trouble, WrongWords
 from .values import read
@@ -19,27 +20,33 @@ LEFT_OUT = (".git", ".hg", "node_modules", "target")
 WITH_DOTS = {"includedotfiles": True}
 SPECIAL = "*?[\\"
 KINDS = "fdlbcpsD"
+NAMES_OF_KINDS = {
+    "file": "f", "dir": "d", "directory": "d", "link": "l", "symlink": "l", "block-device": "b", "char-device": "c",
+    "pipe": "p", "fifo": "p", "socket": "s",
+}
+HINTS_OF_KINDS = {"x": "; the server sees no permissions", "e": "; --size 0 is for empty ones"}
 SIZE = re.compile(r"([+-]?)([0-9]+)([bkKmMgGtT]?)(i?[bB])?")
 UNITS = {"": 0, "b": 0, "k": 1, "m": 2, "g": 3, "t": 4}
-AGE = re.compile(r"([0-9]+(?:\.[0-9]+)?)(s|m|min|h|d|w)")
-SECONDS = {"s": 1, "m": 60, "min": 60, "h": 3_600, "d": 86_400, "w": 604_800}
 
 
 def expression_of(place: Place, globs: List[str], options: argparse.Namespace) -> Any:
     """The expression; `true` if all files are asked for. The one that the user wrote comes last."""
-    front = f"{escaped(place.below)}/" if place.below else ""
-    parts: List[Any] = [["dirname", place.below]] if place.below else []
+    parts: List[Any] = [*depth_terms(place, options)]
+    if place.below and not parts:
+        parts.append(["dirname", place.below])
     if globs:
-        parts.append(any_of([glob_term(glob, front, place) for glob in globs]))
+        parts.append(any_of([glob_term(glob, place, options.ignore_case) for glob in all_expanded(globs)]))
     if options.type:
         parts.append(any_of([["type", letter] for letter in kinds_of(options.type)]))
     if options.ext:
-        parts.append(["suffix", [suffix_of(word) for word in options.ext]])
+        parts.append(["suffix", suffixes_of(options.ext)])
     if getattr(options, "size", None):
         parts.append(size_term(options.size))
     if getattr(options, "newer", None):
-        parts.append(["since", int(time.time()) - age_of(options.newer), "mtime"])
-    left_out = left_out_terms(front, place, options)
+        parts.append(["since", second_of(options.newer, "--newer"), "mtime"])
+    if getattr(options, "older", None):
+        parts.append(["not", ["since", second_of(options.older, "--older"), "mtime"]])
+    left_out = left_out_terms(place, options)
     if left_out:
         parts.append(["not", any_of(left_out)])
     if getattr(options, "expression", None) is not None:
@@ -47,6 +54,14 @@ def expression_of(place: Place, globs: List[str], options: argparse.Namespace) -
     if not parts:
         return "true"
     return parts[0] if len(parts) == 1 else ["allof", *parts]
+
+
+def restrictions(globs: List[str], options: argparse.Namespace) -> List[Any]:
+    """What restricts a list, in the same form however it was written."""
+    kinds = sorted(set(kinds_of(options.type))) if options.type else []
+    lists = [sorted(set(found or [])) for found in (all_expanded(globs), kinds, options.ext, options.exclude)]
+    return [*lists, options.all, options.ignore, options.gitignore, options.ignore_case, options.max_depth,
+            options.min_depth]
 
 
 def any_of(terms: List[Any]) -> Any:
@@ -58,83 +73,99 @@ def escaped(text: str) -> str:
     return "".join(f"\\{letter}" if letter in SPECIAL else letter for letter in text)
 
 
-def glob_term(glob: str, front: str, place: Place) -> Any:
+def front_of(place: Place) -> str:
+    """The front of a pattern for whole names below a directory."""
+    return f"{escaped(place.below)}/" if place.below else ""
+
+
+def depth_terms(place: Place, options: argparse.Namespace) -> Iterator[Any]:
+    """Terms for how deep below the directory a file lies: 1 is directly in it."""
+    for name, depth, relation in (("--max-depth", options.max_depth, "le"), ("--min-depth", options.min_depth, "ge")):
+        if depth is not None:
+            if depth < 1:
+                raise WrongWords(f"{name} takes a number from 1 on, which is what lies directly in the directory")
+            yield ["dirname", place.below, ["depth", relation, depth - 1]]
+
+
+def glob_term(glob: str, place: Place, ignores_case: bool = False) -> Any:
     """A glob without a slash is for the last part of a name, however deep. One with a slash is for the name below the
-    directory; a slash at its front says no more than that."""
+    directory; a slash or `./` at its front says no more than that."""
+    directory = f"{place.path().rstrip('/')}/"
+    match = "imatch" if ignores_case else "match"
     if glob.startswith("./"):
-        anchored = f"{quoted(glob)} is taken as {quoted(glob[1:])}, directly in the directory"
-        say(f"no name begins with \"./\", so {anchored}", "yellow")
         glob = glob[1:]
-    directory = f"{place.root.rstrip('/')}/{place.below}".rstrip("/") + "/"
-    if glob.startswith(directory) and len(glob) > len(directory):
+    elif glob.startswith(directory) and len(glob) > len(directory):
         glob = "/" + glob[len(directory):]
     if "/" not in glob:
-        warn(of_glob(glob, "the glob", False, False))
-        return ["match", glob, "basename", WITH_DOTS]
+        warn(of_glob(glob, "the glob", False, False, True))
+        return [match, glob, "basename", WITH_DOTS]
     glob = glob[1:] if glob.startswith("/") else glob
-    warn(of_glob(glob, "the glob", True, False))
-    return ["match", front + glob, "wholename", WITH_DOTS]
+    warn(of_glob(glob, "the glob", True, False, True))
+    return [match, front_of(place) + glob, "wholename", WITH_DOTS]
 
 
 def warn(sentences: Any) -> None:
     for sentence in sentences:
-        say(sentence.replace("at the glob: ", "the glob ", 1), "yellow")
+        note(sentence.replace("at the glob: ", "the glob ", 1))
 
 
-def kinds_of(word: str) -> List[str]:
-    letters = [letter for letter in word.replace(",", "") if letter]
+@functools.lru_cache(maxsize=None)
+def note(text: str) -> None:
+    """A warning. It comes once, however many directories there are."""
+    say(text, "yellow")
+
+
+def kinds_of(words: List[str]) -> List[str]:
+    """The letters of kinds, of which each may have its name."""
+    parts = [part for word in words for part in word.split(",") if part]
+    letters = [letter for part in parts for letter in NAMES_OF_KINDS.get(part, part)]
     for letter in letters:
         if letter not in KINDS:
             raise WrongWords("-t takes letters of f (file), d (directory), l (link), b, c, p, s and D, and not "
-                             f"{quoted(letter)}")
+                             f"{quoted(letter)}{HINTS_OF_KINDS.get(letter, '')}")
     if not letters:
         raise WrongWords("-t takes a letter: f (file), d (directory), l (link), b, c, p, s or D")
     return letters
 
 
+def suffixes_of(words: List[str]) -> List[str]:
+    return [suffix_of(part) for word in words for part in word.split(",")]
+
+
 def suffix_of(word: str) -> str:
     if word.startswith("."):
-        say(f"a suffix has no dot at its front: {quoted(word)} is taken as {quoted(word[1:])}", "yellow")
+        note(f"a suffix has no dot at its front: {quoted(word)} is taken as {quoted(word[1:])}")
         word = word[1:]
     if "." in word or "/" in word:
-        say(f"the suffix {quoted(word)} can match nothing: it is what follows the last dot; "
-            f"the glob {quoted('*.' + word)} finds such names", "yellow")
+        note(f"the suffix {quoted(word)} can match nothing: it is what follows the last dot; "
+             f"the glob {quoted('*.' + word)} finds such names")
     return word
 
 
 def size_term(word: str) -> List[Any]:
-    """`+1M` is at least so much, `-1M` at most, `1M` just that."""
+    """`+1M` is at least so much, `-1M` at most, `1M` just that. As GNU's tools have it, `k` and `KiB` are 1,024 bytes,
+    and `kB` is 1,000."""
     found = SIZE.fullmatch(word)
     if not found:
         raise WrongWords("--size takes a number with a unit, such as +1M (at least), -10k (at most) or 0, and not "
                          f"{quoted(word)}")
-    sign, digits, unit, _ = found.groups()
-    number = int(digits) * 1024 ** UNITS[unit.lower()]
+    sign, digits, unit, ending = found.groups()
+    number = int(digits) * (1_000 if ending in ("b", "B") else 1_024) ** UNITS[unit.lower()]
     if number > 2**62:
         raise WrongWords(f"--size takes a number up to 2^62 bytes, and not {quoted(word)}")
     return ["size", {"+": "ge", "-": "le", "": "eq"}[sign], number]
 
 
-def age_of(word: str) -> int:
-    """An age in seconds."""
-    found = AGE.fullmatch(word)
-    if not found:
-        raise WrongWords(f"--newer takes an age, such as 30s, 10m, 2h, 3d or 1w, and not {quoted(word)}")
-    seconds = int(float(found[1]) * SECONDS[found[2]])
-    if seconds > time.time():
-        raise WrongWords(f"--newer takes an age of at most {int(time.time() / 86_400)} days, and not {quoted(word)}")
-    return seconds
-
-
-def left_out_terms(front: str, place: Place, options: argparse.Namespace) -> List[Any]:
+def left_out_terms(place: Place, options: argparse.Namespace) -> List[Any]:
     """Terms of files to leave out: directories that people seldom mean, globs of --exclude, and all below them."""
+    front = front_of(place)
     terms: List[Any] = []
     if not options.all:
         terms.append(["name", list(LEFT_OUT)])
         # The directory itself may lie in one of them, and is asked for then.
         before = front if set(place.below.split("/")) & set(LEFT_OUT) else ""
         terms += [["match", f"{before}**/{name}/**", "wholename", WITH_DOTS] for name in LEFT_OUT]
-    for glob in options.exclude or []:
+    for glob in all_expanded(options.exclude or []):
         glob = glob.rstrip("/") or glob
         if "/" in glob:
             whole = front + (glob[2:] if glob.startswith("./") else glob[1:] if glob.startswith("/") else glob)
@@ -152,10 +183,11 @@ def is_left_out(name: str) -> bool:
 def user_expression(text: str) -> Any:
     """The expression that the user wrote. Its first fault is an error as the server's, with the place in what was
     written."""
+    from .term_faults import fault_in  # few write one
     value = read(text, "--expression")
     fault = fault_in(value)
     if fault is not None:
         raise Trouble(fault.error, fault.sentence)
     for sentence in of_term(value, "expression"):
-        say(sentence, "yellow")
+        note(sentence)
     return value

@@ -2,7 +2,7 @@
 
 import os
 import time
-from typing import List, NamedTuple, Optional, Set
+from typing import Dict, List, NamedTuple, Optional, Set, Tuple
 
 UNIT = "wqd.service"
 TICKS = os.sysconf("SC_CLK_TCK")
@@ -32,6 +32,54 @@ def facts_of(process: int) -> Optional[Facts]:
         )
     except (OSError, KeyError, ValueError, IndexError):
         return None
+
+
+def processor_seconds(process: int) -> float:
+    """The seconds of a processor that a process took, with all that it started."""
+    taken, children = processes()
+    found, wanted = 0.0, [process]
+    while wanted:
+        each = wanted.pop()
+        found += taken.get(each, 0.0)
+        wanted += children.get(each, [])
+    return found
+
+
+def children_of(process: int) -> List[int]:
+    return processes()[1].get(process, [])
+
+
+def processes() -> Tuple[Dict[int, float], Dict[int, List[int]]]:
+    """The seconds of a processor that each process took, and the children of each."""
+    taken: Dict[int, float] = {}
+    children: Dict[int, List[int]] = {}
+    for each in [int(name) for name in os.listdir("/proc") if name.isdigit()]:
+        try:
+            fields = text_of(each, "stat").rsplit(")", 1)[1].split()
+        except (OSError, IndexError):
+            continue
+        taken[each] = sum(map(int, fields[11:15])) / TICKS
+        children.setdefault(int(fields[1]), []).append(each)
+    return taken, children
+
+
+def state_of(process: int) -> str:
+    """The letter of the state of a process, such as S for one that sleeps; nothing if it is not there."""
+    return fields_of(process)[0]
+
+
+def own_processor_seconds(process: int) -> float:
+    """The processor time that a process took so far; nothing if it is not there."""
+    fields = fields_of(process)
+    return (int(fields[11]) + int(fields[12])) / TICKS if len(fields) > 12 else 0.0
+
+
+def fields_of(process: int) -> List[str]:
+    """The fields of /proc/PID/stat from the state on."""
+    try:
+        return text_of(process, "stat").rsplit(")", 1)[1].split()
+    except (OSError, IndexError):
+        return [""]
 
 
 def text_of(process: int, name: str) -> str:

@@ -1,7 +1,9 @@
 """Which root is watched for a directory: that of its project, so that ten directories of one project are one root."""
 
 import os
-from typing import List, NamedTuple, Optional, Tuple
+from typing import List, NamedTuple, Optional
+
+from wqclient.files import is_of_own_user
 
 from .trouble import WrongWords
 
@@ -10,29 +12,46 @@ SPECIAL = "*?["
 
 
 class Place(NamedTuple):
-    """A root, and a directory below it by its path from there; "" is the root itself."""
+    """A root, a directory below it by its path from there, "" for the root itself, and the text before the names of its
+    files: the directory as it was typed."""
 
     root: str
     below: str
+    front: str = ""
 
-    def shown(self, name: str) -> str:
+    def path(self) -> str:
+        return os.path.join(self.root, self.below) if self.below else self.root
+
+    def rest(self, name: str) -> str:
         """A name of the root, as it is from the directory on."""
         return name[len(self.below) + 1:] if self.below else name
+
+    def shown(self, name: str) -> str:
+        """A name of the root, as it is from where the directory was typed."""
+        return self.front + self.rest(name)
 
 
 def place_of(directory: str, watched: List[str]) -> Place:
     """The place of a directory that is there. The root is the nearest directory at or above it with a file of a
-    project; else the nearest one that is watched already; else itself."""
+    project, of this user or the superuser; else the nearest one that is watched already; else itself."""
     path = real_path(directory)
     above = [path]
     while above[-1] != "/":
         above.append(os.path.dirname(above[-1]))
     root = next((one for one in above if is_project(one)), None) or next((one for one in above if one in watched), path)
-    return Place(root, os.path.relpath(path, root) if path != root else "")
+    return Place(root, os.path.relpath(path, root) if path != root else "", front_of(directory))
+
+
+def front_of(directory: str) -> str:
+    """What comes before a name below a directory: nothing if that is the current one."""
+    front = directory.rstrip("/")
+    if not front:
+        return "/" if directory else ""
+    return "" if front == "." else f"{front}/"
 
 
 def is_project(path: str) -> bool:
-    return any(os.path.lexists(os.path.join(path, name)) for name in PROJECT_FILES)
+    return any(is_of_own_user(os.path.join(path, name)) for name in PROJECT_FILES)
 
 
 def real_path(directory: str) -> str:
@@ -68,19 +87,12 @@ def root_to_unwatch(word: str, watched: List[str]) -> Optional[str]:
     return None
 
 
-def directory_and_globs(words: List[str]) -> Tuple[str, List[str]]:
-    """The directory, if the first word is one, and the globs. Without a directory it is the current one."""
-    for word in words:
-        require_utf8(word, "a word of the command line")
-    if words and is_directory(words[0]):
-        return words[0], words[1:]
-    if words and os.path.isabs(words[0]) and not any(letter in words[0] for letter in SPECIAL):
-        real_path(words[0])
-    return ".", words
+def is_pattern(word: str) -> bool:
+    return any(letter in word for letter in SPECIAL)
 
 
 def is_directory(word: str) -> bool:
     try:
-        return os.path.isdir(word) and not (any(letter in word for letter in SPECIAL) and not os.path.lexists(word))
+        return os.path.isdir(word) and not (is_pattern(word) and not os.path.lexists(word))
     except ValueError:
         return False

@@ -3,21 +3,33 @@ name."""
 
 import contextlib
 import json
+import time
 from typing import Any, Dict, Iterator, List, Optional
 
 from wqclient.client import Client, json_of
-from wqclient.kept import ROOTS, keep, kept, run_of
 from wqclient.lines import Ended
 from wqclient.sockets import default_sockname
 
 from . import unproved
 from .home import Home
+from .root_notes import MOMENT, STAYS, Notes
 from .terminal import Progress, say
 from .trouble import NOTHING, Trouble
 
 Value = Dict[str, Any]
 A_SECOND = 1.0
-WENT = "the server has ended"
+TOO_MANY_ROOTS = "E13:"
+# So long the end of a command waits for a reply, since the server may hang.
+MOST_AT_END = 2.0
+# From so many roots on each search is noted, since one of 16 may have to make room soon.
+MANY_ROOTS = 8
+
+
+class Went(Trouble):
+    """The server has ended the connection."""
+
+    def __init__(self) -> None:
+        super().__init__("the server has ended")
 
 
 def sockname() -> str:
@@ -30,15 +42,18 @@ def sockname() -> str:
 class Server:
     """A server that listens, and one connection to it."""
 
-    def __init__(self, home: Home, starts: bool = True) -> None:
+    def __init__(self, home: Home, starts: bool = True, tells: bool = True) -> None:
         self.sockname = sockname()
         self.client = self.connected()
+        # Whether this call started it.
+        self.is_own = False
         if self.client is None and starts:
-            home.start(self.sockname)
+            self.is_own = home.start(self.sockname, tells=tells)
             self.client = self.connected()
         if self.client is None:
             raise Trouble(f"no server listens on {self.sockname}; `wq start` starts one", status=NOTHING)
         self.peer = self.client.peer()
+        self.notes = Notes(self.sockname, self.peer.process)
         if unproved.is_noted(self.sockname, self.peer.process):
             say(unproved.NOT_PROVED, "grey")
 
@@ -60,12 +75,10 @@ class Server:
         # A server that ends the session at a line that is too long has answered it before.
         with contextlib.suppress(BrokenPipeError, ConnectionResetError):
             self.client.send_bytes(line + b"\n")
-        progress = Progress(f"the server looks at all files below {crawls} for the first time") if crawls else None
+        progress = Progress(self.notes.look(crawls)) if crawls else None
         try:
             while True:
-                while progress and not self.client.has_line(A_SECOND):
-                    progress.tell()
-                found = self.client.line()
+                found = self.next_line(progress)
                 if b'"unilateral":true' not in found:
                     return found
                 value = json.loads(found)
@@ -73,25 +86,65 @@ class Server:
                     return found
                 self.client.lists.append(value)
         except Ended:
-            raise Trouble(WENT) from None
+            raise Went from None
         finally:
             if progress:
                 progress.end()
+
+    def next_line(self, progress: Optional[Progress]) -> bytes:
+        """The next line. While it does not come, a person is told how a first crawl goes on, or why nothing comes."""
+        silence = None
+        while True:
+            line = self.client.take()
+            if line is not None:
+                return line
+            if self.client.has_line(A_SECOND):
+                self.client.receive()
+                continue
+            if progress:
+                progress.tell()
+            if silence is None:
+                from .silence import Silence  # a reply is seldom late
+                silence = Silence(self.sockname, self.peer.process, A_SECOND)
+            sentence = silence.sentence(is_at_work=progress is not None)
+            if sentence:
+                if progress:
+                    progress.clear()
+                say(sentence, "yellow")
 
     def line_of_list(self) -> bytes:
         """The first list of a subscription, which comes after its reply at once."""
         try:
             return json_of(self.client.next_list())
         except Ended:
-            raise Trouble(WENT) from None
+            raise Went from None
 
     def ask(self, *command: Any, crawls: str = "") -> Value:
         """The reply to a command. An error is raised, with the line that names the culprit."""
-        found = self.reply(list(command), crawls)
+        return self.checked(list(command), self.reply(list(command), crawls))
+
+    def checked(self, command: List[Any], found: Value) -> Value:
+        """A reply that is no error."""
         if "error" in found:
             from .errors import culprits  # what is seldom needed is read only then
-            raise Trouble(found["error"], *culprits(found["error"], list(command), self.look))
+            raise Trouble(found["error"], *culprits(found["error"], command, self.look))
         return found
+
+    def ask_within(self, seconds: float, *command: Any) -> Value:
+        """A reply, which may be an error; nothing if it does not come within so many seconds."""
+        end = time.monotonic() + seconds
+        try:
+            self.client.send(*command)
+            while True:
+                line = self.client.take()
+                if line is None:
+                    if not self.client.has_line(max(0.0, end - time.monotonic())):
+                        return {}
+                    self.client.receive()
+                elif b'"unilateral":true' not in line:
+                    return json.loads(line)
+        except (Ended, OSError):
+            return {}
 
     def look(self, *command: Any) -> Value:
         """A reply for a sentence about an error; nothing if it is an error too."""
@@ -103,27 +156,37 @@ class Server:
     def roots(self) -> List[str]:
         return self.ask("watch-list")["roots"]
 
-    def watch(self, root: str, watched: List[str], stays: bool = True) -> Value:
+    def watch(self, root: str, watched: List[str], purpose: str = STAYS) -> Value:
         """Watches a root, and gives the keys with which a query knows all that there was when this was called. A root
-        that was not watched before was just listed, so nothing is crawled for the query. A root that is to stay is noted,
-        so that no other command gives it back that watched it for a moment."""
+        that was not watched before was just listed, so nothing is crawled for the query. If it is not to stay, and no
+        more roots may be watched, another one that need not stay is dropped for it."""
         is_new = root not in watched
-        self.ask("watch", root, crawls=root if is_new else "")
-        if stays:
-            self.note(root, run_of(self.peer.process))
+        command, crawls = ["watch", root], root if is_new else ""
+        found = self.reply(command, crawls)
+        while purpose != STAYS and found.get("error", "").startswith(TOO_MANY_ROOTS) and self.drops_one():
+            found = self.reply(command, crawls)
+        self.checked(command, found)
+        if is_new or purpose != MOMENT or len(watched) >= MANY_ROOTS:
+            self.notes.note(root, purpose, is_new)
         return {"sync_timeout": 0} if is_new else {}
 
-    def note(self, root: str, run: str) -> None:
-        with contextlib.suppress(OSError):
-            keep({"run": run}, ROOTS, self.sockname, root)
+    def drops_one(self) -> bool:
+        """Whether a root could be dropped: the one that was least lately asked of those that need not stay."""
+        for root in self.notes.droppable(self.roots()):
+            if self.look("trigger-list", root).get("triggers") == []:
+                self.unwatch(root)
+                say(f"{root} was asked about least lately, and is watched no longer: 16 roots may be", "yellow")
+                return True
+        return False
 
-    def give_back(self, root: str) -> None:
-        """Ends the watch of a root, unless another command noted that it is to stay."""
-        if kept(ROOTS, self.sockname, root).get("run") != run_of(self.peer.process):
-            self.look("watch-del", root)
+    def give_back(self, root: str, is_hurried: bool = False) -> None:
+        """Ends the watch of a root that was watched for a moment, unless another command needs it meanwhile."""
+        if self.notes.is_for_a_moment(root):
+            self.ask_within(0.0 if is_hurried else MOST_AT_END, "watch-del", root)
+            self.notes.forget(root)
 
     def unwatch(self, root: str) -> None:
-        self.note(root, "")
+        self.notes.forget(root)
         self.ask("watch-del", root)
 
     def close(self) -> None:

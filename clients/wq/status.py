@@ -1,17 +1,19 @@
 """`wq status`: the server's process, its roots, triggers and programs."""
 
 import argparse
-import shlex
 import sys
 import time
 from typing import Any, Dict, Iterator, List, Optional
 
+from wqclient.harmless import harmless
 from wqclient.kept import BUDGETS, kept, run_of
 
 from .home import Home
 from .processes import Facts, facts_of
 from .server import Server, reached
+from .server_log import Failures, Log
 from .terminal import painted, show
+from .triggers import command_of
 from .trouble import FOUND
 from .values_shown import json_shown
 
@@ -35,14 +37,15 @@ def status(options: argparse.Namespace, home: Home) -> int:
 def facts(server: Server, home: Home) -> Dict[str, Any]:
     # A client is one of the server's only when it was answered.
     programs = server.ask("program-list")["programs"]
-    process = facts_of(server.peer.process)
+    process, log = facts_of(server.peer.process), Log(server)
     return {
         "socket": server.sockname,
         "version": home.version(),
         "protocol": server.ask("version")["version"],
         "process": server.peer.process,
         **(process_facts(process) if process else {}),
-        "roots": [root_facts(server, root) for root in server.roots()],
+        "log": log.words(),
+        "roots": [root_facts(server, root, log) for root in server.roots()],
         "programs": [{"name": name, "budget": budget_of(server, name)} for name in programs],
     }
 
@@ -59,7 +62,7 @@ def process_facts(found: Facts) -> Dict[str, Any]:
     }
 
 
-def root_facts(server: Server, root: str) -> Dict[str, Any]:
+def root_facts(server: Server, root: str, log: Log) -> Dict[str, Any]:
     """The facts about a root: how long a crawl takes is measured by one."""
     began = time.monotonic()
     reply = server.reply(["clock", root, {"sync_timeout": 1}])
@@ -74,8 +77,14 @@ def root_facts(server: Server, root: str) -> Dict[str, Any]:
         "tick": int(reply["clock"].rsplit(":", 1)[1]),
         "crawl_seconds": round(took, 4),
         "changed_within": changed_within(server, root),
-        "triggers": server.look("trigger-list", root).get("triggers", []),
+        "left_out": dict(zip(("names", "directories"), log.left_out.get(root, (0, 0)))),
+        "triggers": [trigger_facts(one, root, log) for one in server.look("trigger-list", root).get("triggers", [])],
     }
+
+
+def trigger_facts(trigger: Dict[str, Any], root: str, log: Log) -> Dict[str, Any]:
+    failures = log.failures(root, trigger["name"])
+    return {**trigger, "failures": failures.count, "last_failure": failures.last}
 
 
 def changed_within(server: Server, root: str) -> Optional[int]:
@@ -108,6 +117,7 @@ def lines_of(found: Dict[str, Any]) -> Iterator[str]:
         yield row("processor", f"{found['processor_seconds']:.2f} s, {counted(found['threads'], 'thread')}")
         if found["clients"] is not None:
             yield row("clients", f"{found['clients']} beside this one, of at most 32")
+        yield row("log", found["log"])
     else:
         yield row("process", f"{found['process']}, of which the system tells nothing")
     for root in found["roots"]:
@@ -130,12 +140,18 @@ def root_lines(root: Dict[str, Any]) -> Iterator[str]:
     yield row("root", root["root"])
     yield row("", f"{files} and {directories}, tick {root['tick']}, a crawl takes {root['crawl_seconds']:.3f} s, "
                   f"last change {changed}")
+    for what, count in zip(("names that are not UTF-8", "directories that cannot be read"), root["left_out"].values()):
+        if count:
+            yield row("", f"left out: {what}: {count:,}", "yellow")
     for trigger in root["triggers"]:
-        yield row("", f"trigger {trigger['name']}: {shlex.join(trigger['command'])}")
+        yield row("", f"trigger {trigger['name']}: {command_of(trigger)}")
+        failures = Failures(trigger["failures"], trigger["last_failure"]).sentence()
+        if failures:
+            yield row("", f"  {failures}", "red")
 
 
 def row(head: str, text: str, colour: Optional[str] = None) -> str:
-    return painted(f"{head:<10}", "cyan" if head else None, sys.stdout) + painted(text, colour, sys.stdout)
+    return painted(f"{head:<10}", "cyan" if head else None, sys.stdout) + painted(harmless(text), colour, sys.stdout)
 
 
 def counted(count: int, noun: str) -> str:

@@ -1,24 +1,23 @@
 """Writes names, colours at a terminal, and the time that a first crawl takes."""
 
 import os
-import re
 import sys
 import time
 from typing import IO, Iterable, Optional
 
+from wqclient.harmless import harmless
+
 COLOURS = {"red": "31", "green": "32", "yellow": "33", "blue": "34", "cyan": "36", "grey": "90"}
 OF_KINDS = {"d": "blue", "l": "cyan"}
 OF_MARKS = {"+": "green", "-": "red", "~": "yellow"}
-# These could move the cursor of a terminal.
-CONTROL = re.compile(r"[\x00-\x1f\x7f-\x9f]")
 
 
 def say(text: str, colour: Optional[str] = None) -> None:
     """A line on standard error."""
     if sys.stderr is None:
         return
-    line = f"wq: {text}"
-    sys.stderr.buffer.write(painted(line, colour, sys.stderr).encode("utf-8", "surrogateescape") + b"\n")
+    line = f"wq: {harmless(text)}"
+    sys.stderr.buffer.write(painted(line, colour, sys.stderr).encode("utf-8", "backslashreplace") + b"\n")
     sys.stderr.buffer.flush()
 
 
@@ -45,10 +44,10 @@ def show(lines: Iterable[str], ending: str = "\n") -> None:
 
 
 def name_shown(name: str, colour: Optional[str], ending: str = "\n") -> str:
-    """A name as it is in the tree. At a terminal it has its colour, and control characters are shown as escapes."""
-    if ending != "\n" or not is_terminal(sys.stdout):
+    """A name as it is in the tree. At a terminal it has its colour, and escapes for what could do harm."""
+    if not is_terminal(sys.stdout):
         return name
-    return painted(CONTROL.sub(lambda found: f"\\x{ord(found[0]):02x}", name), colour, sys.stdout)
+    return painted(harmless(name), colour if ending == "\n" else None, sys.stdout)
 
 
 class Progress:
@@ -62,14 +61,18 @@ class Progress:
     def tell(self) -> None:
         seconds = time.monotonic() - self.began
         if is_terminal(sys.stderr):
-            print(f"\rwq: {self.subject}, {seconds:.0f} s so far ", end="", file=sys.stderr, flush=True)
+            print(f"\rwq: {harmless(self.subject)}, {seconds:.0f} s so far ", end="", file=sys.stderr, flush=True)
         elif not self.has_told:
             say(self.subject)
         self.has_told = True
 
+    def clear(self) -> None:
+        """Takes the line away that a terminal shows."""
+        if self.has_told and is_terminal(sys.stderr):
+            print("\r\x1b[K", end="", file=sys.stderr, flush=True)
+
     def end(self) -> None:
         if not self.has_told:
             return
-        if is_terminal(sys.stderr):
-            print("\r\x1b[K", end="", file=sys.stderr, flush=True)
+        self.clear()
         say(f"that took {time.monotonic() - self.began:.1f} s")

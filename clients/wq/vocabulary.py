@@ -1,7 +1,6 @@
 """The words of the protocol: commands with their arguments, keys of queries and triggers, fields; and what a wrong one
 meant."""
 
-import difflib
 import json
 from typing import Dict, Iterable, NamedTuple, Tuple
 
@@ -52,6 +51,7 @@ COMMANDS: Dict[str, Shape] = {
 
 def meant(word: object, words: Iterable[str]) -> str:
     """The word that was probably meant, as the end of a sentence; nothing if no word is like it."""
+    import difflib  # most words are right
     found = difflib.get_close_matches(str(word).lower(), list(words), 1)
     return f"; did you mean {json.dumps(found[0])}?" if found and found[0] != word else ""
 

@@ -100,7 +100,7 @@ def of_name(name: Any, place: str, scope: Any) -> Iterator[str]:
         yield from of_path(name, place)
 
 
-def of_glob(glob: Any, place: str, is_whole: bool, has_no_escape: bool) -> Iterator[str]:
+def of_glob(glob: Any, place: str, is_whole: bool, has_no_escape: bool, knows_braces: bool = False) -> Iterator[str]:
     if not isinstance(glob, str):
         return
     atoms = atoms_of(glob.encode(), Flags(wholename=is_whole, noescape=has_no_escape))
@@ -116,7 +116,7 @@ def of_glob(glob: Any, place: str, is_whole: bool, has_no_escape: bool) -> Itera
         yield nothing(place, glob, f"no name ends in a slash; {quoted(glob + '**')} is what lies below it")
     elif is_whole and "//" in glob:
         yield nothing(place, glob, "no name has two slashes side by side")
-    elif BRACES.search(glob):
+    elif not knows_braces and BRACES.search(glob):
         yield f"at {place}: {quoted(glob)} takes its braces as they are; write a pattern for each"
 
 

@@ -1,52 +1,30 @@
-"""The words of each command, which argparse reads, and the pages of help."""
+"""The options and other words of each command, which argparse reads, and the pages of help."""
 
 import argparse
 from typing import Any, Dict, List, NamedTuple, NoReturn, Tuple
 
 from .trouble import WrongWords
 
-USAGE = """\
-usage: wq COMMAND [WORD..]
-       wq COMMAND --help
-       wq --help | --version
-
-  find [DIR] [GLOB..]               names that match, one a line
-  since NAME [DIR] [GLOB..]         what changed since it was last asked under
-                                    this name: + came, - went, ~ changed
-  follow [DIR] [GLOB..]             changes as they come, until you stop it
-  run [DIR] [GLOB..] -- COMMAND..   runs a command now and after each change
-  status                            the server, its roots, triggers, programs
-  watch [DIR..]                     watches directories
-  unwatch [DIR..]                   gives their places back
-  roots                             the directories that are watched
-  trigger DIR NAME [GLOB..] -- COMMAND..
-                                    has the server run a command on changes
-  triggers [DIR]                    the triggers of a root
-  untrigger DIR NAME                takes a trigger out
-  ask LINE..                        lines of the protocol as they are; - reads
-                                    them from standard input
-  start, stop, restart              the server; a command that needs one
-                                    starts it
-  explain EXPRESSION                what an expression means, its program and
-                                    what that costs
-
-DIR is the current directory if it is left out. The root that is watched is
-the nearest directory at or above it with .git, .hg or .watchmanconfig, else
-DIR. A GLOB without a slash is for the last part of a name, as '*.c'; one with
-a slash is for the whole name below DIR, as 'src/**/*.c'. .git, .hg,
-node_modules and target are left out unless you say --all.
-
-The status is 0, or 1 if nothing is found, 2 for wrong words, 3 for an error,
-130 if you stop it.
-"""
 NEEDS_DASHES = ("run", "trigger")
+# The commands that take one word, and its name.
+ONE_WORD = {"triggers": "directory", "explain": "expression"}
+EXECUTING = {"-x": "each", "--exec": "each", "-X": "batch", "--exec-batch": "batch"}
+
+
+# How many columns a page of help has.
+COLUMNS = 78
 
 
 class Parser(argparse.ArgumentParser):
-    """Refuses wrong words in one line."""
+    """Refuses wrong words in one line. Its page of help ends with examples."""
 
     def error(self, message: str) -> NoReturn:
-        raise WrongWords(f"{message}; `{self.prog} --help` says which words there are")
+        raise WrongWords(f"{message}; see `{self.prog} --help`")
+
+    def format_help(self) -> str:
+        from .examples import lines_of
+        self.epilog = lines_of(self.prog.split()[1])
+        return super().format_help()
 
 
 class Option(NamedTuple):
@@ -65,21 +43,35 @@ def value(*names: str, help: str, metavar: str, **settings: Any) -> Option:
 
 
 ALL = flag("--all", help="leave nothing out, neither .git, .hg, node_modules and target nor directories that changed")
-NARROWING = [
-    value("-t", metavar="KINDS", dest="type", help="kinds of files: f file, d directory, l link, as -t f,d"),
-    value("-e", metavar="EXT", dest="ext", action="append", help="a suffix, as -e c; -e h beside it for either"),
-    value("--exclude", metavar="GLOB", action="append", help="leave out what fits, and all below it"),
+IGNORE_CASE = flag("--ignore-case", help="the case of A to Z does not count in globs")
+MAX_DEPTH = value("--max-depth", metavar="N", type=int, help="at most so deep; 1 is directly in DIR")
+OTHERS = [
+    value("-t", "--type", metavar="KINDS", dest="type", action="append",
+          help="kinds of files: f or file, d or dir, l or link, as -t f,d"),
+    value("-e", "--extension", metavar="EXT", dest="ext", action="append", help="suffixes, as -e c,h or -e c -e h"),
+    value("-E", "--exclude", metavar="GLOB", dest="exclude", action="append",
+          help="leave out what fits, and all below it"),
+    value("--min-depth", metavar="N", type=int, help="at least so deep"),
     ALL,
+]
+# To watchexec and entr, `-i` and `-d` are other things than to fd. So a command that runs another one has neither.
+NARROWING = [IGNORE_CASE, MAX_DEPTH, *OTHERS]
+SEARCHING = [Option(("-i", *IGNORE_CASE.names), {**IGNORE_CASE.settings, "dest": "ignore_case"}),
+             Option(("-d", *MAX_DEPTH.names), {**MAX_DEPTH.settings, "dest": "max_depth"}), *OTHERS]
+ABSOLUTE = flag("-a", "--absolute-path", dest="absolute", help="names from / on")
+IGNORING = [
+    Option(("--no-ignore",), {"dest": "ignore", "action": "store_false", "help": "lists also what git ignores"}),
+    flag("--gitignore", help="leaves out what .gitignore and .ignore say, also outside of repositories"),
 ]
 ZEROS = flag("-0", dest="print0", help="a byte 0 after each name in place of a newline")
 JSON = flag("--json", help="the reply of the server")
+LINES = flag("--lines", help="with --json, an object for each file, each on a line of its own")
 NUMBERS = [
-    value("--interval", metavar="MS", help="the pause between two rounds of crawls in milliseconds"),
+    value("--interval", metavar="MS", help="the pause between two rounds in milliseconds; 100 if left out"),
     value("--share", metavar="P", help="how much of one processor rounds may take at most, in percent; 10 if left out"),
     value("--workers", metavar="N", help="how many threads a query may use"),
 ]
 WORDS = value("words", metavar="WORD", nargs="*", default=[], help=argparse.SUPPRESS)
-NAME = value("name", metavar="NAME", help=argparse.SUPPRESS)
 DIRECTORY = value("directory", metavar="DIR", nargs="?", default=".", help="a directory of the root")
 
 
@@ -92,24 +84,38 @@ class Form(NamedTuple):
 
 
 FORMS: Dict[str, Form] = {
-    "find": Form("[DIR] [GLOB..]", "prints the names that match, one a line", [
-        *NARROWING, value("--size", metavar="SIZE", help="+1M at least, -10k at most, 0 exactly"),
-        value("--newer", metavar="AGE", help="modified within this time, as 30s, 10m, 2h, 3d, 1w"),
+    "find": Form("[DIR|GLOB..]", "prints the names that match, one a line", [
+        *SEARCHING, *IGNORING, ABSOLUTE,
+        value("--size", metavar="SIZE", 
+              help="+1M at least, -10k at most, 0 exactly; k is 1,024 bytes, kB is 1,000"),
+        value("--newer", "--changed-within", metavar="WHEN", dest="newer",
+              help="modified within this time, as 30s, 10min, 2h, 3d, 1w, or since a date, as 2026-11-28"),
+        value("--older", "--changed-before", metavar="WHEN", dest="older", help="modified before that"),
         value("--expression", metavar="JSON", help="an expression of the protocol, beside the other words"),
-        value("--program", metavar="NAME", help="a stored program, in place of the other words"),
-        flag("-l", dest="long", help="the kind, size, time and name of each"), ZEROS, JSON,
+        value("--program", metavar="NAME", help="a stored program; globs or -e beside it say which files it is asked about"),
+        flag("-l", dest="long", help="the kind, size, time and name of each"), ZEROS, JSON, LINES,
         flag("--count", help="how many there are"),
         Option(("--no-sync",), {"dest": "sync", "action": "store_false", "help": "as the last crawl saw it"}),
-        flag("--keep", help="goes on to watch a root that was not watched before"), WORDS]),
-    "since": Form("NAME [DIR] [GLOB..]", "prints what changed since it was last asked under this name", [
-        *NARROWING, ZEROS, JSON, flag("--peek", help="by the clock that the last call wrote; the name does not move"),
-        NAME, WORDS]),
-    "follow": Form("[DIR] [GLOB..]", "prints changes as they come, until you stop it", [
-        *NARROWING, ZEROS, JSON, WORDS]),
-    "run": Form("[DIR] [GLOB..] -- COMMAND..", "runs a command now and after each change; {} is for the names", [
-        *NARROWING,
+        flag("--keep", help="goes on to watch a root that was not watched before"),
+        value("-x", "--exec", metavar="CMD", dest="each",
+              help="runs CMD, which goes on to the end or to ;, for each name: {} is its place, {/} that of its last part, "
+                   "{//} of its directory, {.} and {/.} without a suffix"),
+        value("-X", "--exec-batch", metavar="CMD", dest="batch", help="runs CMD once, with all names"), WORDS]),
+    "since": Form("[NAME] [DIR|GLOB..]", "prints what changed since this was last asked, under a name or without", [
+        *SEARCHING, *IGNORING, ABSOLUTE, ZEROS, JSON, LINES,
+        flag("--peek", help="by the clock that the last call wrote; the name does not move"), WORDS]),
+    "follow": Form("[DIR|GLOB..]", "prints changes as they come, until you stop it", [
+        *SEARCHING, *IGNORING, ABSOLUTE, ZEROS, JSON, LINES, WORDS]),
+    "run": Form("[DIR|GLOB..] -- COMMAND..", "runs a command now and after each change; {} is for the names", [
+        *NARROWING, *IGNORING,
         value("--quiet", metavar="MS", type=int, default=100, help="a burst ends when it is so long quiet; 100"),
+        value("--delay", metavar="MS", type=int, default=0, help="waits so long before a run for a change"),
         flag("--restart", help="a change ends the running one by SIGTERM, and after 5 seconds by SIGKILL"),
+        value("--on-busy", metavar="HOW", help="what a change does to a running one: wait, restart, ignore, signal"),
+        value("--stop-signal", metavar="SIG", default="TERM", help="the signal of restart and signal, as INT; TERM"),
+        flag("--no-self", help="leaves out what changes while the command runs"),
+        flag("--shell", help="the words are a text for sh, in which {} is for the names"),
+        flag("--notify", help="the terminal says that a run ended, or rings"),
         flag("--once", help="ends after one run, with its status"),
         flag("--postpone", help="waits for the first change"),
         flag("--clear", help="clears the terminal before each run"),
@@ -119,13 +125,10 @@ FORMS: Dict[str, Form] = {
     "watch": Form("[DIR..]", "watches the projects of directories, and prints their roots", [WORDS]),
     "unwatch": Form("[DIR..]", "gives places of roots back, also of directories that are gone", [WORDS]),
     "roots": Form("", "prints the roots that are watched", [ZEROS, JSON]),
-    "trigger": Form("DIR NAME [GLOB..] -- COMMAND..", "has the server run a command in the root after changes", [
-        *NARROWING, flag("--stdin", help="the names are lines on its input; {} as its last word is for the names"),
-        value("directory", metavar="DIR", help=argparse.SUPPRESS), NAME,
-        value("globs", metavar="GLOB", nargs="*", default=[], help=argparse.SUPPRESS)]),
+    "trigger": Form("[DIR] NAME [GLOB..] -- COMMAND..", "has the server run a command in the root after changes", [
+        *NARROWING, flag("--stdin", help="the names are lines on its input; {} as its last word is for the names"), WORDS]),
     "triggers": Form("[DIR]", "prints the triggers of a root", [JSON, DIRECTORY]),
-    "untrigger": Form("DIR NAME", "takes a trigger out", [
-        value("directory", metavar="DIR", help=argparse.SUPPRESS), NAME]),
+    "untrigger": Form("[DIR] NAME", "takes a trigger out", [WORDS]),
     "ask": Form("LINE..", "sends lines of the protocol, and prints the replies", [WORDS]),
     "start": Form("", "starts a server, unless one listens", NUMBERS),
     "stop": Form("", "ends the server", []),
@@ -139,7 +142,8 @@ FORMS: Dict[str, Form] = {
 def parser_of(command: str) -> Parser:
     form = FORMS[command]
     usage = f"wq {command}{' [OPTION..]' if options_of(command) else ''} {form.usage}".rstrip()
-    parser = Parser(prog=f"wq {command}", usage=usage, description=form.about, allow_abbrev=False)
+    parser = Parser(prog=f"wq {command}", usage=usage, description=form.about, allow_abbrev=False,
+                    formatter_class=lambda prog: argparse.RawDescriptionHelpFormatter(prog, width=COLUMNS))
     for option in form.options:
         parser.add_argument(*option.names, **option.settings)
     return parser
@@ -152,7 +156,9 @@ def options_of(command: str) -> List[str]:
 
 def read(command: str, words: List[str]) -> argparse.Namespace:
     """The words of a command. Those after two dashes are the command that it runs, and else no options."""
+    refuse_foreign(command, words)
     rest: List[str] = []
+    words, commands = without_commands(command, words)
     if "--" in words:
         place = words.index("--")
         words, rest = words[:place], words[place + 1:]
@@ -162,7 +168,33 @@ def read(command: str, words: List[str]) -> argparse.Namespace:
         found = read_any_order(parser, command, words)
         found.command = rest
         return found
-    return read_any_order(parser, command, words, rest)
+    found = read_any_order(parser, command, words, rest)
+    for name, given in commands.items():
+        setattr(found, name, given)
+    return found
+
+
+def refuse_foreign(command: str, words: List[str]) -> None:
+    """Says what there is in place of an option that other tools have. argparse would take some for others."""
+    known = options_of(command)
+    for word in words:
+        if word == "--" or command == "find" and word in EXECUTING:
+            return
+        if word.startswith("-") and word.partition("=")[0] not in known:
+            from .foreign import hint
+            found = hint(command, word.partition("=")[0])
+            if found:
+                raise WrongWords(f"no option {word.partition('=')[0]}; {found}")
+
+
+def without_commands(command: str, words: List[str]) -> Tuple[List[str], Dict[str, List[str]]]:
+    """The words without the command of `-x` or `-X`, which goes on to the end or to a semicolon; and that command."""
+    end = words.index("--") if "--" in words else len(words)
+    place = next((place for place in range(end) if words[place] in EXECUTING), None)
+    if command != "find" or place is None or place + 1 == len(words):
+        return words, {}
+    last = words.index(";", place) if ";" in words[place:] else len(words)
+    return words[:place] + words[last + 1:], {EXECUTING[words[place]]: words[place + 1:last]}
 
 
 def with_joined_sizes(words: List[str]) -> List[str]:
@@ -177,9 +209,16 @@ def with_joined_sizes(words: List[str]) -> List[str]:
 
 
 def read_any_order(parser: Parser, command: str, words: List[str], rest: Any = ()) -> argparse.Namespace:
-    """Options may be before, between and after the other words."""
-    found, left = parser.parse_known_intermixed_args([*words, *(["--", *rest] if rest else [])])
+    """Options may be before, between and after the other words. The rest has none."""
+    found, left = parser.parse_known_intermixed_args(words)
     if left:
-        parser.error(f"there is no word {left[0]}")
+        is_option = left[0].startswith("-") and len(left[0]) > 1
+        parser.error(f"there is no option {left[0]}" if is_option else f"{command} takes no further words: {left[0]}")
+    for word in rest:
+        if hasattr(found, "words"):
+            found.words = [*found.words, word]
+        elif command in ONE_WORD and getattr(found, ONE_WORD[command]) == parser.get_default(ONE_WORD[command]):
+            setattr(found, ONE_WORD[command], word)
+        else:
+            parser.error(f"{command} takes no further words: {word}")
     return found
-

@@ -1,5 +1,6 @@
-"""A connection to a server, on which lines of bytes go both ways."""
+"""A connection to a server, on which lines of bytes go both ways. The server has to be one of this user or the superuser."""
 
+import errno
 import os
 import select
 import socket
@@ -10,6 +11,9 @@ from typing import List, NamedTuple, Optional
 SMALL = 65_536
 LARGE = 1_048_576
 CREDENTIALS = "3i"
+# No line of a server is longer: a list of 1,000,000 files has so many bytes if each takes 500.
+LONGEST = 536_870_912
+SUPERUSER = 0
 
 
 class Ended(Exception):
@@ -32,14 +36,21 @@ class Peer(NamedTuple):
     group: int
 
 
+def peer_of(stream: socket.socket) -> Peer:
+    found = stream.getsockopt(socket.SOL_SOCKET, socket.SO_PEERCRED, struct.calcsize(CREDENTIALS))
+    return Peer(*struct.unpack(CREDENTIALS, found))
+
+
 class Lines:
     """Sends bytes, and cuts what comes into lines. With a patience, in seconds, no wait is longer."""
 
     def __init__(self, sockname: str, patience: Optional[float] = None) -> None:
+        self.sockname = sockname
         self.patience = patience
         self.stream = socket.socket(socket.AF_UNIX, socket.SOCK_STREAM)
         try:
             self.stream.connect(os.fsencode(sockname))
+            self.require_own()
         except BaseException:
             self.stream.close()
             raise
@@ -60,8 +71,13 @@ class Lines:
         return self.stream.fileno()
 
     def peer(self) -> Peer:
-        found = self.stream.getsockopt(socket.SOL_SOCKET, socket.SO_PEERCRED, struct.calcsize(CREDENTIALS))
-        return Peer(*struct.unpack(CREDENTIALS, found))
+        return peer_of(self.stream)
+
+    def require_own(self) -> None:
+        """Refuses a server of another user, who may have put a socket in the place of this user's."""
+        user = self.peer().user
+        if user not in (os.getuid(), SUPERUSER):
+            raise OSError(errno.EPERM, f"the server that answers there is that of user {user}, and not yours", self.sockname)
 
     def send_bytes(self, data: bytes) -> None:
         """Sends all of it, and reads meanwhile: the server may be in the middle of a list that it waits to be read."""
@@ -101,6 +117,8 @@ class Lines:
             piece = b""
         if not piece:
             raise Ended(bytes(self.held))
+        if len(self.held) + len(piece) > LONGEST and self.held.find(b"\n", self.looked) < 0:
+            raise OSError(errno.EMSGSIZE, f"the server sends over {LONGEST:,} bytes in a line", self.sockname)
         self.held += piece
 
     def take(self) -> Optional[bytes]:

@@ -36,24 +36,14 @@ def own_room(name: str, above: Optional[str] = None) -> str:
 
 
 def is_own_directory(path: str) -> bool:
-    """Whether this user made the directory and may write to it. Another user who made it could put another socket
+    """Whether this user made the directory, and alone may write to it. Another user who may could put another socket
     there; the superuser may be left with the variables of one."""
     try:
         found = os.stat(path)
     except (OSError, ValueError):
         return False
-    return stat.S_ISDIR(found.st_mode) and found.st_uid == os.getuid() and os.access(path, os.W_OK | os.X_OK)
-
-
-def opened(path: str, flags: int) -> int:
-    """A file beside a socket that this user alone reads and writes; for `open` as its opener. It may be in a directory
-    where others make files too, so a link, and a file of another, is refused."""
-    number = os.open(path, flags & ~os.O_TRUNC | os.O_NOFOLLOW | os.O_NONBLOCK, 0o600)
-    found = os.fstat(number)
-    if not stat.S_ISREG(found.st_mode) or found.st_uid != os.getuid():
-        os.close(number)
-        raise OSError(errno.EPERM, "it is no file of yours", path)
-    return number
+    is_own = stat.S_ISDIR(found.st_mode) and found.st_uid == os.getuid() and not found.st_mode & 0o022
+    return is_own and os.access(path, os.W_OK | os.X_OK)
 
 
 def is_listened_on(sockname: str) -> bool:

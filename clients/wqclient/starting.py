@@ -6,25 +6,32 @@ import fcntl
 import os
 import subprocess
 import time
-from typing import IO, Callable, Dict, Iterator, List, Optional
+from typing import IO, Callable, Dict, Iterator, List, Optional, Sequence
 
-from .sockets import is_listened_on, opened
+from .files import opened_as_own
+from .kept import log_of
+from .sockets import is_listened_on
 
 PAUSE = 0.02
 PATIENCE = 60.0
 SOME_SECONDS = 5.0
-# Of one processor, in percent: how much the rounds of a server that was started without a word of its user may take.
-SHARE = "10"
+# How a server works that its user started without a word of that: how much of one processor its rounds may take, in
+# percent, and how soon it looks again at directories in which something changed lately, in milliseconds.
+USUAL = {"--share": "10", "--interval": "100"}
+# Of the last line of a log at most so many bytes are told.
+LONGEST_LINE = 4_096
 
 
 class Unstarted(Exception):
     """The program did not start, for this reason."""
 
 
-def serve_words(sockname: str) -> List[str]:
-    """The words of a server at this socket, which name this second and this process as its run."""
+def serve_words(sockname: str, given: Sequence[str] = ()) -> List[str]:
+    """The words of a server at this socket, which name this second and this process as its run. It works as usual, but
+    for the options that are given with their values."""
     numbers = ["--start", str(int(time.time())), "--pid", str(os.getpid())]
-    return ["serve", "--sockname", sockname, *numbers, "--share", SHARE]
+    usual = [word for option, value in USUAL.items() if option not in given for word in (option, value)]
+    return ["serve", "--sockname", sockname, *numbers, *usual, *given]
 
 
 @contextlib.contextmanager
@@ -32,7 +39,7 @@ def alone(sockname: str, tell: Callable[[], None] = lambda: None) -> Iterator[No
     """Waits until no other command starts a program for this socket. If that takes some seconds, it says so by
     `tell`."""
     try:
-        file = open(f"{sockname}.start", "w", opener=opened)
+        file = open(f"{sockname}.start", "w", opener=opened_as_own)
     except OSError as error:
         raise Unstarted(f"{sockname}.start: {error.strerror}") from None
     with file:
@@ -55,11 +62,13 @@ def is_locked(file: IO[str]) -> bool:
     return True
 
 
-def begin(command: List[str], sockname: str, log: str, environment: Optional[Dict[str, str]] = None) -> None:
-    """Starts a program that outlives this one, and waits until it listens. What it writes goes to the log."""
+def begin(command: List[str], sockname: str, environment: Optional[Dict[str, str]] = None) -> None:
+    """Starts a program that outlives this one, and waits until it listens. What it writes goes to a log, which is begun
+    anew."""
+    log = log_of(sockname)
     try:
-        with open(log, "ab", opener=opened) as output:
-            began = os.fstat(output.fileno()).st_size
+        with open(log, "ab", opener=opened_as_own) as output:
+            output.truncate(0)
             process = subprocess.Popen(
                 command, stdin=subprocess.DEVNULL, stdout=output, stderr=output, cwd="/", env=environment,
                 start_new_session=True,
@@ -70,13 +79,13 @@ def begin(command: List[str], sockname: str, log: str, environment: Optional[Dic
     while not is_listened_on(sockname):
         if process.poll() is not None or time.monotonic() > end:
             process.kill()
-            raise Unstarted(f"{command[0]} does not listen on {sockname}: {said(log, began)}")
+            raise Unstarted(f"{command[0]} does not listen on {sockname}: {said(log)}")
         time.sleep(PAUSE)
 
 
-def said(log: str, began: int) -> str:
-    """The last line that a program wrote to its log, which had so many bytes before."""
-    with open(log, "rb") as stream:
-        stream.seek(began)
-        lines = stream.read().decode("utf-8", "backslashreplace").strip().splitlines()
+def said(log: str) -> str:
+    """The last line that a program wrote to its log."""
+    with open(log, "rb", opener=opened_as_own) as stream:
+        stream.seek(max(0, os.fstat(stream.fileno()).st_size - LONGEST_LINE))
+        lines = stream.read(LONGEST_LINE).decode("utf-8", "backslashreplace").strip().splitlines()
     return lines[-1] if lines else "it says nothing"

@@ -8,6 +8,7 @@ import os
 import sys
 from typing import Callable, Dict, List, NoReturn, Optional
 
+from wqclient.harmless import harmless, harmless_json
 from wqclient.kept import BUDGETS, keep, run_of
 from wqclient.lines import Ended, Lines
 from wqclient.sockets import default_sockname
@@ -32,7 +33,8 @@ USAGE = """\
 usage: wqasm assemble TEXT [-o FILE] [--version N]
        wqasm disassemble FILE
        wqasm explain FILE
-       wqasm run FILE --record 'f 12 1000 src/a.c' [--deleted] [--cclock N] [--csec N] [--oclock N] [--osec N]
+       wqasm run FILE --record 'f 12 1000 src/a.c' [--deleted] [--cclock N]
+                 [--csec N] [--oclock N] [--osec N]
        wqasm compile EXPRESSION [-o FILE] [--clock ID]
        wqasm add [SOCKET] NAME FILE
        wqasm --help
@@ -72,30 +74,35 @@ PATIENCE = 60
 def main(words: List[str]) -> int:
     if sys.stdout is None:
         return fail(CANNOT, "output: there is no standard output")
-    if words in (["--help"], ["-h"]) or len(words) == 2 and words[1] in ("--help", "-h"):
-        print(USAGE, end="")
-        return 0
-    arguments = parser().parse_args(words)
+    asks_for_help = words in (["--help"], ["-h"]) or len(words) == 2 and words[1] in ("--help", "-h")
     try:
+        if asks_for_help:
+            show(USAGE)
+            return 0
+        arguments = parser().parse_args(words)
         return COMMANDS[arguments.command](arguments)
     except FileFault as fault:
         return fail(REFUSED, f"{arguments.file}: refused {file_fault_sentence(fault)}")
     except KeyboardInterrupt:
         return INTERRUPTED
     except BrokenPipeError:
-        # The reader of the output has gone. Nothing is to be written at the end either.
-        os.dup2(os.open(os.devnull, os.O_WRONLY), sys.stdout.fileno())
+        write_no_more()
         return CANNOT
     except OSError as error:
+        write_no_more()
         return fail(CANNOT, f"{error.filename or 'output'}: {error.strerror}")
+
+
+def write_no_more() -> None:
+    """The output cannot be written, as when its reader has gone. Nothing is to be written at the end either."""
+    os.dup2(os.open(os.devnull, os.O_WRONLY), sys.stdout.fileno())
 
 
 class Parser(argparse.ArgumentParser):
     """Refuses a wrong command line in one line."""
 
     def error(self, message: str) -> NoReturn:
-        print(f"wqasm: {message}; wqasm --help says which words there are", file=sys.stderr)
-        sys.exit(WRONG_LINE)
+        sys.exit(fail(WRONG_LINE, f"{message}; wqasm --help says which words there are"))
 
 
 def parser() -> Parser:
@@ -121,8 +128,12 @@ def parser() -> Parser:
 
 
 def fail(status: int, message: str) -> int:
-    print(f"wqasm: {message}", file=sys.stderr)
+    complain(f"wqasm: {message}")
     return status
+
+
+def complain(line: str) -> None:
+    print(harmless(line), file=sys.stderr)
 
 
 # The commands.
@@ -137,14 +148,14 @@ def assemble(arguments: argparse.Namespace) -> int:
     try:
         found = assembled(bytes_of(arguments.file, LONGEST_TEXT), version)
     except TextFault as fault:
-        print(f"{arguments.file}:{fault}", file=sys.stderr)
+        complain(f"{arguments.file}:{fault}")
         return REFUSED
     write(arguments.output, written(found.program, found.version))
     looked = looked_at(found.program)
     if looked.fault is not None:
         word = found.words[looked.place] if found.words else None
         where = f"{arguments.file}:{word.line}:{word.column}" if word else arguments.file
-        print(f"{where}: {fault_sentence(found.program, looked)}", file=sys.stderr)
+        complain(f"{where}: {fault_sentence(found.program, looked)}")
     return 0
 
 
@@ -280,8 +291,7 @@ def add(arguments: argparse.Namespace) -> int:
         return fail(CANNOT, f"{sockname}: {error.strerror or error}")
     if not reply.endswith(b"\n"):
         return fail(CANNOT, f"{sockname}: the server did not answer")
-    sys.stdout.buffer.write(reply)
-    sys.stdout.buffer.flush()
+    show(harmless_json(reply.decode("utf-8", "replace")))
     if reply.startswith(b'{"error"'):
         return REFUSED
     # `wq status` tells it, if it could be kept.

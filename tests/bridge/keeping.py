@@ -172,7 +172,8 @@ def check_commands_at_once(tally: built.Tally, room: Path) -> None:
     """Commands that start at once make one server and one bridge, which the last command ends."""
     root = room.resolve() / "root"
     make_files(root, ["a.c"])
-    environment = {**os.environ, "WATCHMAN_SOCK": str(room / "sock"), "WQD": str(built.program_path())}
+    environment = {**os.environ, "WATCHMAN_SOCK": str(room / "sock"), "WQD": str(built.program_path()),
+                   "XDG_STATE_HOME": str(room / "state")}
     environment.pop("WQD_SOCK", None)
 
     def begin(*words: str, script: bytes = b"") -> subprocess.Popen:

@@ -191,11 +191,11 @@ def check_content_that_changes(tally: built.Tally, room: Path) -> None:
     (room / "link").symlink_to(room / "file")
     looked = os.lstat(str(room / "file"))
     same(tally, "a file", sum_of_content(bytes(room / "file"), looked), hashlib.sha1(b"file").hexdigest())
-    same(tally, "a pipe in its place", sum_of_content(bytes(room / "pipe"), looked), None)
-    try:
-        same(tally, "a link in its place", sum_of_content(bytes(room / "link"), looked), "an error")
-    except OSError as error:
-        same(tally, "a link in its place", error.errno, errno.ELOOP)
+    for name, number in (("pipe", errno.EPERM), ("link", errno.ELOOP)):
+        try:
+            same(tally, f"a {name} in its place", sum_of_content(bytes(room / name), looked), "an error")
+        except OSError as error:
+            same(tally, f"a {name} in its place", error.errno, number)
 
 
 def looked_at(path: Path, name: str) -> Dict[str, object]:

@@ -9,14 +9,15 @@ from typing import Dict, List
 
 import built
 from bridged import COMMAND, PROGRAM, VERSION, Bridge, codec
-from client import PATIENCE, same
+from client import PATIENCE, Client, same
 
 
 def run(
-    room: Path, *words: str, sockname: str = "sock", output: int = subprocess.PIPE, given: bytes = b"",
+    room: Path, *words: str, sockname: str = "sock", output: int = subprocess.PIPE, given: bytes = b"", **variables: str,
 ) -> subprocess.CompletedProcess:
     """Runs the command in a directory, with names that are relative to it, and with bytes on its standard input."""
-    environment = {**os.environ, "WATCHMAN_SOCK": sockname, "WQD": os.path.relpath(str(built.program_path()), str(room))}
+    environment = {**os.environ, "WATCHMAN_SOCK": sockname, "WQD": os.path.relpath(str(built.program_path()), str(room)),
+                   "XDG_STATE_HOME": str(room.resolve() / "state"), **variables}
     environment.pop("WQD_SOCK", None)
     return subprocess.run([str(COMMAND), *words], env=environment, cwd=str(room), input=given,
                           stdout=output, stderr=subprocess.PIPE, timeout=PATIENCE)
@@ -39,6 +40,21 @@ def check_starts(tally: built.Tally, room: Path) -> None:
              (1, b"watchman: standard output: No space left on device\n"))
     finally:
         same(tally, "it is ended by its relative name", run(room, "--no-spawn", "shutdown-server").returncode, 0)
+
+
+def check_words_of_the_server(tally: built.Tally, room: Path) -> None:
+    """How a server works that the command starts: as wq starts one, unless variables say otherwise."""
+    room = room.resolve()
+    for variables, expected in (
+        ({}, ["--share", "10", "--interval", "100"]),
+        ({"WQD_INTERVAL": "500"}, ["--share", "10", "--interval", "500"]),
+        ({"WQD_SHARE": "50", "WQD_INTERVAL": "20"}, ["--share", "50", "--interval", "20"]),
+    ):
+        run(room, "version", **variables)
+        with Client(str(room / "sock.wqd")) as client:
+            words = Path(f"/proc/{client.peer().process}/cmdline").read_text().split("\0")
+        same(tally, f"words of the server with {variables}", words[-5:-1], expected)
+        run(room, "--no-spawn", "shutdown-server")
 
 
 def check_roots_by_relative_names(tally: built.Tally, room: Path) -> None:
@@ -131,16 +147,24 @@ def check_files_of_others(tally: built.Tally, room: Path) -> None:
     """A lock or a log that is a link or no file is refused, and that to which it leads stays as it is."""
     precious = room / "precious"
     precious.write_text("words")
-    for ending in ("lock", "start", "log"):
+
+    def log_of(name: str) -> Path:
+        return logs / (str(room.resolve() / f"{name}.wqd.log").strip("/").replace("/", "%"))
+
+    logs = room.resolve() / "state" / "wq" / "logs"
+    logs.mkdir(parents=True)
+    for ending in ("lock", "start"):
         (room / f"link.{ending}").symlink_to(precious)
         os.mkfifo(str(room / f"pipe.{ending}"))
+    log_of("link").symlink_to(precious)
+    os.mkfifo(str(log_of("pipe")))
     for name in ("link", "pipe"):
         bridge = subprocess.run([sys.executable, str(PROGRAM), "--server", str(room / "none"), "--sockname", str(room / name)],
                                 stderr=subprocess.PIPE, timeout=PATIENCE)
         same(tally, f"a {name} as the lock", (bridge.returncode, b"cannot listen" in bridge.stderr), (1, True))
-        for ending in ("start", "log"):
+        for path in (room.resolve() / f"{name}.start", log_of(name)):
             ended = run(room, "version", sockname=name)
-            said = f"watchman: {room.resolve() / name}.{ending}: "
-            same(tally, f"a {name} as the {ending}", (ended.returncode, ended.stderr.decode().startswith(said)), (1, True))
-            (room / f"{name}.{ending}").unlink()
+            is_said = ended.stderr.decode().startswith(f"watchman: {path}: ")
+            same(tally, f"a {name} as {path.name}", (ended.returncode, is_said), (1, True))
+            path.unlink()
     same(tally, "the file of the links", precious.read_text(), "words")

@@ -19,11 +19,11 @@ WRONG: List[Tuple[List[str], str]] = [
     (["--help", "me"], "there is no command --help; wqd --help says which there are"),
     (["help"], "there is no command help; wqd --help says which there are"),
     ([""], "there is no command; wqd --help says which there are"),
-    (["replay", "now"], "replay takes no further words, and its script on standard input"),
+    (["replay", "now"], "replay takes no further words, and reads its script from standard input"),
     (["check"], "check takes one file"),
     (["check", "a", "b"], "check takes one file"),
-    (["serve", "fr\\nob"], "serve takes no word fr\\nob"),
-    (["serve", "--frob", "1"], "serve takes no word --frob"),
+    (["serve", "fr\\nob"], "serve takes no further words: fr\\nob"),
+    (["serve", "--frob", "1"], "serve has no option --frob"),
     (["serve", "--sockname"], "--sockname needs a value"),
 ]
 NUMBERS = {"start": "0 to 2^62", "pid": "0 to 2^62", "interval": "10 to 3600000", "share": "1 to 100", "workers": "1 to 16"}
@@ -179,8 +179,11 @@ def check_unbuilt_command(tally: built.Tally, room: Path) -> None:
     refused = b"wqd: wrong command line\nwqd: check takes one file\n"
     same(tally, "wrong words", ended("check"), built.Ended(b"", refused, 2))
     unbuilt = b"wqd: not built: ./wqd --build proves and builds it (about an hour on four processors), ./wq answers now\n"
-    for words in ((), ("serve",), ("replay",), ("check", "file")):
+    for words in ((), ("serve",)):
         same(tally, f"nothing is built for {words}", ended(*words), built.Ended(b"", unbuilt, 1))
+    missing = b"wqd: nothing is built, and the Rattle kit is missing: its command rt is not on the PATH\n"
+    for words in (("replay",), ("check", "file")):
+        same(tally, f"nothing is built, and no kit is there, for {words}", ended(*words), built.Ended(b"", missing, 1))
     missing = b"wqd: the Rattle kit is missing: its command rt is not on the PATH\n"
     same(tally, "no kit", ended("--build"), built.Ended(b"", missing, 1))
     prefix = room / "prefix"

@@ -1,10 +1,12 @@
 """The examples of examples/, as its page says that they run, and the client of docs/SERVER.md."""
 
+import json
 import os
+import shutil
 import subprocess
 import sys
 from pathlib import Path
-from typing import List
+from typing import Dict, List
 
 import built
 from client import PATIENCE, Server, same
@@ -89,3 +91,17 @@ def check_client_of_the_page(tally: built.Tally, server: Server, root: Path) -> 
     environment = {**os.environ, "WQD_SOCK": server.sockname}
     ended = subprocess.run([sys.executable, "-c", script], stdout=subprocess.PIPE, env=environment)
     same(tally, "the client of SERVER", ended.stdout, b"['src/b.c'] []\n")
+    check_shell_client(tally, page, root, environment)
+
+
+def check_shell_client(tally: built.Tally, page: str, root: Path, environment: Dict[str, str]) -> None:
+    """The two lines of shell in docs/SERVER.md, by each of the two programs that it names."""
+    script = next(block for block in blocks(page, "sh") if block.startswith("ask()")).replace("/home/me/src", str(root))
+    for name, command in (("nc", 'nc -N -U "$WQD_SOCK"'), ("socat", 'socat -t 60 - UNIX-CONNECT:"$WQD_SOCK"')):
+        tally.check(f"{name} on the page", command in page)
+        if shutil.which(name) is not None:
+            script = script.replace('nc -N -U "$WQD_SOCK"', command)
+            ended = subprocess.run(["sh", "-c", script], stdout=subprocess.PIPE, env=environment, timeout=PATIENCE)
+            found = [json.loads(line) for line in ended.stdout.splitlines()]
+            files = [file["name"] for file in found[-1]["files"]]
+            same(tally, f"{name} in a shell", (len(found), files), (2, ["src/b.c"]))

@@ -119,7 +119,7 @@ def check_hook_that_fails(tally: built.Tally, room: Path) -> None:
     repository.write("a", "a")
     own = room / f"wqd-{os.getuid()}"
     answer = "wqd: git looks at all files, since {} does not answer: No such file or directory\n"
-    unset = answer.format(own / "wqd.sock").encode()
+    unset = f"wqd: git looks at all files, since {own} is not there\n".encode()
     same(tally, "without WQD_SOCK", repository.hook("2", ""), built.Ended(b"", unset, 1))
     ended = repository.git("status", "--porcelain")
     same(tally, "git without WQD_SOCK", (ended.output, ended.errors, ended.status), (b"?? a\n", unset, 0))

@@ -1,10 +1,13 @@
 """What ./install and ./package put below a prefix: the files, a server that the unit starts, and nothing after removal."""
 
+import gzip
+import hashlib
 import json
 import os
 import shlex
 import shutil
 import subprocess
+import sys
 import tarfile
 import time
 from io import BytesIO
@@ -39,6 +42,8 @@ FILES = {
 }
 LIST = "lib/wqd/files"
 UNIT = "share/systemd/user/wqd.service"
+# What a package has beside that.
+OF_DEBIAN = ("share/doc/wqd/changelog.gz", "share/lintian/overrides/wqd")
 ADMIN = ("info", "updates", "triggers")
 
 
@@ -50,6 +55,8 @@ def check_install(tally: built.Tally, room: Path) -> None:
     before = listing(prefix)
     for turn in ("", ", over an earlier one"):
         ended = call(room, "install", str(prefix))
+        named = f"The variable WQD names the program {built.program_path()}: nobody checks whether it is proved.\n"
+        same(tally, f"what ./install says of it{turn}", ended.errors.decode(), named)
         printed = ended.output.decode().split("\n\n")[0].splitlines()
         same(tally, f"the files that ./install tells of{turn}", sorted(printed), [str(prefix / path) for path in FILES])
         same(tally, f"the files of ./install{turn}", modes(prefix, FILES), FILES)
@@ -57,6 +64,7 @@ def check_install(tally: built.Tally, room: Path) -> None:
     check_server(tally, "installed", room, (prefix / UNIT).read_text())
     check_tool(tally, prefix)
     check_wq(tally, prefix, room)
+    check_compiled(tally, prefix)
     removed = call(room, "install", "--remove", str(prefix))
     same(tally, "how ./install --remove ends", (removed.status, removed.errors), (0, b""))
     same(tally, "what ./install --remove leaves", listing(prefix), before)
@@ -92,7 +100,7 @@ def check_wq(tally: built.Tally, prefix: Path, room: Path) -> None:
         return built.Ended(ended.stdout, ended.stderr, ended.returncode)
 
     started = f"wq: started a server at {runtime}/wqd.sock\n".encode()
-    same(tally, "the installed wq", wq("find", str(room / "root")), built.Ended(b"a.c\n", started, 0))
+    same(tally, "the installed wq", wq("find", str(room / "root")), built.Ended(f"{room}/root/a.c\n".encode(), started, 0))
     facts = json.loads(wq("status", "--json").output)
     program = str((prefix / "lib" / "wqd" / "wqd").resolve())
     found = (facts["program"], facts["version"], facts["roots"])
@@ -102,6 +110,23 @@ def check_wq(tally: built.Tally, prefix: Path, room: Path) -> None:
     same(tally, "its end", wq("stop"), built.Ended(b"", ended, 0))
     nobody = f"wq: no server listens on {runtime}/wqd.sock; `wq start` starts one\n".encode()
     same(tally, "another end", wq("stop"), built.Ended(b"", nobody, 1))
+
+
+# What Python reads for `wq find`, from an archive: modules that are not compiled, and those that it does not need.
+READ = """import sys
+sys.path.insert(0, sys.argv[1])
+from wq.command import function_of
+function_of("find")
+files = [module.__file__ for name, module in sorted(sys.modules.items()) if name.startswith("wq")]
+print([file for file in files if not file.endswith(".pyc")])
+print(sorted({"subprocess", "hashlib", "difflib", "tempfile", "wqprogram.terms", "wq.errors", "wq.run"} & set(sys.modules)))
+"""
+
+
+def check_compiled(tally: built.Tally, prefix: Path) -> None:
+    """The installed wq starts quickly: its modules are compiled, and each is read only if it is needed."""
+    read = subprocess.run([sys.executable, "-I", "-S", "-c", READ, str(prefix / "bin" / "wq")], stdout=subprocess.PIPE)
+    same(tally, "modules that the installed wq reads", read.stdout, b"[]\n[]\n")
 
 
 def check_default_prefix(tally: built.Tally, room: Path) -> None:
@@ -152,11 +177,13 @@ def check_package(tally: built.Tally, room: Path) -> None:
     call(room, "install", str(room / "prefix"))
     (room / "prefix" / LIST).unlink()
     check_members(tally, path, room / "prefix")
+    check_by_lintian(tally, room)
     directory = room / "directory"
     remove = install_package(path, directory)
     expected = {in_debian(path): mode for path, mode in FILES.items() if path != LIST}
+    expected.update({path: 0o644 for path in OF_DEBIAN})
     same(tally, "the files of the package", modes(directory / "usr", expected), expected)
-    unit = (directory / "usr" / UNIT).read_text()
+    unit = (directory / "usr" / in_debian(UNIT)).read_text()
     same(tally, "the unit of the package", 'ExecStart="/usr/bin/wqd" serve' in unit, True)
     check_server(tally, "of the package", room, unit.replace("/usr/bin/wqd", f"{directory}/usr/bin/wqd"))
     remove()
@@ -165,7 +192,29 @@ def check_package(tally: built.Tally, room: Path) -> None:
 
 def in_debian(path: str) -> str:
     """Where a package has a file that ./install puts here."""
-    return path.replace("share/zsh/site-functions/", "share/zsh/vendor-completions/")
+    for here, there in (("share/zsh/site-functions/", "share/zsh/vendor-completions/"), ("share/systemd/", "lib/systemd/")):
+        path = path.replace(here, there)
+    return f"{path}.gz" if path.startswith("share/man/") else path
+
+
+def text_in_debian(path: str, data: bytes) -> bytes:
+    """What a package has in a file: scripts name Debian's Python, and Debian has the text of the Apache License."""
+    if path.endswith("/copyright"):
+        data = data[:data.index(b"\n" + b" " * 33 + b"Apache License")]
+        return data + b"The Apache License, Version 2.0, is in /usr/share/common-licenses/Apache-2.0.\n"
+    data = data.replace(b"#!/usr/bin/env -S python3 -I -S\n", b"#!/usr/bin/python3 -IS\n", 1)
+    return data.replace(b"#!/usr/bin/env -S python3 -I\n", b"#!/usr/bin/python3 -I\n", 1)
+
+
+def check_by_lintian(tally: built.Tally, room: Path) -> None:
+    """Debian's own check of packages finds no error, and nothing to warn of."""
+    if shutil.which("lintian") is None:
+        print("left out: what lintian says of the package, since it is not installed")
+        return
+    ended = call(room, "package", str(room / "named"), DEBFULLNAME="Somebody", DEBEMAIL="somebody@example.com")
+    command = ["lintian", "--allow-root", ended.output.decode().strip()]
+    found = subprocess.run(command, stdout=subprocess.PIPE, stderr=subprocess.STDOUT)
+    same(tally, "what lintian says", (found.returncode, found.stdout.decode()), (0, ""))
 
 
 def check_members(tally: built.Tally, package: Path, prefix: Path) -> None:
@@ -175,11 +224,24 @@ def check_members(tally: built.Tally, package: Path, prefix: Path) -> None:
     with tarfile.open(fileobj=BytesIO(members["data.tar.gz"])) as archive:
         entries = archive.getmembers()
         found = {entry.name: archive.extractfile(entry).read() for entry in entries if entry.isfile()}
-    installed = {f"./usr/{in_debian(path)}": (prefix / path).read_bytes() for path in FILES if path not in (LIST, UNIT)}
-    found.pop(f"./usr/{UNIT}")
+    installed = {
+        f"./usr/{in_debian(path)}": text_in_debian(path, (prefix / path).read_bytes()) for path in FILES if path not in (LIST, UNIT)
+    }
+    check_sums(tally, members, found)
+    for name in (in_debian(UNIT), *OF_DEBIAN):
+        found.pop(f"./usr/{name}")
+    found = {name: gzip.decompress(data) if name.endswith(".gz") else data for name, data in found.items()}
     tally.check("a package has what ./install writes", found == installed, [f"{sorted(found)}", f"{sorted(installed)}"])
     owners = {(entry.uid, entry.gid, entry.uname, entry.gname, entry.mtime) for entry in entries}
     same(tally, "the owner and the second", owners, {(0, 0, "root", "root", 1_000_000_000)})
+
+
+def check_sums(tally: built.Tally, members: Dict[str, bytes], found: Dict[str, bytes]) -> None:
+    """The checksums of the package are those of its files."""
+    with tarfile.open(fileobj=BytesIO(members["control.tar.gz"])) as archive:
+        lines = archive.extractfile("./md5sums").read().decode().splitlines()
+    sums = {f"./{name}": checksum for checksum, _, name in (line.partition("  ") for line in lines)}
+    same(tally, "checksums", sums, {name: hashlib.md5(data).hexdigest() for name, data in found.items()})
 
 
 def members_of(package: Path) -> Dict[str, bytes]:
@@ -246,7 +308,7 @@ def check_server(tally: built.Tally, name: str, room: Path, unit: str) -> None:
 
 def words_of(unit: str, home: Path, runtime: Path) -> List[str]:
     """The words of ExecStart as systemd reads them: specifiers, dollars, quotations."""
-    line = next(line for line in unit.splitlines() if line.startswith("ExecStart="))
+    line = next(line for line in unit.replace("\\\n", "").splitlines() if line.startswith("ExecStart="))
     for short, long in (("%h", str(home)), ("%t", str(runtime)), ("%%", "%"), ("$$", "$")):
         line = line.replace(short, long)
     return shlex.split(line[len("ExecStart="):])

@@ -41,7 +41,9 @@ def blocks(page: str, language: str) -> List[str]:
 
 def check_quotes(tally: built.Tally, room: Path) -> None:
     page = files.text("docs/SERVER.md")
-    same(tally, "the unit on the page", blocks(page, "ini"), [files.text("contrib/wqd.service")])
+    unit, strict = blocks(page, "ini")
+    same(tally, "the unit on the page", unit, files.text("contrib/wqd.service"))
+    same(tally, "the unit without triggers", strict.startswith("[Service]\n"), True)
 
 
 def check_table_of_files(tally: built.Tally, room: Path) -> None:
@@ -69,7 +71,7 @@ def check_manual(tally: built.Tally, room: Path) -> None:
         headings = [line.split(" ", 1) for line in text.splitlines() if re.match("##+ ", line)]
         expected = [words.replace("`", "").upper() if marks == "##" else words.replace("`", "") for marks, words in headings]
         found = [shown_as(line.split(" ", 1)[1]) for line in lines if line.startswith((".SH", ".SS"))]
-        found = [words for words in found if words not in ("NAME", "SYNOPSIS", "DESCRIPTION", "SEE ALSO")]
+        found = [words for words in found if words not in ("NAME", "SYNOPSIS", "DESCRIPTION", "EXAMPLES", "SEE ALSO")]
         same(tally, f"{name}: headings", found, expected)
         code = [line for line in code_of(text) if line]
         same(tally, f"{name}: lines of code that are missing", [line for line in code if line not in shown], [])
@@ -85,6 +87,10 @@ def check_by_roff(tally: built.Tally, name: str, made: str) -> None:
     command = ["groff", "-man", "-Tutf8", "-z", "-wmac", "-wescape", "-wsyntax", "-wchar", "-Wbreak"]
     ended = subprocess.run(command, input=made.encode(), stdout=subprocess.PIPE, stderr=subprocess.STDOUT)
     same(tally, f"{name}: what groff says", (ended.returncode, ended.stdout.decode()), (0, ""))
+    if name in ("WQ.md", "SERVER.md"):
+        command = ["groff", "-man", "-Tutf8", "-rLL=78n", "-P-cbou"]
+        shown = subprocess.run(command, input=made.encode(), stdout=subprocess.PIPE).stdout.decode()
+        same(tally, f"{name}: lines that a terminal cuts", [line for line in shown.splitlines() if len(line) > 80], [])
 
 
 def shown_as(line: str) -> str:

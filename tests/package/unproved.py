@@ -1,5 +1,5 @@
-"""./wq if nothing is built: a server that the kit compiles without proof. A script takes the place of the kit, and
-starts the program as `rt try` does."""
+"""./wq and ./wqd if nothing is built: the program that the kit compiles without proof, and that is kept. A script takes the
+place of the kit, and starts the program as `rt try` does."""
 
 import os
 import signal
@@ -12,9 +12,11 @@ from typing import Dict, List
 import built
 from client import PATIENCE, Client, same
 from command import bare
+from wq.compiled import how_far
 
 KIT = """#!/bin/sh
-# rt try --seconds N -- WORD..
+# rt version, and rt try --seconds N -- WORD..
+[ "$*" != version ] || { echo "kit ${KIT:-1}"; exit; }
 echo "$@" >> "$ROOM/calls"
 [ "$1 $2 $4" = "try --seconds --" ] || exit 9
 shift 4
@@ -23,7 +25,8 @@ while [ -n "$WAITS" ] && [ ! -e "$ROOM/go" ]; do sleep 0.05; done
 [ -z "$FAILS" ] || { echo "error: it does not compile" >&2; exit 1; }
 exec "$PROGRAM" "$@"
 """
-COMPILES = b"wq: nothing is built yet; a server is compiled without proof in one to three minutes, and stays for a day\n"
+COMPILES = b"nothing is built yet; the kit compiles the program without proof, in some minutes, and it is kept for later\n"
+FIRST = b"wq: " + COMPILES
 NOT_PROVED = b"wq: not proved, and some 40 times slower a file, since it checks each access; ./wqd --build proves and builds it\n"
 
 
@@ -41,13 +44,14 @@ class Asking:
         self.root = room / "root"
         self.root.mkdir()
         (self.root / "a.c").touch()
+        self.files = f"{self.root}/a.c\n".encode()
         kit = room / "kit"
         kit.mkdir()
         (kit / "rt").write_text(KIT)
         (kit / "rt").chmod(0o755)
         self.environment: Dict[str, str] = {
             **os.environ, "PATH": f"{kit}:{os.environ['PATH']}", "XDG_RUNTIME_DIR": str(self.runtime), "ROOM": str(room),
-            "PROGRAM": str(built.program_path()), "XDG_STATE_HOME": str(room / "state"),
+            "PROGRAM": str(built.program_path()), "XDG_STATE_HOME": str(room / "state"), "XDG_CACHE_HOME": str(room / "cache"),
         }
         for name in ("WQD", "WQD_SOCK"):
             self.environment.pop(name, None)
@@ -91,21 +95,61 @@ def ended(process: subprocess.Popen) -> built.Ended:
 
 def check_unproved(tally: built.Tally, room: Path) -> None:
     """The first call compiles, and says so before it answers; the next one finds the server, and says that it is not
-    proved."""
+    proved. A call after the end of that server starts the program that was kept."""
     with Asking(room) as asking:
-        first = built.Ended(COMPILES + asking.started() + NOT_PROVED + b"a.c\n", b"", 0)
-        second = built.Ended(NOT_PROVED + b"a.c\n", b"", 0)
+        reply = NOT_PROVED + asking.files
+        first = built.Ended(FIRST + asking.started() + reply, b"", 0)
         same(tally, "a first call", asking.find(), first)
         words = asking.calls.read_text().split()
         same(tally, "how the kit is called", words[:2] + words[3:5], ["try", "--seconds", "--", "serve"])
-        same(tally, "how long it stays", int(words[2]) >= 600, True)
-        same(tally, "a second call", (asking.find(), asking.compilations()), (second, 1))
+        same(tally, "a second call", (asking.find(), asking.compilations()), (built.Ended(reply, b"", 0), 1))
         same(tally, "no root is left", ended(asking.start("roots")), built.Ended(NOT_PROVED, b"", 1))
         gone = NOT_PROVED + f"wq: the server at {asking.sockname} has ended\n".encode()
         same(tally, "the end of the server", ended(asking.start("stop")), built.Ended(gone, b"", 0))
-        same(tally, "a call after the end", (asking.find(), asking.compilations()), (first, 2))
+        again = built.Ended(asking.started() + reply, b"", 0)
+        same(tally, "a call after the end", (asking.find(), asking.compilations()), (again, 1))
         proved = subprocess.run([str(asking.top / "wqd"), "serve"], stderr=subprocess.PIPE, env=asking.environment)
         same(tally, "wqd beside it", (proved.returncode, b"not built" in proved.stderr), (1, True))
+
+
+def check_kept(tally: built.Tally, room: Path) -> None:
+    """A program is kept for its sources and its kit, and three are kept at most. `./wqd replay` and `./wqd check` take it
+    too."""
+    with Asking(room) as asking:
+        unproved = b"wqd: not proved, and slow, since it checks each access; ./wqd --build proves and builds it\n"
+        compiles = b"wqd: " + COMPILES
+        reply = b'1 {"clock":"c:7:9:1:0","version":"wq-1"}\n'
+
+        def replayed(script: bytes, *words: str, **values: str) -> built.Ended:
+            done = subprocess.run([str(asking.top / "wqd"), *words], input=script, stdout=subprocess.PIPE,
+                                  stderr=subprocess.PIPE, env={**asking.environment, **values})
+            return built.Ended(done.stdout, done.stderr, done.returncode)
+
+        script = b'ask 1 ["clock","/r"]\n'
+        same(tally, "a first replay", replayed(script, "replay"), built.Ended(reply, compiles + unproved, 0))
+        same(tally, "a second one", replayed(script, "replay"), built.Ended(reply, unproved, 0))
+        missing = replayed(b"", "check", str(room / "missing"))
+        same(tally, "check", (missing.status, missing.errors.startswith(unproved)), (1, True))
+        same(tally, "one compilation", asking.compilations(), 1)
+        same(tally, "./wq after that", asking.find(), built.Ended(asking.started() + NOT_PROVED + asking.files, b"", 0))
+        source = asking.top / "crates" / "wqd" / "src" / "main.rt"
+        source.write_text("fn main() { }\n")
+        same(tally, "other sources", replayed(script, "replay"), built.Ended(reply, compiles + unproved, 0))
+        for kit in ("2", "3"):
+            same(tally, f"kit {kit}", replayed(script, "replay", KIT=kit), built.Ended(reply, compiles + unproved, 0))
+        same(tally, "what is kept", len(list((room / "cache" / "wqd" / "programs").glob("*/wqd"))), 3)
+        same(tally, "kept still", replayed(script, "replay", KIT="2"), built.Ended(reply, unproved, 0))
+        same(tally, "the server goes on", asking.find(), built.Ended(NOT_PROVED + asking.files, b"", 0))
+
+
+def check_how_far(tally: built.Tally, room: Path) -> None:
+    """What a person hears while the kit compiles: by the clock, of the processor, and how much of that it needs."""
+    for (took, used, needs), left in (
+        ((15, 15, 200), "about 3 minutes left"), ((15, 5, 65), "about 3 minutes left"),
+        ((90, 80, 120), "about 45 s left"), ((90, 120, 120), "nearly done"), ((300, 250, 200), "nearly done"),
+        ((15, 0, 6), "about 2 minutes left"),
+    ):
+        same(tally, f"{used} of {needs} s", how_far(took, used, needs), f"compiling for {took} s so far, {left}")
 
 
 def check_turns(tally: built.Tally, room: Path) -> None:
@@ -113,8 +157,8 @@ def check_turns(tally: built.Tally, room: Path) -> None:
     with Asking(room) as asking:
         calls = [asking.start("find", str(asking.root), "--keep", COMPILES="1") for _ in range(3)]
         done: List[bytes] = sorted((ended(call).output for call in calls), key=len)
-        reply = NOT_PROVED + b"a.c\n"
-        expected = [reply] * 2 + [COMPILES + asking.started() + reply]
+        reply = NOT_PROVED + asking.files
+        expected = [reply] * 2 + [FIRST + asking.started() + reply]
         same(tally, "calls at once", (done, asking.compilations()), (expected, 1))
 
 
@@ -122,8 +166,14 @@ def check_compilation(tally: built.Tally, room: Path) -> None:
     """A compilation that fails, that is interrupted, and for which there is no kit; a directory that others may
     enter."""
     with Asking(room) as asking:
-        words = b"wq: the server did not start: the program could not be compiled: error: it does not compile\n"
-        same(tally, "a compilation that fails", asking.find(FAILS="1"), built.Ended(COMPILES + words, b"", 3))
+        log = room / "cache" / "wqd" / "programs" / "log"
+        words = "wq: the server did not start: the program could not be compiled: error: it does not compile " \
+                f"(all of it is in {log})\n"
+        same(tally, "a compilation that fails", asking.find(FAILS="1"), built.Ended(FIRST + words.encode(), b"", 3))
+        log.parent.chmod(0o777)
+        words = f"wq: the server did not start: {log.parent}: it is no directory that you alone write to\n"
+        same(tally, "programs that others may put there", asking.find(), built.Ended(words.encode(), b"", 3))
+        log.parent.chmod(0o700)
         for number, status in ((signal.SIGTERM, 143), (signal.SIGINT, 130)):
             before = asking.compilations()
             call = asking.start("find", WAITS="1")
@@ -162,7 +212,7 @@ def check_built_meanwhile(tally: built.Tally, room: Path) -> None:
         program.parent.mkdir()
         program.write_text(f'#!/bin/sh\nexec "{built.program_path()}" "$@"\n')
         program.chmod(0o755)
-        same(tally, "the server of before", asking.find(), built.Ended(NOT_PROVED + b"a.c\n", b"", 0))
+        same(tally, "the server of before", asking.find(), built.Ended(NOT_PROVED + asking.files, b"", 0))
         ended(asking.start("stop"))
-        same(tally, "a built program", asking.find(), built.Ended(asking.started() + b"a.c\n", b"", 0))
+        same(tally, "a built program", asking.find(), built.Ended(asking.started() + asking.files, b"", 0))
         same(tally, "how it is started", asking.compilations(), 1)

@@ -51,6 +51,9 @@ class Client(Lines):
     def __enter__(self) -> "Client":
         return self
 
+    def require_own(self) -> None:
+        """Tests start servers as other users too."""
+
     @property
     def socket(self) -> "socket.socket":
         return self.stream

@@ -8,14 +8,14 @@ from pathlib import Path
 
 import built
 from client import same
-from scene import Going, Scene, said, wrong
+from scene import Going, Scene, following, said, wrong
 
 FIRST = b"+ Makefile\n+ src\n+ src/a.c\n+ src/b b.c\n+ src/deep\n+ src/deep/c.h\n"
 
 
 def check_since(tally: built.Tally, room: Path) -> None:
     with Scene(room) as scene:
-        new = said("a is new to this server, so all files are listed")
+        new = said("this was not asked as a before, so all files are listed")
         same(tally, "a first since", scene.wq("since", "a"), built.Ended(FIRST, new, 0))
         same(tally, "nothing since", scene.wq("since", "a"), built.Ended(b"", b"", 1))
         scene.write("src/a.c", "changed")
@@ -31,24 +31,55 @@ def check_since(tally: built.Tally, room: Path) -> None:
         same(tally, "a directory that came", scene.names("since", "a"), ["+ dir", "+ dir/in"])
         scene.write("dir/other", "x")
         same(tally, "a directory that changed is not told", scene.names("since", "a"), ["+ dir/other"])
+        scene.wq("since", "a", "--all")
         scene.write("dir/third", "x")
         same(tally, "unless it is asked for", scene.names("since", "a", "--all"), ["~ dir", "+ dir/third"])
-        same(tally, "two names do not disturb each other", scene.names("since", "b", "dir"), ["+ in", "+ other", "+ third"])
+        same(tally, "another question has a place of its own", scene.names("since", "a"), ["+ dir/third"])
+        same(tally, "two names do not disturb each other", scene.names("since", "b"),
+             ["+ dir", "+ dir/in", "+ dir/other", "+ dir/third"])
+        check_since_questions(tally, scene)
         check_since_narrowed(tally, scene)
         check_since_restarted(tally, scene)
         check_since_words(tally, scene)
 
 
-def check_since_narrowed(tally: built.Tally, scene: Scene) -> None:
-    scene.wq("since", "c")
+def check_since_questions(tally: built.Tally, scene: Scene) -> None:
+    """A directory, globs and options make questions of their own, and none forgets what another one was told."""
+    questions = (["q", "src"], ["q", "dir"], ["q", "src", "*.h"], ["q", "-e", "h"], ["q", ".", "src/*"], [], ["*.h"],
+                 ["q", "dir", "src"])
+    first = said("this was not asked as q before, so all files are listed")
+    for words in questions[:5]:
+        same(tally, f"a first since {words}", scene.wq("since", *words).errors, first)
+    for words in questions[5:7]:
+        scene.wq("since", *words)
+    same(tally, "a first since of two directories", scene.wq("since", *questions[7]).errors, first)
     scene.write("src/deep/d.h")
     scene.write("src/e.c")
-    same(tally, "since with a directory and a glob", scene.names("since", "c", "src", "*.h"), ["+ deep/d.h"])
+    scene.write("dir/f.c")
+    for words, expected in zip(questions, (
+        ["+ src/deep/d.h", "+ src/e.c"], ["+ dir/f.c"], ["+ src/deep/d.h"], ["+ src/deep/d.h"], ["+ src/e.c"],
+        ["+ dir/f.c", "+ src/deep/d.h", "+ src/e.c"], ["+ src/deep/d.h"], ["+ dir/f.c", "+ src/deep/d.h", "+ src/e.c"],
+    )):
+        same(tally, f"since {words}", scene.names("since", *words), expected)
+        same(tally, f"since {words} once more", scene.wq("since", *words), built.Ended(b"", b"", 1))
+    same(tally, "one question in other words", scene.wq("since", "q", "*.h", "./src/", "*.h"), built.Ended(b"", b"", 1))
+
+
+def check_since_narrowed(tally: built.Tally, scene: Scene) -> None:
+    scene.wq("since", "c")
     scene.write("src/f g.c")
     same(tally, "since -0", scene.wq("since", "c", "-0").output, b"+ src/f g.c\0")
     scene.write("src/h.c")
     reply = json.loads(scene.wq("since", "c", "--json").output)
     same(tally, "since --json", [file["name"] for file in reply["files"]], ["src/h.c"])
+    scene.wq("since", "c", "src")
+    scene.write("src/i.c")
+    reply = json.loads(scene.wq("since", "c", "src", "--json").output)
+    same(tally, "since DIR --json", (reply["root"], reply["below"], [file["name"] for file in reply["files"]]),
+         (str(scene.tree), "src", ["src/i.c"]))
+    scene.write("src/j.c")
+    same(tally, "since --json --lines", scene.names("since", "c", "src", "--json", "--lines"),
+         ['{"exists":true,"name":"src/j.c","new":true,"type":"f"}'])
 
 
 def check_since_restarted(tally: built.Tally, scene: Scene) -> None:
@@ -70,8 +101,11 @@ def check_since_restarted(tally: built.Tally, scene: Scene) -> None:
 
 
 def check_since_words(tally: built.Tally, scene: Scene) -> None:
-    wrong(tally, scene, ["since"],
-          "the following arguments are required: NAME; `wq since --help` says which words there are")
+    wrong(tally, scene, ["since", "."], ". is a directory, and a name comes before it: wq since NAME .")
+    wrong(tally, scene, ["since", "src", "*.c"], "src is a directory, and a name comes before it: wq since NAME src '*.c'")
+    scene.wq("since")
+    first = said("this was not asked here before, so all files are listed")
+    same(tally, "a first glob without a name", scene.wq("since", "*.d").errors, first)
     wrong(tally, scene, ["since", ""], "the name has 0 bytes, and 1 to 255 may be")
     wrong(tally, scene, ["since", "x" * 256], "the name has 256 bytes, and 1 to 255 may be")
     same(tally, "a name with blanks", scene.wq("since", "a b:ü").status, 0)
@@ -96,7 +130,8 @@ def check_follow(tally: built.Tally, room: Path) -> None:
             lines = [line for line in going.output.splitlines() if line != b"~ src/a.c"]
             same(tally, "all of it", lines, [b"+ one two", b"- one two", b"+ last"])
             same(tally, "a change comes first", going.output[:10], b"~ src/a.c\n")
-            same(tally, "Ctrl-C", (going.ends(signal.SIGINT), going.errors), (130, b""))
+            same(tally, "Ctrl-C", (going.ends(signal.SIGINT), following(going)), (130, b""))
+        scene.write("dir/f.c")
         check_follow_options(tally, scene)
         check_ends_of_follow(tally, scene)
 
@@ -111,11 +146,17 @@ def check_follow_options(tally: built.Tally, scene: Scene) -> None:
     with scene.begin("follow", "src", "*.c", "--json") as going:
         touch_until(scene, going, "src/a.c")
         lists = [json.loads(line) for line in going.output.splitlines()]
-        found = (lists[0]["subscription"], lists[0]["files"][0]["name"], lists[0]["files"][0]["exists"])
-        same(tally, "follow --json", found, ("wq", "src/a.c", True))
+        found = (lists[0]["below"], lists[0]["files"][0]["name"], lists[0]["files"][0]["exists"])
+        same(tally, "follow --json", found, ("src", "src/a.c", True))
+    with scene.begin("follow", "*.c", "src", "dir", "--json", "--lines") as going:
+        touch_until(scene, going, "src/a.c")
+        same(tally, "follow --json --lines", going.output.splitlines()[0],
+             b'{"exists":true,"name":"src/a.c","new":false,"type":"f"}')
+        scene.write("dir/g.c")
+        tally.check("follow of two directories", going.prints('{"exists":true,"name":"dir/g.c","new":true,"type":"f"}\n'))
     with scene.begin("follow", "src", "-0", "-t", "f") as going:
         touch_until(scene, going, "src/b b.c")
-        same(tally, "follow -0 below a directory", going.output.split(b"\0")[0], b"~ b b.c")
+        same(tally, "follow -0 below a directory", going.output.split(b"\0")[0], b"~ src/b b.c")
 
 
 def touch_until(scene: Scene, going: Going, name: str) -> None:
@@ -130,13 +171,13 @@ def check_ends_of_follow(tally: built.Tally, scene: Scene) -> None:
         scene.wq("unwatch")
         same(tally, "the end of a watch", going.ends(), 3)
         words = f"{scene.tree} is no longer watched, so nothing more is told of it"
-        same(tally, "what is said of it", going.errors, said(words))
+        same(tally, "what is said of it", following(going), said(words))
     reading, writing = os.pipe()
     with scene.begin("follow", output=writing) as going:
         os.close(writing)
         tally.check("follow into a pipe", going.waits_for(lambda _: is_followed(scene)))
         os.close(reading)
-        same(tally, "a pipe that closes", (going.ends(), going.errors), (141, b""))
+        same(tally, "a pipe that closes", (going.ends(), following(going)), (141, b""))
     with scene.begin("follow") as going:
         touch_until(scene, going, "src/a.c")
         same(tally, "SIGTERM", going.ends(signal.SIGTERM), 143)
@@ -148,10 +189,6 @@ def check_ends_of_follow(tally: built.Tally, scene: Scene) -> None:
         going.process.send_signal(signal.SIGHUP)
         scene.write("after")
         tally.check("SIGHUP beside nohup", going.prints("after\n"))
-    with scene.begin("follow") as going:
-        touch_until(scene, going, "src/a.c")
-        scene.wq("stop")
-        same(tally, "the end of the server", (going.ends(), going.errors), (3, said("the server has ended")))
     same(tally, "a closed pipe of find", closed_pipe(scene), (141, b""))
     shutil.rmtree(scene.tree / "src")
 

@@ -19,6 +19,8 @@ def check_find(tally: built.Tally, room: Path) -> None:
         check_options(tally, scene)
         check_printing(tally, scene)
         check_names(tally, scene)
+        check_json(tally, scene)
+        check_unknown(tally, scene)
         check_wrong_words(tally, scene)
         check_programs(tally, scene)
 
@@ -32,30 +34,37 @@ def check_globs(tally: built.Tally, scene: Scene) -> None:
         ([".", "*.c"], C_FILES),
         (["*.c"], C_FILES),
         (["*.c", "*.h"], [*C_FILES, "src/deep/c.h"]),
-        (["src"], ["a.c", "b b.c", "deep", "deep/c.h"]),
-        (["src", "*.h"], ["deep/c.h"]),
-        (["src", "deep/*"], ["deep/c.h"]),
-        (["src/", "/*.c"], ["a.c", "b b.c"]),
+        (["src"], [*C_FILES, "src/deep", "src/deep/c.h"]),
+        (["./src/", "*.h"], ["./src/deep/c.h"]),
+        (["src", "*.h"], ["src/deep/c.h"]),
+        (["*.h", "src"], ["src/deep/c.h"]),
+        (["target", "*.c", "src"], ["target/z.c", *C_FILES]),
+        (["src", "deep/*"], ["src/deep/c.h"]),
+        (["src/", "/*.c"], C_FILES),
+        (["src/", "./*.c"], C_FILES),
         (["src/*.c"], C_FILES),
         (["/Make*"], ["Makefile"]),
         (["**/c.*"], ["src/deep/c.h"]),
         (["src/**"], [*C_FILES, "src/deep", "src/deep/c.h"]),
         (["Makefile"], ["Makefile"]),
         (["src/a.c"], ["src/a.c"]),
-        ([scene.tree / "src" / "deep"], ["c.h"]),
+        (["c.h"], ["src/deep/c.h"]),
+        (["./src/a.c"], ["src/a.c"]),
+        ([scene.tree / "src" / "deep"], [f"{scene.tree}/src/deep/c.h"]),
         ([f"{scene.tree}/src/*.c"], C_FILES),
-        (["node_modules"], ["x", "x/y.c"]),
-        (["node_modules/x", "*.c"], ["y.c"]),
-        (["target"], ["z.c"]),
-        ([".git"], ["HEAD"]),
+        (["node_modules"], ["node_modules/x", "node_modules/x/y.c"]),
+        (["node_modules/x", "*.c"], ["node_modules/x/y.c"]),
+        (["target"], ["target/z.c"]),
+        ([".git"], [".git/HEAD"]),
         (["--all", "*.c"], ["node_modules/x/y.c", *C_FILES, "target/z.c"]),
         (["--exclude", "*.c", "-t", "f"], ["Makefile", "src/deep/c.h"]),
         (["--exclude", "deep", "--exclude", "Make*"], ["src", *C_FILES]),
         (["--exclude", "src/deep"], ["Makefile", "src", *C_FILES]),
-        (["src", "--exclude", "/deep"], ["a.c", "b b.c"]),
+        (["src", "--exclude", "/deep"], C_FILES),
     ):
         same(tally, f"find {words}", scene.names("find", *words), expected)
-    same(tally, "find in another directory", scene.names("find", scene.tree / "src", "a*"), ["a.c"])
+    same(tally, "find in another directory", scene.names("find", scene.tree / "src", "a*"),
+         [f"{scene.tree}/src/a.c"])
 
 
 def check_options(tally: built.Tally, scene: Scene) -> None:
@@ -76,7 +85,7 @@ def check_options(tally: built.Tally, scene: Scene) -> None:
         (["--newer", "1h", "large", "empty"], ["empty"]),
         (["--newer", "10000d", "large"], ["large"]),
         (["--expression", '["suffix","h"]'], ["src/deep/c.h"]),
-        (["src", "--expression", '["allof",["type","f"],["name","a.c"]]'], ["a.c"]),
+        (["src", "--expression", '["allof",["type","f"],["name","a.c"]]'], ["src/a.c"]),
         (["--count"], ["9"]),
         (["--count", "*.c", "-t", "f"], ["2"]),
         (["-t", "f", "*.c", "--count", "src"], ["2"]),
@@ -86,8 +95,7 @@ def check_options(tally: built.Tally, scene: Scene) -> None:
     note = 'a suffix has no dot at its front: ".h" is taken as "h"'
     same(tally, "a suffix with a dot", dotted, built.Ended(b"src/deep/c.h\n", said(note), 0))
     here = scene.wq("find", "./M*")
-    note = 'no name begins with "./", so "./M*" is taken as "/M*", directly in the directory'
-    same(tally, "a glob with ./", here, built.Ended(b"Makefile\n", said(note), 0))
+    same(tally, "a glob with ./", here, built.Ended(b"Makefile\n", b"", 0))
     same(tally, "nothing found", scene.wq("find", "*.nothing"), built.Ended(b"", b"", 1))
     same(tally, "a count of nothing", scene.wq("find", "--count", "*.nothing"), built.Ended(b"0\n", b"", 1))
 
@@ -107,41 +115,78 @@ def check_printing(tally: built.Tally, scene: Scene) -> None:
     same(tally, "find --no-sync of a tree that was just watched", scene.names("find", "--no-sync", "Makefile"), ["Makefile"])
 
 
+def check_json(tally: built.Tally, scene: Scene) -> None:
+    """The names are those that find prints, also in JSON; each directory is one line, or each file with --lines."""
+    reply = json.loads(scene.wq("find", "src", "*.h", "--json").output)
+    same(tally, "find DIR --json", (reply["root"], reply["below"], reply["files"]), (str(scene.tree), "src", ["src/deep/c.h"]))
+    both = [json.loads(line) for line in scene.names("find", "src", "target", "*.c", "--json")]
+    same(tally, "two directories", [(reply["below"], reply["files"]) for reply in both], [("src", C_FILES), ("target", ["target/z.c"])])
+    same(tally, "find --json --lines", scene.names("find", "src", "target", "*.c", "--json", "--lines"),
+         [f'{{"name":"{name}","type":"f"}}' for name in [*C_FILES, "target/z.c"]])
+    same(tally, "find --lines alone", scene.names("find", "src", "*.h", "--lines"), ['{"name":"src/deep/c.h","type":"f"}'])
+    counts = [json.loads(line) for line in scene.names("find", "src", "target", "*.c", "--json", "--count")]
+    same(tally, "find --json --count", [(reply["below"], reply["count"], "files" in reply) for reply in counts],
+         [("src", 2, False), ("target", 1, False)])
+    same(tally, "find --count of two directories", scene.names("find", "src", "target", "*.c", "--count"), ["3"])
+
+
+def check_unknown(tally: built.Tally, scene: Scene) -> None:
+    """A word that names nothing is a mistake; one that names a file that is gone is none."""
+    for command in (["find"], ["since", "name"], ["follow"], ["run"]):
+        ends = ["--", "true"] if command == ["run"] else []
+        for words in (["scr", "*.c"], ["*.c", "scr"], ["src", "scr"]):
+            wrong(tally, scene, [*command, *words, *ends], "scr is no directory here; write './scr' for a file of that name")
+    wrong(tally, scene, ["find", "src/b.c"], "src/b.c is no directory here; write './src/b.c' for a file of that name")
+    wrong(tally, scene, ["find", "scr/"], "scr/ is no directory here")
+    wrong(tally, scene, ["find", "../scr"], "../scr is no directory here, and no name below a directory has '..' in it")
+    wrong(tally, scene, ["find", "/dev/null"], "/dev/null is no directory here")
+    same(tally, "a file that may come", scene.wq("find", "./scr"), built.Ended(b"", b"", 1))
+    scene.write("src/gone.c")
+    scene.wq("watch")
+    scene.names("find", "gone.c")
+    (scene.tree / "src" / "gone.c").unlink()
+    same(tally, "a file that was there", scene.wq("find", "gone.c"), built.Ended(b"", b"", 1))
+    scene.wq("unwatch")
+
+
 def check_names(tally: built.Tally, scene: Scene) -> None:
     """Names with blanks, quotes, newlines, and of bytes that are no UTF-8."""
     odd = ["with 'one' quote", 'with "two"', "with\nnewline", "-dash", "ü", "back\\slash", "[class]"]
     for name in odd:
         scene.write(f"odd/{name}")
     found = scene.wq("find", "odd", "-0").output.decode().split("\0")[:-1]
-    same(tally, "odd names", sorted(found), sorted(odd))
-    same(tally, "a name with a newline in a pipe", scene.wq("find", "odd", "*newline").output, b"with\nnewline\n")
-    same(tally, "a glob after two dashes", scene.names("find", "odd", "--", "-dash"), ["-dash"])
-    same(tally, "a glob with an escape", scene.names("find", "odd", "\\[class\\]"), ["[class]"])
-    same(tally, "a directory with a class in its name", scene.names("find", "odd", "ü"), ["ü"])
+    same(tally, "odd names", sorted(found), sorted(f"odd/{name}" for name in odd))
+    same(tally, "a name with a newline in a pipe", scene.wq("find", "odd", "*newline").output, b"odd/with\nnewline\n")
+    same(tally, "a glob after two dashes", scene.names("find", "odd", "--", "-dash"), ["odd/-dash"])
+    same(tally, "a glob with an escape", scene.names("find", "odd", "\\[class\\]"), ["odd/[class]"])
+    same(tally, "a directory with a class in its name", scene.names("find", "odd", "ü"), ["odd/ü"])
     (scene.tree / "[x]" / "y").mkdir(parents=True)
     scene.write("[x]/y/target/in")
-    same(tally, "a directory like a pattern", scene.names("find", "[x]", "--all"), ["y", "y/target", "y/target/in"])
-    same(tally, "a glob below it", scene.names("find", "[x]", "y/*", "--all"), ["y/target"])
+    same(tally, "a directory like a pattern", scene.names("find", "[x]", "--all"), ["[x]/y", "[x]/y/target", "[x]/y/target/in"])
+    same(tally, "a glob below it", scene.names("find", "[x]", "y/*", "--all"), ["[x]/y/target"])
     for words in (["find", b"\xff"], ["since", b"\xff"], ["find", ".", b"a\xff"], ["watch", b"\xff"], ["find", "--program", b"\xff"]):
         ended = scene.call(words)
         same(tally, f"{words}", (ended.status, b"is not UTF-8, and the server sees no such names" in ended.errors), (2, True))
         same(tally, f"{words}: one line", ended.errors.count(b"\n"), 1)
     other = {"LC_ALL": "C", "PYTHONUTF8": "0", "PYTHONCOERCECLOCALE": "0"}
-    same(tally, "a locale without UTF-8", scene.wq("find", "odd", "ü", **other).output, "ü\n".encode())
+    same(tally, "a locale without UTF-8", scene.wq("find", "odd", "ü", **other).output, "odd/ü\n".encode())
 
 
 def check_wrong_words(tally: built.Tally, scene: Scene) -> None:
     letters = "-t takes letters of f (file), d (directory), l (link), b, c, p, s and D, and not"
     size = "--size takes a number with a unit, such as +1M (at least), -10k (at most) or 0, and not"
     for words, reason in (
-        (["-t", "x"], f'{letters} "x"'),
+        (["-t", "x"], f'{letters} "x"; the server sees no permissions'),
         (["--size", "big"], f'{size} "big"'),
-        (["--newer", "soon"], '--newer takes an age, such as 30s, 10m, 2h, 3d or 1w, and not "soon"'),
-        (["--frob"], "there is no word --frob; `wq find --help` says which words there are"),
-        (["-e"], "argument -e: expected one argument; `wq find --help` says which words there are"),
+        (["--newer", "soon"], "--newer takes an age, such as 30s, 10min, 2h, 3d or 1w, or a date, such as 2026-11-28 or '2026-11-28 10:00', "
+         'and not "soon"'),
+        (["--frob"], "there is no option --frob; see `wq find --help`"),
+        (["-e"], "argument -e/--extension: expected one argument; see `wq find --help`"),
         (["/not/there"], "/not/there: No such file or directory"),
-        (["--program", "p", "*.c"],
-         "--program takes the place of globs, -t, -e, --size, --newer, --exclude and --expression; take them out"),
+        (["--program", "p", "-t", "f"],
+         "--program takes the place of -i, -t, --size, --newer, --older, --exclude, --max-depth, --min-depth and --expression; "
+         "take them out"),
+        (["--program", "p", "*.c", "-e", "c"], "--program takes globs or -e beside it, and not both"),
     ):
         wrong(tally, scene, ["find", *words], reason)
     json_reason = "--expression, column 2: Expecting value; a text has double quotes, and the shell takes them away: " \
@@ -159,7 +204,15 @@ def check_programs(tally: built.Tally, scene: Scene) -> None:
         scene.write("huge/h", "x" * 1_048_577)
         scene.write("target/t", "x" * 1_048_577)
         same(tally, "find --program", scene.names("find", "--program", "large"), ["huge/h"])
-        same(tally, "find DIR --program", scene.names("find", "huge", "--program", "large"), ["h"])
+        same(tally, "find DIR --program", scene.names("find", "huge", "--program", "large"), ["huge/h"])
+        for globs, expected in (
+            (["h*"], "huge/h\n"), (["*.c"], ""), (["huge/*"], "huge/h\n"), (["./h"], ""), (["*.c", "h*"], "huge/h\n"),
+            (["huge", "h"], "huge/h\n"), (["huge", "./h"], "huge/h\n"), (["src", "h*"], ""), (["-e", "c"], ""),
+        ):
+            found = scene.wq("find", "--program", "large", *globs)
+            same(tally, f"find --program {globs}", found, built.Ended(expected.encode(), b"", 0 if expected else 1))
+        wrong(tally, scene, ["find", "huge", "--program", "large", "-e", "c"],
+              "-e beside --program is for a whole root; take a glob for a directory below it")
         same(tally, "find --program --all", scene.names("find", "--program", "large", "--all"), ["huge/h", "target/t"])
         wrong(tally, scene, ["find", "--program", "lage"], "E34: no such program",
               'no program is stored as "lage"; did you mean "large"?', status=3)
@@ -190,7 +243,8 @@ def check_roots(tally: built.Tally, room: Path) -> None:
         same(tally, "a directory of no project", scene.names("watch", room / "plain"), [str(room / "plain")])
         same(tally, "one below a watched root", scene.names("watch", room / "plain" / "below"), [str(room / "plain")])
         (room / "link").symlink_to(scene.tree / "src")
-        same(tally, "a link to a directory", scene.names("find", room / "link", "*.h"), ["deep/c.h"])
+        same(tally, "a link to a directory", scene.names("find", room / "link", "*.h"),
+             [f"{room}/link/deep/c.h"])
         same(tally, "ten directories of a project are one root", watched(),
              [str(scene.tree), str(room / "hg"), str(room / "watchmanconfig"), str(room / "plain")])
         # As if another command had begun to need the root while find had it watched.

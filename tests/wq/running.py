@@ -9,7 +9,7 @@ from typing import Callable, List
 
 import built
 from client import same
-from scene import Going, Scene, said, wrong
+from scene import Going, Scene, following, said, wrong
 
 # Appends a line at each run. A file `hold` keeps the run going until it is gone.
 SCRIPT = 'echo run >> "$LOG"; echo "$@" >> "$LOG.names"; while [ -e "$LOG.hold" ]; do sleep 0.01; done'
@@ -98,26 +98,29 @@ def check_bursts(tally: built.Tally, scene: Scene, log: Log) -> None:
 
 def check_names_of_runs(tally: built.Tally, scene: Scene, log: Log) -> None:
     with scene.begin("run", ".", "*.h", *command("{}")) as going:
-        tally.check("the names of the first run", going.waits_for(lambda _: log.names() == ["src/deep/c.h"]))
+        tally.check("the names of the first run", going.waits_for(lambda _: log.names() == ["./src/deep/c.h"]))
         scene.write("src/x y.h")
-        tally.check("the names that changed", going.waits_for(lambda _: log.names()[1:2] == ["src/x y.h"]))
+        tally.check("the names that changed", going.waits_for(lambda _: log.names()[1:2] == ["./src/x y.h"]))
         (scene.tree / "src/x y.h").unlink()
         scene.write("src/-z.h")
-        tally.check("no name that is gone", going.waits_for(lambda _: log.names()[2:3] == ["src/-z.h"]))
+        tally.check("no name that is gone", going.waits_for(lambda _: log.names()[2:3] == ["./src/-z.h"]))
     log.clear()
     with scene.begin("run", "src", "*.h", "--stdin", "--once", "--", "cat") as going:
-        same(tally, "names on standard input", (going.ends(), going.output), (0, b"src/-z.h\nsrc/deep/c.h\n"))
+        same(tally, "names on standard input", (going.ends(), going.output), (0, b"./src/-z.h\n./src/deep/c.h\n"))
     with scene.begin("run", "src", "*.h", "--stdin", "-0", "--once", "--", "cat") as going:
-        same(tally, "with bytes 0", (going.ends(), going.output), (0, b"src/-z.h\0src/deep/c.h\0"))
+        same(tally, "with bytes 0", (going.ends(), going.output), (0, b"./src/-z.h\0./src/deep/c.h\0"))
     with scene.begin("run", scene.tree / "src", "?z.h", "--once", "--", "echo", "{}") as going:
         same(tally, "a directory by its whole path", (going.ends(), going.output), (0, f"{scene.tree}/src/-z.h\n".encode()))
+    with scene.begin("run", "?z.h", "src/deep", "src", "--once", "--", "echo", "{}") as going:
+        same(tally, "two directories", (going.ends(), going.output), (0, b"./src/-z.h\n"))
+    wrong(tally, scene, ["run", "*.nothing", "--once", "--", "echo", "{}"], "no file matches", status=1)
     with scene.begin("run", "src/deep", "--postpone", "--once", "--", "echo", "{}") as going:
         turns = iter(range(10_000))
         going.waits_for(lambda one: one.output or scene.write("src/deep/c.h", "x" * (next(turns) % 50 + 1)))
-        same(tally, "run --postpone --once", (going.ends(), going.output), (0, b"src/deep/c.h\n"))
+        same(tally, "run --postpone --once", (going.ends(), going.output), (0, b"./src/deep/c.h\n"))
     with scene.begin("run", "*.nothing", "--", "echo", "{}") as going:
         going.waits_for(lambda _: is_asked(scene))
-        same(tally, "no run without a name", (going.ends(signal.SIGINT), going.output, going.errors), (130, b"", b""))
+        same(tally, "no run without a name", (going.ends(signal.SIGINT), going.output, following(going)), (130, b"", b""))
 
 
 def is_asked(scene: Scene) -> bool:
@@ -176,16 +179,12 @@ def check_ends_of_run(tally: built.Tally, room: Path) -> None:
         same(tally, "the directory of a command", scene.wq("run", "src", "--once", "--", "pwd").output, f"{scene.tree}\n".encode())
         same(tally, "bytes that are no UTF-8 for a command",
              scene.call(["run", "--once", "--", "printf", b"\xff"]).output, b"\xff")
-        wrong(tally, scene, ["run", "--", "not-there"], "not-there: there is no such command", status=127)
+        wrong(tally, scene, ["run", "--once", "--", "not-there"], "not-there: there is no such command", status=127)
         (scene.tree / "plain").write_text("no program")
-        wrong(tally, scene, ["run", "--", "./plain"], "./plain: Permission denied", status=126)
+        wrong(tally, scene, ["run", "--once", "--", "./plain"], "./plain: Permission denied", status=126)
         reason = "run takes `--` and a command after it, such as: wq run '*.c' -- make"
         for words in (["run"], ["run", "*.c"], ["run", "*.c", "--"]):
             wrong(tally, scene, words, reason)
         wrong(tally, scene, ["run", "--quiet", "x", "--", "true"],
-              "argument --quiet: invalid int value: 'x'; `wq run --help` says which words there are")
+              "argument --quiet: invalid int value: 'x'; see `wq run --help`")
         wrong(tally, scene, ["run", "--quiet=-1", "--", "true"], "--quiet takes a number of milliseconds from 0 on")
-        with scene.begin("run", "--", "sh", "-c", "echo begun; exec sleep 1000") as going:
-            tally.check("run begins its command", going.prints("begun"))
-            scene.wq("stop")
-            same(tally, "the end of the server ends run", (going.ends(), going.errors), (3, said("the server has ended")))

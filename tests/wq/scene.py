@@ -4,12 +4,13 @@ own."""
 import contextlib
 import os
 import pty
+import re
 import select
 import signal
 import subprocess
 import time
 from pathlib import Path
-from typing import Callable, Dict, List, NamedTuple, Optional
+from typing import Callable, Dict, List, NamedTuple, Optional, Sequence, Tuple
 
 import built
 from client import PATIENCE, Client, same
@@ -164,8 +165,12 @@ def at_terminal(scene: Scene, *words: str, **environment: str) -> str:
 
 def called_at_terminal(
     scene: Scene, words: List[str], environment: Optional[Dict[str, str]] = None, keys: bytes = b"", after: str = "",
+    more: Sequence[Tuple[str, bytes]] = (),
 ) -> AtTerminal:
-    """A call at a terminal. Keys are pressed when it has written a text."""
+    """A call at a terminal. Keys are pressed when it has written a text, and more of them when it has written others after
+    that."""
+    presses = [(after, keys), *more] if keys else []
+    looked = 0
     number, terminal = pty.fork()
     if number == 0:
         os.chdir(scene.tree)
@@ -182,15 +187,23 @@ def called_at_terminal(
         if not piece:
             break
         found += piece
-        if keys and after.encode() in found:
-            os.write(terminal, keys)
-            keys = b""
+        if presses and presses[0][0].encode() in found[looked:]:
+            looked = len(found)
+            os.write(terminal, presses.pop(0)[1])
     os.close(terminal)
     status = os.waitpid(number, 0)[1]
     code = os.WEXITSTATUS(status) if os.WIFEXITED(status) else -os.WTERMSIG(status)
     return AtTerminal(found.decode("utf-8", "backslashreplace").replace("\r\n", "\n"), code)
 
 
+
+FOLLOWING = re.compile(rb"wq: following [0-9,]+ files? below \S+; scans about each [0-9.]+ s\n")
+
+
+def following(going: Going) -> bytes:
+    """What a window says after its first line, which says what it follows."""
+    found = FOLLOWING.match(going.errors)
+    return going.errors[found.end():] if found else b"no first line: " + going.errors
 
 
 def said(*lines: str) -> bytes:

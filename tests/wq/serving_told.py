@@ -2,10 +2,12 @@
 
 import json
 import os
+import re
 import shutil
 import subprocess
 import time
 from pathlib import Path
+from typing import Callable
 
 import built
 from client import PATIENCE, same
@@ -25,7 +27,8 @@ def check_server(tally: built.Tally, room: Path) -> None:
         again = said(f"a server listens on {scene.sockname} already")
         same(tally, "start again", scene.wq("start"), built.Ended(b"", again, 0))
         process = facts(scene)["process"]
-        same(tally, "the words of the server", words_of(process)[-6:], ["--share", "10", "--interval", "50", "--workers", "2"])
+        words = ["--share", "10", "--interval", "50", "--workers", "2"]
+        same(tally, "the words of the server", words_of(process)[-6:], words)
         ended = said(f"the server at {scene.sockname} has ended")
         same(tally, "restart", scene.wq("restart"), built.Ended(b"", ended + started, 0))
         same(tally, "restart keeps the words", words_of(facts(scene)["process"])[-4:], ["--interval", "50", "--workers", "2"])
@@ -33,9 +36,11 @@ def check_server(tally: built.Tally, room: Path) -> None:
         scene.wq("watch")
         gone = said("1 root with triggers and cursors went with it; commands that need one watch it again")
         same(tally, "restart with words", scene.wq("restart", "--share", "50"), built.Ended(b"", ended + gone + started, 0))
-        same(tally, "those words", words_of(facts(scene)["process"])[-2:], ["--share", "50"])
+        same(tally, "those words", words_of(facts(scene)["process"])[-4:], ["--interval", "100", "--share", "50"])
         same(tally, "stop", scene.wq("stop"), built.Ended(b"", ended, 0))
         same(tally, "restart of none", scene.wq("restart"), built.Ended(b"", started, 0))
+        usual = ["--share", "10", "--interval", "100"]
+        same(tally, "the usual words", words_of(facts(scene)["process"])[-4:], usual)
         scene.wq("stop")
         failed = scene.wq("start", "--interval", "1")
         same(tally, "start with a wrong word", (failed.status, b"--interval takes a number from 10" in failed.errors), (3, True))
@@ -171,7 +176,7 @@ def check_triggers(tally: built.Tally, room: Path) -> None:
         script = 'pwd > ../ran; echo "$@" >> ../ran'
         call = scene.wq("trigger", "src", "t", "*.h", "--", "sh", "-c", script, "sh", "{}")
         same(tally, "trigger", call, built.Ended(b"", made, 0))
-        tally.check("its command runs", reads(room / "ran", f"{scene.tree}\nsrc/deep/c.h\n"))
+        tally.check("its command runs", reads(room / "ran", f"{scene.tree}\n./src/deep/c.h\n"))
         lines = scene.names("triggers", "src")
         same(tally, "triggers", lines, [f"t: sh -c '{script}' sh {{}}"])
         asked = json.loads(scene.wq("triggers", "--json").output)["triggers"][0]
@@ -180,11 +185,12 @@ def check_triggers(tally: built.Tally, room: Path) -> None:
         call = scene.wq("trigger", ".", "t", "Makefile", "--stdin", "--", "sh", "-c", "cat > ../names")
         same(tally, "a second one", call, built.Ended(b"", again, 0))
         tally.check("names on its input", reads(room / "names", "Makefile\n"))
+        check_names_of_triggers(tally, scene)
         same(tally, "untrigger", scene.wq("untrigger", ".", "t"), built.Ended(b"", b"", 0))
         wrong(tally, scene, ["untrigger", ".", "t"], f"{scene.tree} has no trigger t", status=1)
         same(tally, "no triggers", scene.wq("triggers"), built.Ended(b"", b"", 1))
         wrong(tally, scene, ["trigger", ".", "t"],
-              "trigger takes `--` and a command after it, such as: wq trigger . build '*.c' -- make")
+              "trigger takes `--` and a command after it, such as: wq trigger build '*.c' -- make")
         for command in (["echo", "{}", "x"], ["{}"]):
             wrong(tally, scene, ["trigger", ".", "t", "--", *command],
                   "the names of files come last in the command of a trigger, so {} may be its last word alone")
@@ -192,6 +198,70 @@ def check_triggers(tally: built.Tally, room: Path) -> None:
               f'the name has 256 bytes, and at most 255 may be: "{"n" * 59}..', status=3)
         wrong(tally, scene, ["triggers", room], "E14: root is not watched",
               f'"{room}" is not watched; did you mean "{scene.tree}"?. ["watch","{room}"] watches it', status=3)
+
+
+def check_names_of_triggers(tally: built.Tally, scene: Scene) -> None:
+    """The directory may come before the name, and is the current one without. What is neither is refused."""
+    made = said(f"trigger u of {scene.tree} is created; its command runs there")
+    same(tally, "a trigger here", scene.wq("trigger", "u", "*.none", "--", "true"), built.Ended(b"", made, 0))
+    same(tally, "untrigger here", scene.wq("untrigger", "u"), built.Ended(b"", b"", 0))
+    for words, sentence in (
+        (["trigger", "srk", "build", "--", "true"], "build is no file here; write './build' for one that may come"),
+        (["trigger", "build", "src", "--", "true"], "src is a directory; a trigger has one, which comes before its name"),
+        (["trigger", "src", "*.c", "--", "true"], "src is a directory, and the name of the trigger comes after it"),
+        (["trigger", "--", "true"], "the name of the trigger is missing, such as in: wq trigger build '*.c' -- make"),
+        (["untrigger"], "the name of the trigger is missing, such as in: wq untrigger build"),
+        (["untrigger", ".", "t", "u"], "untrigger takes one name: u"),
+    ):
+        wrong(tally, scene, words, sentence)
+
+
+def check_failures(tally: built.Tally, room: Path) -> None:
+    """What went wrong is shown with the trigger and the root; it is in the log of the server."""
+    with Scene(room) as scene:
+        scene.wq("trigger", "fails", "*.h", "--", "sh", "-c", "echo unread; exit 3")
+        scene.wq("trigger", "killed", "*.h", "--", "sh", "-c", "kill -9 $$")
+        scene.wq("trigger", "no-file", "*.h", "--", "./not-there")
+        scene.wq("trigger", "no-command", "*.h", "--", "not-there", "{}")
+        scene.wq("trigger", "good", "*.h", "--", "true")
+        once = "; failed 1 time since it was registered"
+        lines = [
+            "fails: sh -c 'echo unread; exit 3'", f"  last failure: ended with status 3{once}",
+            "killed: sh -c 'kill -9 $$'", f"  last failure: ended by signal 9{once}",
+            "no-file: ./not-there", "  last failure: could not be started: No such file or directory (os error 2)",
+            "no-command: not-there {}",
+            f"  last failure: ended with status 127, which shells say of a command that is not there{once}", "good: true",
+        ]
+        tally.check("failures of triggers", becomes(lambda: scene.names("triggers") == lines), scene.names("triggers"))
+        scene.write("src/deep/c.h", "changed")
+        # A scan may come in the middle of a write, so it may be two more.
+        more = re.compile("  last failure: ended with status 3; failed [2-9] times since it was registered")
+        tally.check("a second failure", becomes(lambda: bool(more.fullmatch(scene.names("triggers")[1]))))
+        scene.wq("trigger", "fails", "*.h", "--", "true")
+        same(tally, "one that is registered anew has none", scene.names("triggers")[:2],
+             ["fails: true", "killed: sh -c 'kill -9 $$'"])
+        (scene.tree / os.fsdecode(b"not\xffutf8")).touch()
+        (scene.tree / "closed").mkdir(mode=0)
+        shown = "          left out: names that are not UTF-8: 1"
+        tally.check("names that are left out", becomes(lambda: shown in scene.names("status")), scene.names("status"))
+        found = facts(scene)
+        closed = 0 if os.getuid() == 0 else 1
+        same(tally, "what is left out", found["roots"][0]["left_out"], {"names": 1, "directories": closed})
+        text = scene.names("status")
+        for line in (f"log       {found['log']}", "          trigger killed: sh -c 'kill -9 $$'",
+                     "            last failure: could not be started: No such file or directory (os error 2)"):
+            tally.check(f"status has {line!r}", line in text, text)
+        same(tally, "the log is a file", "listening on" in Path(found["log"]).read_text(), True)
+
+
+def becomes(is_so: Callable[[], bool]) -> bool:
+    """Whether something becomes so."""
+    end = time.monotonic() + PATIENCE
+    while time.monotonic() < end:
+        if is_so():
+            return True
+        time.sleep(0.05)
+    return False
 
 
 def reads(path: Path, text: str) -> bool:

@@ -1,7 +1,9 @@
 """Calls at a terminal; help, and words that are no command; a first crawl that takes long."""
 
+import contextlib
 import json
 import os
+import shlex
 import socket
 import threading
 import time
@@ -10,7 +12,10 @@ from pathlib import Path
 import built
 from client import same
 from scene import Scene, at_terminal, called_at_terminal, said, wrong
-from wq.words import FORMS, USAGE, options_of
+from wq.examples import EXAMPLES
+from wq.trouble import WrongWords
+from wq.usage import USAGE
+from wq.words import FORMS, options_of, read
 
 SLOW = 2.3
 
@@ -19,8 +24,7 @@ def check_terminal(tally: built.Tally, room: Path) -> None:
     """Colours, layout and escapes are for terminals, and NO_COLOR takes the colours away."""
     with Scene(room) as scene:
         (scene.tree / "link").symlink_to("Makefile")
-        found = at_terminal(scene, "find", "src", "link", "-t", "d,l")
-        same(tally, "no link below a directory", found, "\x1b[34mdeep\x1b[0m\n"[:0])
+        same(tally, "no link below a directory", at_terminal(scene, "find", "src", "./link", "-t", "d,l"), "")
         same(tally, "a directory in its colour", at_terminal(scene, "find", "-t", "d", "deep"), "\x1b[34msrc/deep\x1b[0m\n")
         same(tally, "a link in its colour", at_terminal(scene, "find", "link"), "\x1b[36mlink\x1b[0m\n")
         same(tally, "a file has none", at_terminal(scene, "find", "Makefile"), "Makefile\n")
@@ -68,11 +72,12 @@ def check_words(tally: built.Tally, room: Path) -> None:
         wrong(tally, scene, [], "there is no command; `wq --help` says which there are")
         wrong(tally, scene, ["frobnicate"], "there is no command frobnicate; `wq --help` says which there are")
         wrong(tally, scene, ["finde"], "there is no command finde; did you mean find?; `wq --help` says which there are")
-        wrong(tally, scene, ["stop", "now"], "there is no word now; `wq stop --help` says which words there are")
+        wrong(tally, scene, ["stop", "now"], "stop takes no further words: now; see `wq stop --help`")
         for command in FORMS:
             text = scene.wq(command, "--help")
             missing = [option for option in options_of(command) if option not in text.output.decode()]
             same(tally, f"wq {command} --help", (text.status, text.errors, missing), (0, b"", []))
+            check_examples(tally, command, text.output.decode())
             same(tally, f"{command} in the help", f" {command}" in USAGE, True)
         full = scene.wq("--help")
         same(tally, "the help fits a terminal of 80 columns", max(map(len, full.output.decode().splitlines())) <= 80, True)
@@ -81,6 +86,21 @@ def check_words(tally: built.Tally, room: Path) -> None:
         with scene.begin("find") as going:
             same(tally, "a server that is started for a command", (going.ends(), going.errors),
                  (0, said(f"started a server at {scene.sockname}")))
+
+
+def check_examples(tally: built.Tally, command: str, text: str) -> None:
+    """The page of help ends with examples, whose words the command takes."""
+    examples = EXAMPLES[command]
+    lines = "".join(f"  {example.line}\n      {example.does}\n" for example in examples)
+    same(tally, f"the examples of {command}", text.endswith(f"\nexamples:\n{lines}"), True)
+    for example in examples:
+        words = shlex.split(example.line.split(" | ")[0])
+        try:
+            read(command, words[2:])
+            fault = ""
+        except WrongWords as error:
+            fault = str(error)
+        same(tally, f"the words of {example.line}", (words[:2], fault), (["wq", command], ""))
 
 
 class Slow:
@@ -98,7 +118,7 @@ class Slow:
             threading.Thread(target=self.serve, args=(stream,), daemon=True).start()
 
     def serve(self, stream: socket.socket) -> None:
-        with stream.makefile("rwb") as lines:
+        with contextlib.suppress(ConnectionError), stream.makefile("rwb") as lines:
             for line in lines:
                 name, *rest = json.loads(line)
                 if name == "watch":
@@ -121,6 +141,7 @@ def check_first_crawl(tally: built.Tally, room: Path) -> None:
         same(tally, "a slow crawl, beside a pipe", (ended.status, lines[:1], len(lines)), (1, [f"wq: {looks}"], 2))
         took = lines[-1]
         tally.check("how long it took", took.startswith("wq: that took 2.") and took.endswith(" s"), lines)
+        looks = f"the server looks at all files below {scene.tree} again; `wq watch` would keep it watched"
         shown = at_terminal(scene, "find", NO_COLOR="1")
         tally.check("a slow crawl at a terminal", f"\rwq: {looks}, 1 s so far" in shown and f"{looks}, 2 s so far" in shown, [shown])
         with scene.begin("find") as going:

@@ -1,0 +1,1 @@
+"""What bench/pollers measures: programs that poll a tree, each as its users start it."""

@@ -1,0 +1,151 @@
+"""The directories that a command line asks about, the globs beside them, and how their roots are asked."""
+
+import argparse
+import os
+import sys
+from typing import Any, Callable, Dict, List, Optional, Set, Tuple
+
+from .braces import all_expanded, has_braces
+from .globs import any_of, expression_of, glob_term, is_left_out
+from .ignored import Ignored, name_of
+from .open_roots import OpenRoots
+from .root_notes import MOMENT, STAYS, WINDOW
+from .roots import Place, front_of, is_directory, is_pattern, place_of, real_path, require_utf8
+from .server import Server, Value
+from .trouble import WrongWords
+
+FIRST = "."
+
+
+class Places:
+    """Directories whose roots are watched. A list of files has names as the directory was typed."""
+
+    def __init__(self, server: Server, words: List[str], options: argparse.Namespace, purpose: str = STAYS) -> None:
+        self.directories, self.words = directories_and_globs(words)
+        self.globs = all_expanded(self.words)
+        self.server = server
+        self.options = options
+        # What the roots are watched for.
+        self.purpose = purpose
+        watched = server.roots()
+        self.places = [place_of(directory, watched) for directory in self.directories]
+        if getattr(options, "absolute", False):
+            self.places = [place._replace(front=front_of(os.path.abspath(place.front))) for place in self.places]
+        # Made before a root is watched, since an option may be wrong.
+        self.expressions = [expression_of(place, self.globs, options) for place in self.places]
+        # The roots that were scanned since this command began, and those that were not watched before.
+        self.scanned: Set[str] = set()
+        self.added: List[str] = []
+        self.open = OpenRoots(server, self.roots() if purpose == WINDOW else [])
+        self.ignored: List[Ignored] = []
+        try:
+            self.watch(watched)
+            self.require_known()
+            self.ignored = [Ignored(self.asks(place), place, options) for place in self.places]
+        except BaseException:
+            self.close(sys.exc_info()[1])
+            raise
+
+    def __enter__(self) -> "Places":
+        return self
+
+    def __exit__(self, kind: object, error: Optional[BaseException], _: object) -> None:
+        self.close(error)
+
+    def close(self, error: Optional[BaseException] = None) -> None:
+        """Gives back each root that was watched for this command, unless it is to stay. A command that a person ends waits
+        for no reply."""
+        for ignored in self.ignored:
+            ignored.close()
+        is_hurried = error is not None and not isinstance(error, Exception)
+        for root in self.added if self.purpose == MOMENT else []:
+            self.server.give_back(root, is_hurried)
+        self.open.close(self.server)
+
+    def roots(self) -> List[str]:
+        return list(dict.fromkeys(place.root for place in self.places))
+
+    def again(self, server: Server) -> None:
+        """Watches the same roots by another server."""
+        self.server, self.scanned, self.added = server, set(), []
+        self.watch(server.roots())
+        for ignored in self.ignored:
+            ignored.renew()
+
+    def watch(self, watched: List[str]) -> None:
+        for root in self.roots():
+            if root not in watched:
+                self.added.append(root)
+            if self.server.watch(root, watched, self.purpose) or not getattr(self.options, "sync", True):
+                self.scanned.add(root)
+
+    def ask(self, place: Place, query: Dict[str, Any]) -> Value:
+        """The reply to a query. The first one of a root knows all that there was when this command began."""
+        found = self.server.ask("query", place.root, {**query, **self.timeout(place)})
+        self.scanned.add(place.root)
+        return found
+
+    def asks(self, place: Place) -> Callable[[Dict[str, Any]], Value]:
+        return lambda query: self.ask(place, query)
+
+    def expression(self, number: int) -> Any:
+        """That of a directory, without the directories in which all is ignored."""
+        terms = self.ignored[number].terms
+        return ["allof", self.expressions[number], ["not", any_of(terms)]] if terms else self.expressions[number]
+
+    def timeout(self, place: Place) -> Dict[str, Any]:
+        return {"sync_timeout": 0} if place.root in self.scanned else {}
+
+    def told(self, number: int, found: Value) -> Value:
+        """A list as people are shown it: without what is ignored, names as the directory was typed, and of which
+        directory it is."""
+        place = self.places[number]
+        files = self.ignored[number].kept(found["files"])
+        if getattr(self.options, "program", None) is not None and not self.options.all:
+            files = [file for file in files if not is_left_out(place.rest(name_of(file)))]
+        found["files"] = [renamed(file, place.shown(name_of(file))) for file in files]
+        found.update(root=place.root, below=place.below)
+        return found
+
+    def require_known(self) -> None:
+        """A word that is neither a directory nor a pattern names files: some that are there, or that the server knows
+        to be gone. Else it is a mistake."""
+        for word in self.words:
+            if not is_pattern(word) and not has_braces(word) and not word.startswith("./") and not self.is_known(word):
+                if os.path.isabs(word):
+                    raise WrongWords(f"{word} is no directory here")
+                raise WrongWords(f"{word} is no directory here; write './{word}' for a file of that name")
+
+    def is_known(self, word: str) -> bool:
+        if any(os.path.lexists(os.path.join(place.path(), word.lstrip("/"))) for place in self.places):
+            return True
+        for place in self.places:
+            front = [["dirname", place.below]] if place.below else []
+            expression = ["allof", *front, glob_term(word, place, self.options.ignore_case)]
+            # Since a second, so that the server names what is gone too.
+            if self.ask(place, {"since": 0, "expression": expression, "fields": ["name"]})["files"]:
+                return True
+        return False
+
+
+def directories_and_globs(words: List[str]) -> Tuple[List[str], List[str]]:
+    """The directories among the words, the current one if there is none, and the globs."""
+    directories: List[str] = []
+    globs: List[str] = []
+    for word in words:
+        require_utf8(word, "a word of the command line")
+        if is_directory(word):
+            directories.append(word)
+            continue
+        if os.path.isabs(word) and not is_pattern(word) and not has_braces(word) and not os.path.lexists(word):
+            real_path(word)
+        if word.endswith("/"):
+            raise WrongWords(f"{word} is no directory here")
+        if ".." in word.split("/"):
+            raise WrongWords(f"{word} is no directory here, and no name below a directory has '..' in it")
+        globs.append(word)
+    return directories or [FIRST], globs
+
+
+def renamed(file: Any, name: str) -> Any:
+    return {**file, "name": name} if isinstance(file, dict) else name

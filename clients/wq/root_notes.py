@@ -1,0 +1,91 @@
+"""Notes of the roots that wq had a server watch: for what, when one was last asked about, and which of them a window
+has open. The server tells none of it."""
+
+import contextlib
+import fcntl
+import time
+from typing import IO, List, Optional
+
+from wqclient.files import opened_as_own
+from wqclient.kept import LOOKS, ROOTS, WINDOWS, keep, kept, path_of, room, run_of
+
+# The purposes of a watch, of which a later one wins: one query; a window; `find --keep`; `watch`, `since` and
+# triggers.
+MOMENT, WINDOW, KEPT, STAYS = "moment", "window", "kept", "stays"
+RANKS = ("", MOMENT, WINDOW, KEPT, STAYS)
+
+
+class Notes:
+    """The notes of one run of a server."""
+
+    def __init__(self, sockname: str, process: int) -> None:
+        self.sockname = sockname
+        self.process = process
+
+    def purpose(self, root: str) -> str:
+        """The purpose for which wq has this server watch a root; nothing if it does not."""
+        note = kept(ROOTS, self.sockname, root)
+        return str(note.get("for", STAYS)) if note.get("run") == run_of(self.process) else ""
+
+    def note(self, root: str, purpose: str, is_new: bool) -> None:
+        """Notes that a root was asked about. One that another client watches is noted only if it is to stay. Another
+        command may have begun to need a new one meanwhile."""
+        before = self.purpose(root)
+        if is_new or before or purpose == STAYS:
+            self.keep(root, max(before, purpose, key=RANKS.index))
+
+    def keep(self, root: str, purpose: str) -> None:
+        with contextlib.suppress(OSError):
+            note = {"run": run_of(self.process), "for": purpose, "asked": time.time()}
+            keep(note, ROOTS, self.sockname, root)
+
+    def forget(self, root: str) -> None:
+        with contextlib.suppress(OSError):
+            keep({}, ROOTS, self.sockname, root)
+
+    def look(self, root: str) -> str:
+        """What a person hears while the server looks at all files of a root that was not watched. In the run of a server
+        that is for the first time once; then the command is named that keeps the root watched."""
+        run = run_of(self.process)
+        if kept(LOOKS, self.sockname, root).get("run") == run:
+            return f"the server looks at all files below {root} again; `wq watch` would keep it watched"
+        with contextlib.suppress(OSError):
+            keep({"run": run}, LOOKS, self.sockname, root)
+        return f"the server looks at all files below {root} for the first time"
+
+    def is_for_a_moment(self, root: str) -> bool:
+        return self.purpose(root) in ("", MOMENT)
+
+    def droppable(self, roots: List[str]) -> List[str]:
+        """The roots that need not stay and that no window has open, the least lately asked first."""
+        found = [root for root in roots if self.purpose(root) in (KEPT, WINDOW) and not self.has_window(root)]
+        return sorted(found, key=lambda root: kept(ROOTS, self.sockname, root).get("asked", 0))
+
+    def opened(self, root: str) -> "Optional[IO[str]]":
+        """A file that says that a window has a root open, until it is closed; nothing if that cannot be noted."""
+        with contextlib.suppress(OSError):
+            file = self.lock_file(root)
+            fcntl.flock(file, fcntl.LOCK_SH)
+            return file
+        return None
+
+    def has_window(self, root: str) -> bool:
+        """Whether a window has a root open, as far as can be seen."""
+        try:
+            with self.lock_file(root) as file:
+                return not is_alone(file)
+        except OSError:
+            return True
+
+    def lock_file(self, root: str) -> IO[str]:
+        room(WINDOWS)
+        return open(path_of(WINDOWS, self.sockname, root), "a", encoding="utf-8", opener=opened_as_own)
+
+
+def is_alone(file: IO[str]) -> bool:
+    """Whether nobody else has locked a file, which is locked then."""
+    try:
+        fcntl.flock(file, fcntl.LOCK_EX | fcntl.LOCK_NB)
+    except BlockingIOError:
+        return False
+    return True

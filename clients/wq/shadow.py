@@ -1,0 +1,47 @@
+"""A work tree that has the rules of another one alone: each .gitignore has the lines of the .ignore beside it too, and
+after its own, since git reads no .ignore."""
+
+import os
+from typing import List
+
+from wqclient.files import bytes_of
+
+# A file of rules has at most so many bytes.
+LONGEST = 16_777_216
+GITIGNORE, IGNORE = ".gitignore", ".ignore"
+
+
+def text_of(path: str) -> str:
+    """The text of a file; nothing if it cannot be read. git follows no link for its rules. The tree may be that of a
+    stranger, so no pipe is waited for, and a longer file has no rules."""
+    try:
+        return bytes_of(path, LONGEST).decode("utf-8", "surrogateescape")
+    except OSError:
+        return ""
+
+
+class Shadow:
+    """The work tree, which is gone when this command ends."""
+
+    def __init__(self, top: str, directories: List[str]) -> None:
+        """The directories are those with rules, by their whole paths."""
+        import tempfile  # it is slow to read, and seldom needed
+        self.top = top
+        self.room = tempfile.TemporaryDirectory(prefix="wq-")
+        for directory in directories:
+            own = os.path.join(directory, GITIGNORE)
+            texts = ["" if os.path.islink(own) else text_of(own), text_of(os.path.join(directory, IGNORE))]
+            self.add(directory)
+            with open(os.path.join(self.path(directory), GITIGNORE), "w", encoding="utf-8", errors="surrogateescape",
+                      newline="\n") as stream:
+                stream.write("\n".join(texts))
+
+    def path(self, directory: str) -> str:
+        return os.path.normpath(os.path.join(self.room.name, os.path.relpath(directory, self.top)))
+
+    def add(self, directory: str) -> None:
+        """Rules of directories are for directories alone, so git looks whether a name is one."""
+        os.makedirs(self.path(directory), exist_ok=True)
+
+    def close(self) -> None:
+        self.room.cleanup()

@@ -1,0 +1,100 @@
+"""Trees each of whose answers takes long, as over a network: `strace` delays the calls of the server."""
+
+import shutil
+import threading
+from pathlib import Path
+from typing import List
+
+import built
+from client import A_HOUR, Client, Server, same, walked
+from follower import Follower, make_tree
+
+CALLS = "statx,openat,getdents64"
+# Of each call, in microseconds.
+DELAY = 1_000
+
+
+def delayed(microseconds: int = DELAY) -> List[str]:
+    """The words before a server whose every answer of a disk is late."""
+    calls = ["-e", f"trace={CALLS}", "-e", f"inject={CALLS}:delay_enter={microseconds}"]
+    return ["strace", "-f", "-D", "-qq", "--seccomp-bpf", "-o", "/dev/null", *calls]
+
+
+def has_strace(tally: built.Tally) -> bool:
+    found = shutil.which("strace") is not None
+    tally.check("strace is there", found)
+    return found
+
+
+def check_delayed_answers(tally: built.Tally, room: Path) -> None:
+    """Each answer is right, by one thread and by several."""
+    if not has_strace(tally):
+        return
+    for workers in (1, 4, 16):
+        root = room / f"tree-{workers}"
+        make_tree(root)
+        with Server(room, interval=A_HOUR, workers=workers, through=delayed()) as server:
+            with Follower(tally, server, root) as follower:
+                check_changes(tally, follower, root, f"{workers} workers")
+                same(tally, f"the end, {workers} workers", server.shut_down(follower.client), 0)
+
+
+def check_changes(tally: built.Tally, follower: Follower, root: Path, name: str) -> None:
+    follower.takes(f"a first answer, {name}")
+    (root / "d0" / "f1").write_text("longer")
+    (root / "d1" / "new").touch()
+    (root / "d2" / "f0").unlink()
+    found = follower.takes(f"files that changed, {name}")
+    same(tally, f"their names, {name}", [name for name in found if "/" in name], ["d0/f1", "d1/new", "d2/f0"])
+    (root / "d3").rename(root / "d4")
+    shutil.rmtree(root / "d2")
+    follower.takes(f"directories that moved and went, {name}")
+
+
+def check_a_change_in_a_walk(tally: built.Tally, room: Path) -> None:
+    """A file that changes while the tree is scanned is in that answer or in the next one. A client of another root is
+    answered beside that."""
+    if not has_strace(tally):
+        return
+    root, other = room / "tree", room / "other"
+    make_tree(root, 6, 12)
+    make_tree(other, 1, 1)
+    with Server(room, interval=A_HOUR, through=delayed(2 * DELAY)) as server, Follower(tally, server, root) as follower:
+        follower.takes("a first answer")
+        writer = threading.Timer(0.05, lambda: [path.write_text("now") for path in root.glob("d*/f*")])
+        writer.start()
+        follower.client.ask("query", str(root), {"fields": ["name"]})
+        writer.join()
+        found = follower.takes("what changed in a walk")
+        same(tally, "each of these files", len([name for name in found if "/f" in name]), 6 * 12)
+        with server.client() as second:
+            second.ask("watch", str(other))
+            found = second.ask("query", str(other), {"fields": ["name"]})["files"]
+            same(tally, "another root", sorted(found), [row[0] for row in walked(other)])
+        same(tally, "the end", server.shut_down(follower.client), 0)
+
+
+def check_delayed_notice(tally: built.Tally, room: Path) -> None:
+    """With a share and a short interval a list of a subscription comes for each way in which files are saved."""
+    if not has_strace(tally):
+        return
+    root = room / "tree"
+    make_tree(root)
+    with Server(room, interval=100, share=10, through=delayed()) as server, Follower(tally, server, root) as follower:
+        follower.takes("a first answer")
+        follower.client.ask("subscribe", str(root), "s", {"fields": ["name"]})
+        follower.client.reply()
+        (root / "d1" / "f1").write_text("in place")
+        follower.hears_of("d1/f1")
+        (root / "d1" / "aside").write_text("by a rename")
+        (root / "d1" / "aside").replace(root / "d1" / "f2")
+        follower.hears_of("d1/f2")
+        (root / "d3" / "new").mkdir()
+        (root / "d3" / "new" / "file").touch()
+        follower.hears_of("d3/new/file")
+        with server.client() as last:
+            same_end(tally, server, last)
+
+
+def same_end(tally: built.Tally, server: Server, client: Client) -> None:
+    same(tally, "the end beside a subscription", server.shut_down(client), 0)

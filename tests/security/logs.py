@@ -1,0 +1,61 @@
+"""Where servers and `wq` write: not into memory without end, and not through links of another user."""
+
+import os
+import subprocess
+from pathlib import Path
+
+import built
+from client import PATIENCE, same
+from scene import COMMAND, Scene
+from users import OTHER
+
+
+def log_of(scene: Scene) -> Path:
+    return scene.room / "state" / "wq" / "logs" / (scene.sockname.strip("/").replace("/", "%") + ".log")
+
+
+def check_logs(tally: built.Tally, room: Path) -> None:
+    """A log is on the disk, of this user alone, and begins anew at each start. One that is a link is refused."""
+    with Scene(room) as scene:
+        log = log_of(scene)
+        listening = f"listening on {scene.sockname}\n"
+        same(tally, "what a server says", log.read_text(), listening)
+        same(tally, "the rights of the log", (log.stat().st_mode & 0o777, log.parent.stat().st_mode & 0o777), (0o600, 0o700))
+        same(tally, "beside the socket", sorted(path.name for path in scene.runtime.iterdir()), ["wqd.sock", "wqd.sock.start"])
+        scene.wq("stop")
+        with open(log, "a", encoding="utf-8") as file:
+            file.write("x" * 1_000_000)
+        scene.wq("start")
+        same(tally, "after another start", log.read_text(), listening)
+        scene.wq("stop")
+        precious = room / "precious"
+        precious.write_text("words")
+        log.unlink()
+        log.symlink_to(precious)
+        ended = scene.wq("start")
+        same(tally, "a log that is a link", (ended.status, precious.read_text()), (3, "words"))
+
+
+def check_a_home_of_another(tally: built.Tally, room: Path) -> None:
+    """The superuser with the home of another user, as sudo may leave it: nothing is written there."""
+    room.chmod(0o755)
+    home = room / "home"
+    home.mkdir()
+    target = room / "target"
+    target.mkdir()
+    (home / ".local" / "state").mkdir(parents=True)
+    (home / ".local" / "state" / "wq").symlink_to(target)
+    for path in (home, home / ".local", home / ".local" / "state"):
+        os.chown(str(path), OTHER, OTHER)
+    (room / "run").mkdir(mode=0o700)
+    (room / "tree").mkdir()
+    (room / "tree" / "a.c").touch()
+    environment = {**os.environ, "HOME": str(home), "WQD": str(built.program_path()), "XDG_RUNTIME_DIR": str(room / "run")}
+    for name in ("XDG_STATE_HOME", "WQD_SOCK"):
+        environment.pop(name, None)
+    for words in (["find"], ["since", "a"], ["watch"], ["stop"]):
+        ended = subprocess.run([COMMAND, *words], cwd=room / "tree", env=environment, stdout=subprocess.PIPE,
+                               stderr=subprocess.PIPE, timeout=PATIENCE)
+        same(tally, f"wq {words[0]}", ended.returncode, 0)
+    same(tally, "what is written through the link", list(target.iterdir()), [])
+    same(tally, "the log is beside the socket", (room / "run" / "wqd.sock.log").exists(), True)

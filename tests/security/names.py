@@ -1,0 +1,84 @@
+"""Names of files that a command would take for options, and what `wq run`, `wq trigger` and the bridge hand over."""
+
+import shutil
+import subprocess
+from pathlib import Path
+from typing import List
+
+import built
+from bridged import Bridge, make_files
+from client import same
+from scene import Scene
+from triggered import text_of
+
+HOSTILE = ["-specs=evil.c", "--init-hook=x.c", "@notes.c", "+:!touch taken.c", "-o.c", "a b.c", "new\nline.c", "$(id).c"]
+
+
+def plant(scene: Scene) -> None:
+    for name in HOSTILE:
+        scene.write(name)
+
+
+def names_in(output: bytes) -> List[str]:
+    return sorted(output.decode().split("\0")[:-1])
+
+
+def check_names_of_runs(tally: built.Tally, room: Path) -> None:
+    """Each name of `wq run` begins with `./`, as an argument and on standard input."""
+    with Scene(room) as scene:
+        plant(scene)
+        expected = sorted(f"./{name}" for name in HOSTILE)
+        found = scene.wq("run", "--once", "/*.c", "--", "printf", "%s\\0", "{}")
+        same(tally, "names as arguments", names_in(found.output), expected)
+        found = scene.wq("run", "--once", "--stdin", "-0", "/*.c", "--", "cat")
+        same(tally, "names on standard input", names_in(found.output), expected)
+        for place in ("{}", "{/}", "{.}", "{/.}", "{//}"):
+            found = scene.wq("find", "/*.c", "-x", "printf", "%s\\0", place)
+            options = [name for name in names_in(found.output) if name.startswith(("-", "+", "@"))]
+            same(tally, f"wq find -x with {place}", (found.status, options, found.output != b""), (0, [], True))
+        check_compiler(tally, scene)
+
+
+def check_compiler(tally: built.Tally, scene: Scene) -> None:
+    """gcc reads options from a file, for a word that begins with `@`."""
+    if shutil.which("gcc") is None:
+        print("left out: a file of options for gcc, which is not installed")
+        return
+    taken = scene.tree / "taken"
+    scene.write("evil/@notes.c", "int x;")
+    scene.write("evil/notes.c", f"-wrapper sh,-c,id>{taken}")
+    scene.write("evil/ok.c", "int y;")
+    attack = subprocess.run(["gcc", "-c", "@notes.c", "ok.c"], cwd=scene.tree / "evil", stderr=subprocess.DEVNULL)
+    same(tally, "the attack works without wq", (attack.returncode != -1, taken.exists()), (True, True))
+    taken.unlink()
+    below = Scene.call(scene, ["run", "evil", "--once", "[@o]*.c", "--", "gcc", "-c", "{}"])
+    same(tally, "gcc by wq run", (below.status, taken.exists()), (0, False))
+
+
+def check_names_of_a_trigger(tally: built.Tally, room: Path) -> None:
+    """Each name of `wq trigger` begins with `./`, and what `wq` shows of the trigger is what a person wrote."""
+    with Scene(room) as scene:
+        plant(scene)
+        out = room / "out"
+        script = f"printf '%s\\0' \"$@\" > {out}.new; mv {out}.new {out}"
+        scene.wq("trigger", ".", "t", "/*.c", "--", "sh", "-c", script, "sh", "-fixed", "{}")
+        text_of(out, lambda text: text)
+        expected = ["-fixed", *sorted(f"./{name}" for name in HOSTILE)]
+        same(tally, "names of a trigger", sorted(names_in(out.read_bytes())), sorted(expected))
+        shown = scene.wq("triggers").output.decode()
+        same(tally, "the trigger as it was written", (shown[:3], shown.endswith(" sh -fixed {}\n")), ("t: ", True))
+        same(tally, "its status", f" sh -fixed {{}}" in scene.wq("status").output.decode(), True)
+
+
+def check_names_of_watchman(tally: built.Tally, room: Path) -> None:
+    """A trigger of Watchman gets ordinary names as Watchman writes them, and others with `./`. Names are lines by newlines."""
+    root, out = room / "root", room / "out"
+    make_files(root, ["-x.c", "@y.c", "+z.c", "a.c", "_b.c", "c\x0bd.c", "e\u2028f.c"])
+    script = f"{{ printf '%s|' \"$@\"; cat; }} > {out}.new; mv {out}.new {out}"
+    with Bridge(room) as bridge, bridge.client() as client:
+        client.ask("trigger", str(root), {"name": "t", "command": ["sh", "-c", script, "sh"], "append_files": True,
+                                          "stdin": "NAME_PER_LINE", "expression": ["suffix", "c"]})
+        text = text_of(out, lambda text: text)
+        words, lines = text.rpartition("|")[0].split("|"), text.rpartition("|")[2].split("\n")[:-1]
+        same(tally, "names as arguments", words, ["./+z.c", "./-x.c", "./@y.c", "_b.c", "a.c", "c\x0bd.c", "e\u2028f.c"])
+        same(tally, "names on lines", lines, ["+z.c", "-x.c", "@y.c", "_b.c", "a.c", "c\x0bd.c", "e\u2028f.c"])
