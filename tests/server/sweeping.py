@@ -16,6 +16,8 @@ from yielding import fill
 
 # How long calls are counted, in seconds.
 COUNTED = 10.0
+# The first round after `watch` scans the whole root. It has ended after so many seconds.
+FIRST = 3.0
 # How many directories the large root has, of which one is recent.
 DIRECTORIES = 600
 
@@ -27,6 +29,8 @@ def check_names_that_change_anywhere(tally: built.Tally, room: Path) -> None:
     fill(root)
     with Server(room, interval=50, share=FEW) as server, server.client() as client:
         client.ask("watch", str(root))
+        make_recent(client, root / "directory7", root)
+        time.sleep(FIRST)
         (root / "directory400" / "file1").write_text("written in place")
         for what, act, name, expected in changes(root):
             act()
@@ -71,17 +75,32 @@ def check_what_rounds_ask(tally: built.Tally, room: Path) -> None:
     with Server(room, interval=100, share=FEW, through=through) as server, server.client() as client:
         client.ask("watch", str(root))
         make_recent(client, root / "directory7", root)
+        wait_for_rest(said)
         begin = said.stat().st_size
         time.sleep(COUNTED)
-        with open(said, encoding="utf-8", errors="replace") as calls:
-            calls.seek(begin)
-            asked, opened, files = counted(calls.read())
+        asked, opened, files = counted(calls_after(said, begin))
     cold = [name for name in opened if name != "directory7"]
     tally.check("cold directories are not read", len(cold) < DIRECTORIES // 10, [f"{len(cold)} were read"])
     tally.check("the recent directory is read again and again", opened["directory7"] >= 3, [f"{opened['directory7']} times"])
     rows = [asked[f"directory{number}"] for number in range(DIRECTORIES)]
     tally.check("each directory is asked for its row", min(rows) >= 1, [f"{min(rows)} to {max(rows)} times"])
     tally.check("files in cold directories are not asked", files < DIRECTORIES, [f"{files} were asked"])
+
+
+def wait_for_rest(said: Path) -> None:
+    """Waits until the first round has scanned the whole root: for a while nothing asks for files in cold directories."""
+    for _ in range(30):
+        begin = said.stat().st_size
+        time.sleep(FIRST)
+        if counted(calls_after(said, begin))[2] == 0:
+            return
+
+
+def calls_after(said: Path, begin: int) -> str:
+    """The calls that were written from this byte on."""
+    with open(said, encoding="utf-8", errors="replace") as calls:
+        calls.seek(begin)
+        return calls.read()
 
 
 def counted(calls: str) -> Tuple["Counter[str]", "Counter[str]", int]:

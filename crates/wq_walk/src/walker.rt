@@ -26,8 +26,8 @@ use wq_crawl::{LeftOut, Listing, Tree, TreeFault};
 use wq_view::{Recent, Seen, View};
 
 /// Walks the trees of a disk, and counts how often a root could not be read or no file handle was
-/// left. Several threads walk a large tree if somebody waits for its listing, and up to 32 walk one
-/// whose disk is slow. A listing for which nobody waited gives way as soon as somebody waits.
+/// left. Several threads walk a large tree if somebody waits for its listing, up to 32 if its disk
+/// is slow. A listing for which nobody waited gives way as soon as somebody waits.
 #[derive(Drop)]
 pub struct Walker<T: Threads + Drop, D: Disk + Drop> {
     disk: D,
@@ -35,7 +35,7 @@ pub struct Walker<T: Threads + Drop, D: Disk + Drop> {
     alloc: Global,
     /// How many threads walk a tree if somebody waits for its listing, and its disk is not slow.
     walkers: Workers,
-    /// The roots whose disks are slow. More threads walk them.
+    /// The roots whose disks are slow. More threads walk them then.
     slow: SlowRoots,
     /// How many callers wait for a listing.
     waiting: Arc<AtomicU64>,
@@ -80,7 +80,8 @@ impl<T: Threads + Drop, D: Disk + Drop> Walker<T, D> {
             let least = self.walkers.count as usize;
             (self.slow.walkers(root, least), Way::Keeps)
         } else {
-            (self.slow.walkers(root, 1), Way::Gives(&self.waiting))
+            // The share of rounds counts what one thread works.
+            (Walkers { count: 1 }, Way::Gives(&self.waiting))
         }
     }
 }

@@ -70,7 +70,11 @@ impl SlowRoots {
         // What a thread waited for an answer, with its own work.
         let answer = took.as_nanos().saturating_mul(walkers.count as u128) / files as u128;
         let threads = if answer > SLOW {
-            walkers.count.saturating_mul(2).min(MOST)
+            walkers
+                .count
+                .saturating_mul(2)
+                .min(MOST)
+                .max(self.threads(root))
         } else if answer <= QUICK {
             self.threads(root) / 2
         } else {
