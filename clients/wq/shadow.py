@@ -2,12 +2,13 @@
 after its own, since git reads no .ignore."""
 
 import os
+import stat
 from typing import List
 
 from wqclient.files import bytes_of
 
 # A file of rules has at most so many bytes.
-LONGEST = 16_777_216
+LONGEST = 1_048_576
 GITIGNORE, IGNORE = ".gitignore", ".ignore"
 
 
@@ -18,6 +19,15 @@ def text_of(path: str) -> str:
         return bytes_of(path, LONGEST).decode("utf-8", "surrogateescape")
     except OSError:
         return ""
+
+
+def is_plain(path: str) -> bool:
+    """Whether git may read a file of rules itself: it would wait for a pipe, and take memory for all of a long file."""
+    try:
+        found = os.lstat(path)
+    except OSError:
+        return False
+    return stat.S_ISREG(found.st_mode) and found.st_size <= LONGEST
 
 
 class Shadow:
