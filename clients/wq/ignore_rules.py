@@ -8,7 +8,7 @@ from typing import TYPE_CHECKING, Any, Callable, Dict, List, Optional, Tuple
 
 from .git import Judge, Refused, Repository, Unanswered, is_repository, no_repository, repository_of, tracked_in
 from .ignore_lines import Terms, terms_of
-from .shadow import GITIGNORE, IGNORE, LONGEST, Shadow, is_plain, text_of
+from .shadow import GITIGNORE, IGNORE, LONGEST, Shadow, is_directory, is_plain, text_of
 
 if TYPE_CHECKING:
     import tempfile
@@ -92,7 +92,8 @@ class Rules:
             self.add(text_of(path), directory)
         for path in above:
             self.add(text_of(path), None)
-        paths = [path for path, _ in files] + [path for path in above if os.path.exists(path)]
+        found = [path for path, _ in files] + [path for path in above if os.path.exists(path)]
+        paths = [path for path in found if not is_directory(path)]
         if any(path.endswith(f"/{IGNORE}") or not is_plain(path) for path in paths):
             self.end_judges()
             self.shadow = Shadow(self.top or self.root, sorted({os.path.dirname(path) for path in paths}))
@@ -142,7 +143,7 @@ class Rules:
 
     def add_to_shadow(self, shadow: Shadow, name: str, is_gone: bool) -> None:
         path = os.path.join(self.root, name)
-        if is_gone or os.path.isdir(path) and not os.path.islink(path):
+        if is_gone or is_directory(path):
             shadow.add(path)
 
     def repository(self, name: str) -> str:

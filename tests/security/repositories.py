@@ -106,7 +106,9 @@ def check_large_rules(tally: built.Tally, scene: Scene) -> None:
     (tree / ".gitignore").write_text("*.o\n")
     (tree / "holes" / ".gitignore").touch()
     os.truncate(str(tree / "holes" / ".gitignore"), 1 << 40)
-    same(tally, "a file of rules that is long", scene.names("find", "large", "*.[co]"), LARGE)
+    for name in (".gitignore/.gitignore", ".gitignore/.ignore", "x/.ignore/x"):
+        scene.write(f"large/named/{name}", "")
+    same(tally, "a file of rules that is long, and directories of such names", scene.names("find", "large", "*.[co]"), LARGE)
 
 
 def check_waiting(tally: built.Tally, scene: Scene) -> None:
