@@ -9,12 +9,12 @@ from wqprogram.limits import MAX_PATTERN
 from .globs import SPECIAL, WITH_DOTS, any_of, escaped
 
 Terms = List[Any]
-# The terms of a query have at most so many bytes; a line of the server has twice as many.
-MOST_BYTES = 524_288
+# The terms of a query have at most so many bytes. With more of them the server takes longer than git does for all names.
+MOST_BYTES = 16_384
 
 
 def one_of(terms: Terms) -> Any:
-    """A term for what any of these matches. More of them than a query may have could mean anything."""
+    """A term for what any of these matches. More of them than a query has could mean anything."""
     return any_of(terms) if len(json.dumps(terms)) <= MOST_BYTES else "true"
 
 

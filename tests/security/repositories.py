@@ -100,7 +100,7 @@ def check_large_rules(tally: built.Tally, scene: Scene) -> None:
     for name in ("a.c", "b.o", "holes/c.c", "holes/d.o"):
         scene.write(f"large/{name}")
     git(tree, "init", "-q")
-    for lines in (30_000, 100_000):
+    for lines in (2_000, 100_000):
         (tree / ".gitignore").write_text("".join(f"a{number}*.x\n" for number in range(lines)) + "*.o\n")
         same(tally, f"{lines} rules", scene.names("find", "large", "*.[co]"), LARGE)
     (tree / ".gitignore").write_text("*.o\n")
