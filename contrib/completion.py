@@ -38,11 +38,12 @@ def bash() -> str:
     named = "\n".join(f"        {command}) _wq_names {kind} ;;" for command, kind in NAMES_OF_COMMANDS.items())
     return f"""# Completes the words of wq in bash.
 
-# Adds the names of a kind that the server has.
+# Adds the names of a kind that the server has, in quotes: bash puts them into the line as they are.
 _wq_names() {{
-    local name
+    local name quoted
     while IFS= read -r name; do
-        if [[ $name == "$word"* ]]; then COMPREPLY+=("$name"); fi
+        printf -v quoted %q "$name"
+        if [[ $name == "$word"* || $quoted == "$word"* ]]; then COMPREPLY+=("$quoted"); fi
     done < <("${{COMP_WORDS[0]}}" --names "$1" 2> /dev/null)
 }}
 

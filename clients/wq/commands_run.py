@@ -8,10 +8,10 @@ import tempfile
 from typing import IO, Dict, List, Optional, Set, Tuple
 
 from .names_handed import as_argument, batches
+from .shell_text import with_names
 
 PLACE = "{}"
-# A shell takes the names in place of `{}` from its own words.
-SHELL, NAMES_OF_SHELL = "/bin/sh", '"$@"'
+SHELL = "/bin/sh"
 # As shells end if a command is not there, or cannot be started.
 NOT_FOUND, CANNOT_START = 127, 126
 
@@ -66,9 +66,8 @@ class Command:
 
 def shell_words(text: str) -> List[str]:
     """The words of a shell that runs a text, in which `{}` is for the names."""
-    if PLACE not in text:
-        return [SHELL, "-c", text]
-    return [SHELL, "-c", text.replace(PLACE, NAMES_OF_SHELL), "sh", PLACE]
+    filled = with_names(text)
+    return [SHELL, "-c", filled, "sh", PLACE] if filled != text else [SHELL, "-c", text]
 
 
 def prepare(is_alone: bool, signals: Set[signal.Signals]) -> None:

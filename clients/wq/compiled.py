@@ -60,10 +60,15 @@ def program(top: str, tell: Tell) -> Path:
 
 
 def require_own(directory: Path) -> None:
-    """What is in there is run. With sudo it may be the cache of another user."""
+    """What is in there is run. With sudo it may be the cache of another user, who could also rename what is below his
+    home."""
     found = directory.lstat()
     if not stat.S_ISDIR(found.st_mode) or found.st_uid != os.getuid() or found.st_mode & 0o022:
         raise Unstarted(f"{directory}: it is no directory that you alone write to")
+    for above in list(directory.resolve().parents)[:3]:
+        found = above.stat()
+        if found.st_uid not in (os.getuid(), 0) or found.st_mode & stat.S_IWOTH and not found.st_mode & stat.S_ISVTX:
+            raise Unstarted(f"{above}: it is no directory of yours alone, and what is kept below is run")
 
 
 def checksum(top: Path) -> str:

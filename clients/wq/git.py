@@ -3,6 +3,7 @@
 import contextlib
 import errno
 import os
+import select
 from typing import TYPE_CHECKING, Dict, Iterator, List, NamedTuple, Optional
 
 from wqclient.harmless import harmless
@@ -10,8 +11,14 @@ from wqclient.harmless import harmless
 if TYPE_CHECKING:
     import subprocess
 
-# A repository could name a program that git runs for its index, and one that fetches what is missing.
-SAFELY = ("git", "-c", "core.fsmonitor=false", "-c", "protocol.allow=never")
+# A repository could name a program that git runs for its index.
+SAFELY = ("git", "-c", "core.fsmonitor=false")
+# And one that fetches what is missing: git takes no protocol, whatever a repository allows.
+NO_PROTOCOL = {"GIT_ALLOW_PROTOCOL": "", "GIT_NO_LAZY_FETCH": "1"}
+# A file of a repository, such as one with rules, may be a pipe, for which git would wait. It is ended after so many
+# seconds in which it says nothing.
+PATIENCE = 10
+LATE = f"it took over {PATIENCE} s"
 # Few enough bytes are asked at once to fit into a pipe, with their answers.
 AT_ONCE = 4_096
 FIELDS = 4
@@ -21,6 +28,10 @@ MOST_ENDS = 100
 
 class Unanswered(Exception):
     """git does not answer, for this reason."""
+
+
+class Refused(Unanswered):
+    """git looked, and does not take the repository, or has no value of that name."""
 
 
 class Repository(NamedTuple):
@@ -34,19 +45,21 @@ class Repository(NamedTuple):
 def environment() -> Dict[str, str]:
     """Without the variables by which git gives its own commands another repository."""
     kept = [name for name in os.environ if not name.startswith("GIT_") or name.startswith("GIT_CONFIG")]
-    return {**{name: os.environ[name] for name in kept}, "LC_ALL": "C", "GIT_OPTIONAL_LOCKS": "0", "GIT_NO_LAZY_FETCH": "1"}
+    return {**{name: os.environ[name] for name in kept}, "LC_ALL": "C", "GIT_OPTIONAL_LOCKS": "0", **NO_PROTOCOL}
 
 
 def answer(words: List[str], directory: str) -> bytes:
     import subprocess  # it is slow to read, and most searches do not ask git
     try:
         ended = subprocess.run([*SAFELY, *words], cwd=directory, env=environment(), stdin=subprocess.DEVNULL,
-                               stdout=subprocess.PIPE, stderr=subprocess.PIPE)
+                               stdout=subprocess.PIPE, stderr=subprocess.PIPE, timeout=PATIENCE)
+    except subprocess.TimeoutExpired:
+        raise Unanswered(LATE) from None
     except OSError as error:
         raise Unanswered("it is not installed" if error.errno == errno.ENOENT else str(error.strerror)) from None
     if ended.returncode != 0:
         lines = ended.stderr.decode("utf-8", "replace").strip().split("\n")
-        raise Unanswered(harmless(lines[0].replace("fatal: ", "", 1)))
+        raise Refused(harmless(lines[0].replace("fatal: ", "", 1)))
     return ended.stdout
 
 
@@ -72,7 +85,7 @@ def no_repository(directory: str, room: str) -> Repository:
 
 def everywhere(directory: str) -> str:
     """The file that says what a user ignores in each repository."""
-    with contextlib.suppress(Unanswered):
+    with contextlib.suppress(Refused):
         found = answer(["config", "--type=path", "--get", "core.excludesFile"], directory)
         return os.path.join(directory, os.fsdecode(found[:-1]))
     home = os.environ.get("XDG_CONFIG_HOME") or os.path.join(os.path.expanduser("~"), ".config")
@@ -110,10 +123,7 @@ class Judge:
                 place += 1
 
     def answers(self, names: List[str]) -> Iterator[str]:
-        if self.process is None:
-            import subprocess
-            self.process = subprocess.Popen(self.words, cwd=self.directory, env=environment(), stdin=subprocess.PIPE,
-                                            stdout=subprocess.PIPE, stderr=subprocess.DEVNULL, bufsize=0)
+        self.process = self.process or self.begun()
         assert self.process.stdin is not None and self.process.stdout is not None
         written = memoryview(b"".join(b"./" + os.fsencode(name) + b"\0" for name in names))
         with contextlib.suppress(BrokenPipeError):
@@ -121,6 +131,10 @@ class Judge:
                 written = written[os.write(self.process.stdin.fileno(), written):]
         held, left = b"", len(names)
         while left:
+            poll = select.poll()
+            poll.register(self.process.stdout, select.POLLIN)
+            if not poll.poll(PATIENCE * 1000):
+                raise Unanswered(LATE)
             piece = os.read(self.process.stdout.fileno(), 65_536)
             if not piece:
                 self.close()
@@ -132,11 +146,20 @@ class Judge:
                 left -= 1
                 yield os.fsdecode(fields[at])
 
+    def begun(self) -> "subprocess.Popen[bytes]":
+        import subprocess
+        try:
+            return subprocess.Popen(self.words, cwd=self.directory, env=environment(), stdin=subprocess.PIPE,
+                                    stdout=subprocess.PIPE, stderr=subprocess.DEVNULL, bufsize=0)
+        except OSError as error:
+            raise Unanswered(f"it does not start: {error.strerror}") from None
+
     def close(self) -> None:
         if self.process is not None:
             for stream in (self.process.stdin, self.process.stdout):
                 if stream is not None:
                     stream.close()
+            self.process.kill()
             self.process.wait()
             self.process = None
 

@@ -1,13 +1,21 @@
 """Lines of a .gitignore as terms of the protocol, which match all that such a line could mean. git itself says what it
 means: a name that no term matches is not asked of git, and a directory that one matches may be left out in a query."""
 
+import json
 from typing import Any, Dict, List, Optional
 
 from wqprogram.limits import MAX_PATTERN
 
-from .globs import SPECIAL, WITH_DOTS, escaped
+from .globs import SPECIAL, WITH_DOTS, any_of, escaped
 
 Terms = List[Any]
+# The terms of a query have at most so many bytes. With more of them the server takes longer than git does for all names.
+MOST_BYTES = 16_384
+
+
+def one_of(terms: Terms) -> Any:
+    """A term for what any of these matches. More of them than a query has could mean anything."""
+    return any_of(terms) if len(json.dumps(terms)) <= MOST_BYTES else "true"
 
 
 def terms_of(text: str, directory: Optional[str]) -> Terms:

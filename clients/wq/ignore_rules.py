@@ -6,12 +6,15 @@ import contextlib
 import os
 from typing import TYPE_CHECKING, Any, Callable, Dict, List, Optional, Tuple
 
-from .git import Judge, Repository, Unanswered, is_repository, no_repository, repository_of, tracked_in
+from .git import Judge, Refused, Repository, Unanswered, is_repository, no_repository, repository_of, tracked_in
 from .ignore_lines import Terms, terms_of
-from .shadow import GITIGNORE, IGNORE, Shadow, text_of
+from .shadow import GITIGNORE, IGNORE, LONGEST, Shadow, is_directory, is_plain, text_of
 
 if TYPE_CHECKING:
     import tempfile
+
+# The rules of a root have at most so many bytes together.
+MOST = 67_108_864
 
 Ask = Callable[[Dict[str, Any]], Any]
 # A name, and whether it is a directory that is gone.
@@ -39,8 +42,9 @@ class Rules:
         self.repositories: Dict[str, Repository] = {}
         self.judges: Dict[str, Judge] = {}
         self.tracked: Dict[str, List[bytes]] = {}
-        # All that a rule could mean.
+        # All that a rule could mean, and how long the rules are.
         self.lines: Terms = []
+        self.size = 0
         self.room: Optional["tempfile.TemporaryDirectory[str]"] = None
         self.shadow: Optional[Shadow] = None
         try:
@@ -63,7 +67,7 @@ class Rules:
         self.find_repositories([name.rpartition("/")[0] for name in names if name.endswith("/.git")])
         for directory, repository in self.repositories.items():
             for path in repository.excludes:
-                self.lines += terms_of(text_of(path), directory)
+                self.add(text_of(path), directory)
         self.read_files([name for name in names if not name.endswith(".git")])
 
     def find_repositories(self, directories: List[str]) -> None:
@@ -73,7 +77,7 @@ class Rules:
             if ".git" in directory.split("/") or not is_repository(path):
                 continue
             if not self.judged([(directory, False)])[0] or self.is_tracked(directory):
-                with contextlib.suppress(Unanswered):
+                with contextlib.suppress(Refused):
                     self.repositories[directory] = repository_of(path)
 
     def read_files(self, names: List[str]) -> None:
@@ -85,13 +89,24 @@ class Rules:
             path = os.path.dirname(path)
             above += [os.path.join(path, last) for last in (GITIGNORE, IGNORE)]
         for path, directory in files:
-            self.lines += terms_of(text_of(path), directory)
+            self.add(text_of(path), directory)
         for path in above:
-            self.lines += terms_of(text_of(path), None)
-        paths = [path for path, _ in files] + [path for path in above if os.path.exists(path)]
-        if any(path.endswith(f"/{IGNORE}") for path in paths):
+            self.add(text_of(path), None)
+        found = [path for path, _ in files] + [path for path in above if os.path.exists(path)]
+        paths = [path for path in found if not is_directory(path)]
+        if any(path.endswith(f"/{IGNORE}") or not is_plain(path) for path in paths):
             self.end_judges()
             self.shadow = Shadow(self.top or self.root, sorted({os.path.dirname(path) for path in paths}))
+
+    def add(self, text: str, directory: Optional[str]) -> None:
+        """Adds what the rules of a file could mean. More of them than a query may have could mean anything."""
+        self.size += len(text)
+        if self.size > MOST:
+            raise Unanswered(f"its rules have over {MOST:,} bytes")
+        if self.size <= LONGEST:
+            self.lines += terms_of(text, directory)
+        else:
+            self.lines = ["true"]
 
     # What git says.
 
@@ -128,7 +143,7 @@ class Rules:
 
     def add_to_shadow(self, shadow: Shadow, name: str, is_gone: bool) -> None:
         path = os.path.join(self.root, name)
-        if is_gone or os.path.isdir(path) and not os.path.islink(path):
+        if is_gone or is_directory(path):
             shadow.add(path)
 
     def repository(self, name: str) -> str:

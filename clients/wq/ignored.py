@@ -6,7 +6,7 @@ from typing import Any, Dict, List, Optional, Set
 
 from .git import Unanswered
 from .globs import any_of, left_out_terms, note
-from .ignore_lines import Terms
+from .ignore_lines import Terms, one_of
 from .ignore_rules import Ask, Rules, directories_of, top_of
 from .roots import Place
 
@@ -59,7 +59,7 @@ class Ignored:
         if not rules.lines or below and rules.judged([(below, False)])[0]:
             self.close()
             return
-        parts = [["type", "d"], any_of(rules.lines)]
+        parts = [["type", "d"], one_of(rules.lines)]
         if not self.options.all:
             parts.append(["not", any_of(left_out_terms(self.place, argparse.Namespace(all=False, exclude=[])))])
         names: List[str] = self.ask({"expression": self.within(parts), "fields": ["name"]})["files"]
@@ -91,7 +91,7 @@ class Ignored:
         files = [file for file in files if not self.is_within(name_of(file))]
         asked = files
         if len(files) > LONG:
-            parts = [any_of([*rules.lines, *self.partly]), *([["not", any_of(self.terms)]] if self.terms else [])]
+            parts = [one_of([*rules.lines, *self.partly]), *([["not", any_of(self.terms)]] if self.terms else [])]
             # Since a second, so that files that are gone are among them.
             suspects = set(self.ask({"since": 0, "expression": self.within(parts), "fields": ["name"]})["files"])
             asked = [file for file in files if name_of(file) in suspects]

@@ -2,12 +2,15 @@
 after its own, since git reads no .ignore."""
 
 import os
+import stat
 from typing import List
 
 from wqclient.files import bytes_of
 
+from .git import Unanswered
+
 # A file of rules has at most so many bytes.
-LONGEST = 16_777_216
+LONGEST = 1_048_576
 GITIGNORE, IGNORE = ".gitignore", ".ignore"
 
 
@@ -20,6 +23,23 @@ def text_of(path: str) -> str:
         return ""
 
 
+def is_plain(path: str) -> bool:
+    """Whether git may read a file of rules itself: it would wait for a pipe, and take memory for all of a long file."""
+    try:
+        found = os.lstat(path)
+    except OSError:
+        return False
+    return stat.S_ISREG(found.st_mode) and found.st_size <= LONGEST
+
+
+def is_directory(path: str) -> bool:
+    return os.path.isdir(path) and not os.path.islink(path)
+
+
+def no_room(error: OSError) -> Unanswered:
+    return Unanswered(f"it has no room for the rules: {error.strerror}")
+
+
 class Shadow:
     """The work tree, which is gone when this command ends."""
 
@@ -28,20 +48,36 @@ class Shadow:
         import tempfile  # it is slow to read, and seldom needed
         self.top = top
         self.room = tempfile.TemporaryDirectory(prefix="wq-")
-        for directory in directories:
-            own = os.path.join(directory, GITIGNORE)
-            texts = ["" if os.path.islink(own) else text_of(own), text_of(os.path.join(directory, IGNORE))]
-            self.add(directory)
-            with open(os.path.join(self.path(directory), GITIGNORE), "w", encoding="utf-8", errors="surrogateescape",
-                      newline="\n") as stream:
-                stream.write("\n".join(texts))
+        try:
+            for directory in directories:
+                self.add(directory)
+                self.write(directory)
+        except BaseException as error:
+            self.close()
+            if isinstance(error, OSError):
+                raise no_room(error) from None
+            raise
+
+    def write(self, directory: str) -> None:
+        """Writes the rules of a directory. One with another directory in their place has none."""
+        own = os.path.join(directory, GITIGNORE)
+        if is_directory(own):
+            self.add(own)
+            return
+        texts = ["" if os.path.islink(own) else text_of(own), text_of(os.path.join(directory, IGNORE))]
+        with open(os.path.join(self.path(directory), GITIGNORE), "w", encoding="utf-8", errors="surrogateescape",
+                  newline="\n") as stream:
+            stream.write("\n".join(texts))
 
     def path(self, directory: str) -> str:
         return os.path.normpath(os.path.join(self.room.name, os.path.relpath(directory, self.top)))
 
     def add(self, directory: str) -> None:
         """Rules of directories are for directories alone, so git looks whether a name is one."""
-        os.makedirs(self.path(directory), exist_ok=True)
+        try:
+            os.makedirs(self.path(directory), exist_ok=True)
+        except OSError as error:
+            raise no_room(error) from None
 
     def close(self) -> None:
         self.room.cleanup()

@@ -3,6 +3,7 @@
 import os
 import subprocess
 from pathlib import Path
+from typing import Dict
 
 import built
 from client import PATIENCE, same
@@ -58,4 +59,22 @@ def check_a_home_of_another(tally: built.Tally, room: Path) -> None:
                                stderr=subprocess.PIPE, timeout=PATIENCE)
         same(tally, f"wq {words[0]}", ended.returncode, 0)
     same(tally, "what is written through the link", list(target.iterdir()), [])
+    check_a_cache_of_another(tally, room, {**environment, "PATH": f"{room}/kit:{environment['PATH']}"})
     same(tally, "the log is beside the socket", (room / "run" / "wqd.sock.log").exists(), True)
+
+
+def check_a_cache_of_another(tally: built.Tally, room: Path, environment: Dict[str, str]) -> None:
+    """No program is kept and run below a directory of which another user could rename a part."""
+    kit = room / "kit" / "rt"
+    kit.parent.mkdir()
+    kit.write_text("#!/bin/sh\nexit 1\n")
+    kit.chmod(0o755)
+    environment.pop("XDG_CACHE_HOME", None)
+    (room / "open").mkdir()
+    (room / "open").chmod(0o777)
+    for values, culprit in (({}, room / "home"), ({"XDG_CACHE_HOME": str(room / "open")}, room / "open")):
+        ended = subprocess.run([built.TOP / "contrib" / "unproved"], env={**environment, **values},
+                               stdout=subprocess.PIPE, stderr=subprocess.PIPE, timeout=PATIENCE)
+        words = f"wqd: {culprit}: it is no directory of yours alone, and what is kept below is run\n"
+        same(tally, f"programs below {culprit.name}", built.Ended(ended.stdout, ended.stderr, ended.returncode),
+             built.Ended(b"", words.encode(), 1))

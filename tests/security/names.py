@@ -32,11 +32,24 @@ def check_names_of_runs(tally: built.Tally, room: Path) -> None:
         same(tally, "names as arguments", names_in(found.output), expected)
         found = scene.wq("run", "--once", "--stdin", "-0", "/*.c", "--", "cat")
         same(tally, "names on standard input", names_in(found.output), expected)
+        check_names_of_a_shell(tally, scene, expected)
         for place in ("{}", "{/}", "{.}", "{/.}", "{//}"):
             found = scene.wq("find", "/*.c", "-x", "printf", "%s\\0", place)
             options = [name for name in names_in(found.output) if name.startswith(("-", "+", "@"))]
             same(tally, f"wq find -x with {place}", (found.status, options, found.output != b""), (0, [], True))
         check_compiler(tally, scene)
+
+
+def check_names_of_a_shell(tally: built.Tally, scene: Scene, expected: List[str]) -> None:
+    """A text for a shell may have quotes around `{}`, which do not take those away that the names have."""
+    for place in ("{}", '"{}"', "'{}'", '$(printf "%s\\0" "{}" >&3)', '"$(printf "%s\\0" {} >&3)"'):
+        text = f"exec 3>&1; : {place}" if "$" in place else f'printf "%s\\0" {place}'
+        found = scene.wq("run", "--once", "--shell", "/*.c", "--", text)
+        same(tally, f"names in a shell by {place}", names_in(found.output), expected)
+    for text in ('printf "%s" "a {}"', "sh -c 'echo {}'", "sh -c 'echo \"{}\"'", "echo \\{}"):
+        found = scene.wq("run", "--once", "--shell", "/*.c", "--", text)
+        is_said = b"out of the quotes" in found.errors
+        same(tally, f"names in the quotes of {text}", (found.status, found.output, is_said), (2, b"", True))
 
 
 def check_compiler(tally: built.Tally, scene: Scene) -> None:
