@@ -23,7 +23,7 @@ MOST = {
     "docs/SCRIPTS.md": 1100,
     "docs/SECURITY.md": 2050,
     "docs/SERVER.md": 4200,
-    "docs/SPEED.md": 1750,
+    "docs/SPEED.md": 1800,
     "docs/TROUBLESHOOTING.md": 1550,
     "docs/TUTORIAL.md": 1450,
     "docs/WQ.md": 2750,

@@ -7,6 +7,7 @@ from pathlib import Path
 
 import built
 from client import A_HOUR, VERSION, Server, query_of_names, same
+from yielding import fill
 
 MOST_FILES = 1_000_000
 DIRECTORIES = 20
@@ -16,13 +17,34 @@ MEMORY = Path("/dev/shm")
 
 def check_a_million(tally: built.Tally, room: Path) -> None:
     """A root of 1,000,000 rows is watched. With one more it cannot be crawled, and its view stays."""
-    with tempfile.TemporaryDirectory(dir=MEMORY if has_room(MEMORY) else room) as shelf:
+    with in_memory(room) as shelf:
         root = Path(shelf) / "tree"
         try:
             make_names(root, DIRECTORIES, MOST_FILES)
             check_most_files(tally, room, root)
         finally:
             subprocess.run(["rm", "-rf", str(root)], check=True)
+
+
+def check_half_of_the_files(tally: built.Tally, room: Path) -> None:
+    """Every second file of a large root changes, and then every third goes: more places than a listing keeps apart."""
+    with in_memory(room) as shelf, Server(room, interval=A_HOUR) as server, server.client() as client:
+        root = Path(shelf) / "half"
+        fill(root)
+        client.ask("watch", str(root))
+        for what, step, act in (("change", 2, lambda path: path.write_text("changed")), ("go", 3, Path.unlink)):
+            clock = client.ask("clock", str(root))["clock"]
+            paths = [path for directory in root.iterdir() for path in sorted(directory.iterdir())[::step]]
+            for path in paths:
+                act(path)
+            query = {**query_of_names(), "since": clock, "expression": ["not", ["type", "d"]]}
+            found = client.ask("query", str(root), query)["files"]
+            same(tally, f"many files that {what}", sorted(found), sorted(str(path.relative_to(root)) for path in paths))
+
+
+def in_memory(room: Path) -> "tempfile.TemporaryDirectory[str]":
+    """A directory in memory if that has room, and else below this one."""
+    return tempfile.TemporaryDirectory(dir=MEMORY if has_room(MEMORY) else room)
 
 
 def has_room(directory: Path) -> bool:

