@@ -15,14 +15,14 @@ use Rattle.wq_record.specs.Seen.{SeenData, is_count, is_lawful_row}
 use Rattle.wq_view.specs.Patch.{patched}
 use Rattle.wq_view.specs.Patching.{ArePatches}
 use Rattle.wq_view.specs.declared.patch.Patch.{Patch}
-use Rattle.wq_live.specs.Patched.{MakePass, pass_by}
+use Rattle.wq_live.specs.Patched.{pass_by}
 use Rattle.wq_view.specs.View.{IsViewOf, NamesRise, ViewData}
 use Rattle.wq_view.specs.declared.listing.PassFault.{PassFault}
 use Rattle.wq_crawl.specs.declared.tree.Listing.{Listing}
 use Rattle.wq_crawl.specs.declared.tree.Listing.TheVariants.{Rows, Patches, Same}
 use Rattle.wq_crawl.specs.declared.tree.TreeFault.{TreeFault}
 use Rattle.wq_crawl.specs.declared.relisted.Relisted.TheVariants.{Patched}
-use Rattle.wq_crawl.specs.Tree.{IsFew, IsFit, ListedData, Lists, rows_given_again, rows_listed}
+use Rattle.wq_crawl.specs.Tree.{AreLawful, IsFew, IsFit, ListedData, Lists, rows_given_again, rows_listed}
 use Rattle.wq_crawl.specs.Device.{Gave}
 use Rattle.wq_live.specs.declared.event.RootEvent.{RootEvent}
 use Rattle.wq_view.specs.Listing.{PassData, is_of_whole, listing_fault, listing_of}
@@ -74,6 +74,14 @@ lists_again number text before after view (Ok (Rows rows)) is_view lawful few fi
 lists_again number text before after view (Ok (Patches patches)) is_view lawful few fit lists = (view, is_view, lists, record { fit = fit; lawful = lawful }, few)
 lists_again number text before after view (Ok Same) is_view lawful few fit lists = (view, is_view, lists, lawful, few)
 lists_again number text before after view (Err fault) is_view lawful few fit lists = lists
+
+-- rows that are lawful beside a view are lawful
+pub lawful_rows : (records : List RecordData) (result : Result Listing TreeFault) → IfOk result (λ listing. IsTrue (list_all is_lawful_row (rows_listed records listing)))
+    → IfOk result AreLawful
+lawful_rows records (Ok (Rows rows)) lawful = lawful
+lawful_rows records (Ok (Patches patches)) lawful = tt
+lawful_rows records (Ok Same) lawful = tt
+lawful_rows records (Err fault) lawful = tt
 
 -- a pass of rows that were listed
 of_rows : (before after : Option (ℕ × ListedData)) (text : List ℕ) (rows : List SeenData) (second : ℤ) → Lists before text (Ok rows) after

@@ -1,7 +1,7 @@
 -- Crawling, watching and unwatching a root: the list of events after each of them, and the reasons
 -- for a refusal. No public document defines it.
 use Rattle.std.specs.Prelude.{◌≡◌, ◌≤◌, ◌⊎◌, ℕ, ℤ, length, refl, List}
-use Rattle.std.specs.Prelude.{Option, Some, None, IfOk, IsSome, IsTrue, Result, Ok, Err}
+use Rattle.std.specs.Prelude.{Option, Some, None, IfOk, IsTrue, Result, Ok, Err}
 use Rattle.std.specs.Prelude.{Bool, true, false}
 use Rattle.std.specs.List.{list_all}
 use Rattle.std.specs.Coded.{Coded, code_by, coded×, coded_bool, coded_ℕ, coded_ℤ, coded_option}
@@ -63,6 +63,37 @@ crawler_code =
       failed = failed;
       whole = whole;
     }) (λ _. refl)
+
+-- the state that a lister shows: that of its tree and its clock
+pub record ListerData : Type 0 where
+  pub clock : Option (ℕ × ℤ)
+  pub listed : Option (ℕ × ListedData)
+  pub failed : ℕ
+  pub whole : Bool
+
+-- a lister as the tuple of its parts
+abbrev pub lister_code : Coded ListerData
+lister_code =
+    code_by (Option (ℕ × ℤ) × (Option (ℕ × ListedData) × (ℕ × Bool)))
+    (coded× (coded_option (coded× coded_ℕ coded_ℤ))
+    (coded× (coded_option (coded× coded_ℕ listed_code)) (coded× coded_ℕ coded_bool)))
+    (λ l. (l.clock, (l.listed, (l.failed, l.whole))))
+    (λ (clock, (listed, (failed, whole))). record {
+      clock = clock;
+      listed = listed;
+      failed = failed;
+      whole = whole;
+    }) (λ _. refl)
+
+-- a crawler with this list and a lister in this state
+abbrev pub crawler_at : List RootEvent → ListerData → CrawlerData
+crawler_at events lister = record {
+  events = events;
+  clock = lister.clock;
+  listed = lister.listed;
+  failed = lister.failed;
+  whole = lister.whole;
+}
 
 -- the crawl fault of a root that the tree does not list
 abbrev pub not_listed : TreeFault → CrawlFault

@@ -2,6 +2,6 @@ pub mod Device
 pub mod Tree
 pub mod Publish
 pub mod Crawl
-pub mod Count
+pub mod Shared
 pub mod Roots
 pub mod Second

@@ -9,7 +9,8 @@ use Rattle.wq_view.specs.Limit.{max_listing_rows}
 use Rattle.wq_view.specs.Patch.{patched}
 use Rattle.wq_view.specs.Patching.{ArePatches}
 use Rattle.wq_record.specs.RecordData.{RecordData}
-use Rattle.wq_record.specs.Seen.{SeenData, Stat, entry_of, stat_code}
+use Rattle.std.specs.List.{list_all}
+use Rattle.wq_record.specs.Seen.{SeenData, Stat, entry_of, is_lawful_row, stat_code}
 use Rattle.wq_crawl.specs.Device.{Gave}
 use Rattle.wq_crawl.specs.contracts.tree.TreeFault.{the_row}
 use Rattle.wq_crawl.specs.declared.tree.Listing.{Listing}
@@ -80,6 +81,11 @@ abbrev pub IsFew : List RecordData → Listing → Type 0
 IsFew records (Rows rows) = Unit {0}
 IsFew records (Patches patches) = length (patched records patches.items) ≤ max_listing_rows
 IsFew records Same = length (seen_rows records) ≤ max_listing_rows
+
+-- the rows of a listing that gives rows are lawful
+abbrev pub AreLawful : Listing → Type 0
+AreLawful (Rows rows) = IsTrue (list_all is_lawful_row rows.items)
+AreLawful listing = Unit {0}
 
 -- the patches of a listing fit the records
 abbrev pub IsFit : List RecordData → Listing → Type 0

@@ -1,36 +1,51 @@
 //! The count of crawls that have begun.
+ghost use Rattle.std.specs.Prelude.{◌≡◌, nat_le};
 
-use crate::crawler::Crawler;
+use crate::lister::Lister;
 use crate::seconds::Seconds;
 use crate::tree::Tree;
-use std::sync::Wait;
 use std::sync::atomic::{AtomicU64, Ordering};
-use wq_live::Named;
 
-/// Counts the crawls that begin. Only a count that was read or raised here has a meaning. A number of another origin is
-/// no count.
+/// The moment at which somebody asked for a crawl: the number of crawls that had begun then. Only [`Counts::read`] makes
+/// one.
+#[derive(Clone, Copy, Drop)]
+pub struct Asked {
+    count: u64,
+}
+
+/// The moment at which a crawl began: the number of crawls that had begun before. Only [`Counts::raise`] makes one.
+#[derive(Clone, Copy, Drop)]
+pub(crate) struct Raised {
+    count: u64,
+}
+
+impl Raised {
+    /// Whether the crawl began when somebody asked, or later.
+    pub(crate) fn is_since(&self, asked: Asked) -> bool
+        ensures { result ≡ nat_le asked.count self.now.count }
+    {
+        asked.count <= self.count
+    }
+}
+
+/// Counts the crawls that begin.
 pub(crate) trait Counts {
     ghost use Rattle.std.specs.Prelude.{ℕ};
-    ghost use Rattle.wq_crawl.specs.Crawl.{CrawlerData};
+    ghost use Rattle.wq_crawl.specs.Crawl.{ListerData};
 
     // A count that was read.
     ghost read: { ℕ → Type 0 };
 
-    // A count that was raised while the crawler was in this state.
-    ghost raised: { CrawlerData → ℕ → Type 0 };
+    // A count that was raised while the lister was in this state.
+    ghost raised: { ListerData → ℕ → Type 0 };
 
     /// The number of crawls that have begun.
-    fn read(&self) -> u64
-        ensures { read result };
+    fn read(&self) -> Asked
+        ensures { read result.count };
 
-    /// Counts a crawl that begins, by a crawler in this state. It returns the number of crawls that had begun before.
-    fn raise<N, R, T, S>(&self, crawler: &Crawler<N, R, T, S>) -> u64
-    where
-        N: Named,
-        R: Wait + Drop,
-        T: Tree + Drop,
-        S: Seconds + Drop,
-        ensures { raised crawler.now result };
+    /// Counts a crawl that begins, by a lister in this state. It returns the number of crawls that had begun before.
+    fn raise<T: Tree + Drop, S: Seconds + Drop>(&self, lister: &Lister<T, S>) -> Raised
+        ensures { raised lister.now result.count };
 }
 
 /// A count that threads share.
@@ -53,17 +68,15 @@ impl Counts for Begun {
 
     ghost raised = { λ _ _. Unit {0} };
 
-    fn read(&self) -> u64 {
-        self.count.load(Ordering::SeqCst)
+    fn read(&self) -> Asked {
+        Asked {
+            count: self.count.load(Ordering::SeqCst),
+        }
     }
 
-    fn raise<N, R, T, S>(&self, _crawler: &Crawler<N, R, T, S>) -> u64
-    where
-        N: Named,
-        R: Wait + Drop,
-        T: Tree + Drop,
-        S: Seconds + Drop,
-    {
-        self.count.fetch_add(1, Ordering::SeqCst)
+    fn raise<T: Tree + Drop, S: Seconds + Drop>(&self, _lister: &Lister<T, S>) -> Raised {
+        Raised {
+            count: self.count.fetch_add(1, Ordering::SeqCst),
+        }
     }
 }

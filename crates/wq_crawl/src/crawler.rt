@@ -1,51 +1,43 @@
-//! The crawler, which lists roots and publishes their passes. It has a tree, a clock and a publisher. Crawls use them
-//! one after the other.
-ghost use Rattle.std.specs.Prelude.{◌≡◌, ◌≢◌, ◌⊎◌, ◌↔◌, Err, IfErr, IfNone, IfOk, IsTrue, MatchResult, None, OnOk};
-ghost use Rattle.std.specs.List.{list_all};
-ghost use Rattle.wq_record.specs.Seen.{is_count, is_lawful_row};
+//! The crawler, which lists roots and publishes their passes. It has a lister and a publisher, which crawls use one
+//! after the other.
+ghost use Rattle.std.specs.Prelude.{◌≡◌, ◌≢◌, ◌⊎◌, ◌↔◌, IfNone, IfOk, IsTrue, MatchResult, None, OnOk};
+ghost use Rattle.wq_record.specs.Seen.{is_count};
 ghost use Rattle.wq_view.specs.View.{IsViewOf, ViewData};
 ghost use Rattle.wq_live.specs.Event.{IsFull, number_of, passes_over};
 ghost use Rattle.wq_live.specs.Patched.{MakePass, pass_by};
-ghost use Rattle.wq_crawl.specs.Tree.{IsCounted, IsFew, IsFit, Lists, rows_given_again, rows_listed};
 ghost use Rattle.wq_crawl.specs.Crawl.{Began, Crawled, CrawledAt, IsNoPassOver, IsPassOver};
-ghost use Rattle.wq_crawl.specs.Crawl.{Glanced, IsRelisted, ListsAgain};
+ghost use Rattle.wq_crawl.specs.Crawl.{Glanced, IsRelisted};
 ghost use Rattle.wq_crawl.specs.Crawl.{Shared, Unwatched, Watched};
 ghost use Rattle.wq_crawl.specs.Publish.{IsNotTakenIn, Passes, with_start};
 
-use crate::fault::{CrawlFault, no_pass, not_listed};
+use crate::fault::CrawlFault;
+use crate::lister::Lister;
 use crate::place::{Place, place_for};
 use crate::relisted::Relisted;
 use crate::seconds::Seconds;
-use crate::tree::{Listing, Tree, TreeFault};
+use crate::tree::Tree;
 use std::alloc::AllocError;
 use std::marker::Model;
 use std::sync::Wait;
 use wq_live::{Named, Publisher, Seat, StartFault, Told};
-use wq_view::{Pass, Patch, Reach, Recent, View, ViewFault};
+use wq_view::{Pass, Patch, Reach, Recent, ViewFault};
 
 /// Lists roots, and publishes their passes. Contracts see the list of events that is published, and the state that the
 /// tree and the clock show.
 #[derive(Drop)]
 pub struct Crawler<N: Named, R: Wait + Drop, T: Tree + Drop, S: Seconds + Drop> {
     publisher: Publisher<N, R>,
-    tree: T,
-    seconds: S,
+    lister: Lister<T, S>,
 }
 
 impl<N: Named, R: Wait + Drop, T: Tree + Drop, S: Seconds + Drop> Model for Crawler<N, R, T, S> {
-    ghost use Rattle.wq_crawl.specs.Crawl.{CrawlerData, crawler_code};
+    ghost use Rattle.wq_crawl.specs.Crawl.{CrawlerData, crawler_at, crawler_code};
 
     ghost Value = { CrawlerData };
 
     ghost coded = { crawler_code };
 
-    ghost view = { λ c. record {
-      events = c.publisher;
-      clock = S.told c.seconds;
-      listed = T.listed c.tree;
-      failed = T.failed c.tree;
-      whole = T.whole c.tree;
-    } };
+    ghost view = { λ c. crawler_at c.publisher c.lister };
 }
 
 impl<N: Named, R: Wait + Drop, T: Tree + Drop, S: Seconds + Drop> Crawler<N, R, T, S> {
@@ -61,8 +53,7 @@ impl<N: Named, R: Wait + Drop, T: Tree + Drop, S: Seconds + Drop> Crawler<N, R, 
     {
         Crawler {
             publisher,
-            tree,
-            seconds,
+            lister: Lister::new(tree, seconds),
         }
     }
 
@@ -156,7 +147,7 @@ impl<N: Named, R: Wait + Drop, T: Tree + Drop, S: Seconds + Drop> Crawler<N, R, 
     }
 
     /// The present list.
-    pub(crate) fn told(&self) -> Result<Told<N>, CrawlFault>
+    fn told(&self) -> Result<Told<N>, CrawlFault>
         ensures { Shared self.now result self.now }
     {
         match self.publisher.told() {
@@ -166,7 +157,7 @@ impl<N: Named, R: Wait + Drop, T: Tree + Drop, S: Seconds + Drop> Crawler<N, R, 
     }
 
     /// Crawls the root of this number and text, which is shown. If there are recent directories, it crawls by a glance.
-    pub(crate) fn crawl_at(
+    fn crawl_at(
         &mut self,
         number: u64,
         root: &str,
@@ -269,18 +260,10 @@ impl<N: Named, R: Wait + Drop, T: Tree + Drop, S: Seconds + Drop> Crawler<N, R, 
         // Otherwise memory would hold the views before the last ones beside the rows and the views that follow from
         // them.
         self.let_go();
-        let rows = match self.tree.list(root) {
-            Ok(rows) => rows,
-            Err(fault) => return Err(not_listed(fault)),
-        };
-        let at = self.seconds.second();
-        match Pass::of_lawful(rows, at) {
-            Ok(pass) => Ok(pass),
-            Err(fault) => Err(no_pass(fault)),
-        }
+        self.lister.list(root)
     }
 
-    /// The pass of the root of this number and text, as the tree shows it now.
+    /// The listing of the root of this number and text, as the tree shows it now.
     fn list_again(
         &mut self,
         number: u64,
@@ -295,72 +278,7 @@ impl<N: Named, R: Wait + Drop, T: Tree + Drop, S: Seconds + Drop> Crawler<N, R, 
     {
         // As for a root that is listed for the first time.
         self.let_go();
-        let listing = match self.listing(number, root, recent) {
-            Ok(listing) => listing,
-            Err(fault) => return Err(not_listed(fault)),
-        };
-        let second = self.seconds.second();
-        match listing {
-            Listing::Rows(rows) => match Pass::of_lawful(rows, second) {
-                Ok(pass) => Ok(Relisted::Pass(pass)),
-                Err(fault) => Err(no_pass(fault)),
-            },
-            Listing::Patches(patches) => match Pass::fault_of_patches(second) {
-                None => Ok(Relisted::Patched(patches, second)),
-                Some(fault) => Err(no_pass(fault)),
-            },
-            Listing::Same => match Pass::fault_again(second) {
-                None => Ok(Relisted::Still),
-                Some(fault) => Err(no_pass(fault)),
-            },
-        }
-    }
-
-    /// The listing of the root of this number and text, as the tree shows it now.
-    fn listing(
-        &mut self,
-        number: u64,
-        root: &str,
-        recent: Option<&Recent<'_>>,
-    ) -> Result<Listing, TreeFault>
-        ensures events { (self.new).events ≡ (self.old).events }
-        ensures clock { (self.new).clock ≡ (self.old).clock }
-        ensures counted { IfErr result (IsCounted (self.old).failed (self.new).failed) }
-        ensures listed { MatchResult result
-            (λ listing. ListsAgain number root.now self.old listing self.new)
-            (λ fault. Lists (self.old).listed root.now (Err fault) (self.new).listed) }
-        ensures whole { IfNone recent.entry (OnOk result (IsTrue (self.new).whole)) }
-    {
-        match self.publisher.table().root(root) {
-            Some((shown, last)) if shown == number => {
-                listed_again(&mut self.tree, root, last, recent)
-            }
-            _ => match self.tree.list(root) {
-                Ok(rows) => Ok(Listing::Rows(rows)),
-                Err(fault) => Err(fault),
-            },
-        }
-    }
-}
-
-/// The listing of a root with this last view, or the one of a glance if there are recent directories.
-fn listed_again<T: Tree>(
-    tree: &mut T,
-    root: &str,
-    last: &View,
-    recent: Option<&Recent<'_>>,
-) -> Result<Listing, TreeFault>
-    ensures counted { IfErr result (IsCounted (T.failed tree.old) (T.failed tree.new)) }
-    ensures lawful { IfOk result (λ listing.
-        IsTrue (list_all is_lawful_row (rows_listed last.now.records listing))) }
-    ensures few { IfOk result (IsFew last.now.records) }
-    ensures fit { IfOk result (IsFit last.now.records) }
-    ensures listed { Lists (T.listed tree.old) root.now
-        (rows_given_again last.now.records result) (T.listed tree.new) }
-    ensures whole { IfNone recent.entry (OnOk result (IsTrue (T.whole tree.new))) }
-{
-    match recent {
-        Some(recent) => tree.glance(root, last, recent),
-        None => tree.list_again(root, last),
+        self.lister
+            .list_again(self.publisher.table(), number, root, recent)
     }
 }

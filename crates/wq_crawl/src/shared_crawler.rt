@@ -1,80 +1,79 @@
-//! A crawler that threads share. One thread crawls at a time, and its list also serves those that asked before it
-//! began.
-ghost use Rattle.std.specs.Prelude.{◌≡◌, None, nat_eq, nat_le, false};
-ghost use Rattle.std.specs.Option.{option_map_or};
-ghost use Rattle.std.specs.Map.{lookup};
-ghost use Rattle.wq_crawl.specs.Count.{Keeps, KeepsOf, KeepsRaised};
-ghost use Rattle.wq_crawl.specs.Crawl.{CrawledOnce, CrawledWhole, Glanced, Unwatched, Watched, tells};
+//! A crawler that threads share. Crawls of different roots go on at the same time. Those of one root come one after the
+//! other, and the list of one also serves those that asked before it began.
+ghost use Rattle.std.specs.Prelude.{◌≡◌, None};
+ghost use Rattle.wq_crawl.specs.Crawl.{tells};
 ghost use Rattle.wq_crawl.specs.Roots.{RootsGive, ending, passing, showing};
 
-use crate::begun::{Begun, Counts};
-use crate::crawler::Crawler;
+use crate::begun::{Asked, Begun, Counts};
 use crate::fault::CrawlFault;
+use crate::lane::Lane;
+use crate::lanes::{LaneParts, Lanes};
 use crate::seconds::Seconds;
+use crate::shared_publisher::SharedPublisher;
 use crate::tree::Tree;
-use lru::LruCache;
 use std::alloc::{AllocError, Global};
-use std::num::NonZeroUsize;
 use std::sync::{Mutex, Wait};
-use wq_base::MAX_ROOTS;
-use wq_live::{Named, Told};
+use std::time::{Clock, Duration};
+use wq_live::{Named, Publisher, Told};
 use wq_view::Reach;
 
-/// The moment at which somebody asked for crawls: the number of crawls that had begun then.
-#[derive(Clone, Copy, Drop)]
-pub struct Asked {
-    begun: u64,
-}
-
-/// A crawler that threads share. Each call waits until it has the crawler for itself.
+/// A crawler that threads share.
 #[derive(Drop)]
 pub struct SharedCrawler<N: Named, R: Wait + Drop, T: Tree + Drop, S: Seconds + Drop> {
     begun: Begun,
-    crawls: Mutex<LastCrawls<N, R, T, S>>,
-}
-
-/// A crawler and its last crawls.
-#[derive(Drop)]
-struct LastCrawls<N: Named, R: Wait + Drop, T: Tree + Drop, S: Seconds + Drop> {
-    crawler: Crawler<N, R, T, S>,
-    /// For the number of a root, the number of crawls that had begun before the last crawl of it that was published.
-    last: LruCache<u64, u64>,
+    shared: SharedPublisher<N, R>,
+    lanes: Lanes<T, S>,
 }
 
 impl<N: Named, R: Wait + Drop, T: Tree + Drop, S: Seconds + Drop> SharedCrawler<N, R, T, S> {
-    /// This crawler, for threads to share.
+    /// A crawler by this publisher, for threads to share. Up to as many roots as there are lanes are crawled at the same
+    /// time: one, and some more.
     pub fn new(
         alloc: Global,
-        crawler: Crawler<N, R, T, S>,
+        publisher: Publisher<N, R>,
+        first: LaneParts<T, S>,
+        more: Vec<LaneParts<T, S>>,
     ) -> Result<SharedCrawler<N, R, T, S>, AllocError> {
         Ok(SharedCrawler {
             begun: Begun::new(),
-            crawls: Mutex::new(LastCrawls {
-                crawler,
-                last: LruCache::new(alloc, most_roots())?,
-            }),
+            shared: SharedPublisher::new(publisher),
+            lanes: Lanes::new(alloc, first, more)?,
         })
     }
 
-    /// Crawls the root of this text, publishes the pass, and returns the list of events.
+    /// Crawls the root of this text for a client, publishes the pass, and returns the list of events. A crawl of the root
+    /// for nobody gives way to it.
     ///
     /// If another thread crawled the root meanwhile, and began after this call did, the call returns the present list.
     pub fn crawl(&self, rt: &R, root: &str) -> Result<Option<Told<N>>, CrawlFault>
         ensures { RootsGive None (passing root.now) result None }
     {
-        crawl_for(&self.begun, &self.crawls, rt, root)
+        // The thread reads the count before it waits for the lane.
+        self.crawl_for_client(rt, self.begun.read(), root)
     }
 
     /// This moment, for [`SharedCrawler::crawl_since`].
     pub fn ask(&self) -> Asked {
-        Asked {
-            begun: self.begun.read(),
-        }
+        self.begun.read()
     }
 
-    /// Crawls the root of this text, as [`SharedCrawler::crawl`] does, for a caller that asked at
-    /// an earlier moment. A crawl that began after that moment serves it too.
-    pub fn crawl_since(
+    /// Crawls the root of this text for nobody who waits, and says whether it is shown. A crawl that began after somebody
+    /// asked at an earlier moment serves too.
+    pub fn crawl_since(&self, rt: &R, asked: Asked, root: &str) -> Result<bool, CrawlFault> {
+        let place = self.lanes.come(rt, root);
+        let at = self.lanes.at(place);
+        let told = crawl_in(&self.begun, &self.shared, &at.lane, rt, asked, root);
+        self.lanes.go(rt, place);
+        Ok(told?.is_some())
+    }
+
+    /// Crawls the root of this text as [`SharedCrawler::crawl_since`] does, and as soon as for a client.
+    pub fn crawl_soon(&self, rt: &R, asked: Asked, root: &str) -> Result<bool, CrawlFault> {
+        Ok(self.crawl_for_client(rt, asked, root)?.is_some())
+    }
+
+    /// Crawls the root of this text for a client that asked at this moment.
+    fn crawl_for_client(
         &self,
         rt: &R,
         asked: Asked,
@@ -82,123 +81,94 @@ impl<N: Named, R: Wait + Drop, T: Tree + Drop, S: Seconds + Drop> SharedCrawler<
     ) -> Result<Option<Told<N>>, CrawlFault>
         ensures { RootsGive None (passing root.now) result None }
     {
-        crawl_since(&self.begun, &self.crawls, rt, asked.begun, root)
+        let place = self.lanes.come(rt, root);
+        let at = self.lanes.at(place);
+        at.callers.enter();
+        let told = crawl_in(&self.begun, &self.shared, &at.lane, rt, asked, root);
+        at.callers.leave(rt);
+        self.lanes.go(rt, place);
+        told
     }
 
-    /// Crawls the root of this text by a glance, and returns whether it did ([`Crawler::glance`]). No crawl for a client is
-    /// left out for it.
+    /// Crawls the root of this text by a glance that looks so far, and returns whether it did. It does nothing if a client
+    /// waits for a crawl of the root. No crawl for a client is left out for it.
     pub fn glance(&self, rt: &R, root: &str, reach: Reach) -> Result<bool, CrawlFault> {
-        self.crawls.lock(rt).glance(root, reach)
+        let place = self.lanes.come(rt, root);
+        let at = self.lanes.at(place);
+        // The crawl for a client brings all changes.
+        let made = if at.callers.is_any() {
+            Ok(false)
+        } else {
+            at.lane.lock(rt).glance(&self.shared, rt, root, reach)
+        };
+        self.lanes.go(rt, place);
+        made
     }
 
-    /// Finds the root of this text, or lists it and starts it, and returns the list of events.
+    /// How many threads made the last listing of the root of this text.
+    pub fn made_by(&self, rt: &R, root: &str) -> u64 {
+        let place = self.lanes.come(rt, root);
+        let count = self.lanes.at(place).made_by();
+        self.lanes.go(rt, place);
+        count
+    }
+
+    /// Finds the root of this text, or lists it and starts it, and returns the list of events. A crawl of the root for
+    /// nobody gives way to it.
     pub fn watch(&self, rt: &R, root: &str) -> Result<Told<N>, CrawlFault>
         ensures { RootsGive None (showing root.now) (tells result) None }
     {
-        self.crawls.lock(rt).watch(root)
+        let place = self.lanes.come(rt, root);
+        let at = self.lanes.at(place);
+        at.callers.enter();
+        let told = watch_in(&self.shared, &at.lane, rt, root);
+        at.callers.leave(rt);
+        self.lanes.go(rt, place);
+        told
     }
 
-    /// Publishes the end of the root of this number, if it is shown, and returns the list of events.
+    /// Publishes the end of the root of this number, if it is shown, and returns the list of events. It waits for no
+    /// crawl.
     pub fn unwatch(&self, rt: &R, number: u64) -> Result<Told<N>, CrawlFault>
         ensures { RootsGive None (ending number) (tells result) None }
     {
-        self.crawls.lock(rt).unwatch(number)
+        self.shared.end(rt, number)
     }
 
-    /// Frees the views that only the table before the last one still holds ([`Crawler::let_go`]).
+    /// Frees the views that only the table before the last one still holds.
     pub fn let_go(&self, rt: &R) {
-        self.crawls.lock(rt).crawler.let_go();
+        self.shared.let_go(rt);
+    }
+
+    /// Has each crawl that gives way to clients do so from now on, since the server ends.
+    pub fn end_walks(&self) {
+        self.lanes.end_walks();
     }
 }
 
-impl<N: Named, R: Wait + Drop, T: Tree + Drop, S: Seconds + Drop> LastCrawls<N, R, T, S> {
-    /// Crawls a root for callers that read this count, unless its last crawl serves them too.
-    fn crawl<C: Counts>(
-        &mut self,
-        begun: &C,
-        asked: u64,
-        root: &str,
-    ) -> Result<Option<Told<N>>, CrawlFault>
-        requires asked { C.read asked }
-        ensures crawled { CrawledOnce root.now asked
-            (λ number. lookup (nat_eq number) self.old.last.entries)
-            self.old.crawler result self.new.crawler }
-        ensures kept { KeepsRaised C.raised root.now self.old.crawler self.old.last result
-            self.new.last }
-    {
-        let Some(number) = self.crawler.number(root) else {
-            return Ok(None);
-        };
-        if self.has_begun_since(asked, number) {
-            return Ok(Some(self.crawler.told()?));
-        }
-        let raised = begun.raise(&self.crawler);
-        Ok(Some(self.crawl_at(raised, number, root)?))
-    }
-
-    /// Crawls the root of this number and text, which is shown, and keeps the number of crawls that had begun before.
-    fn crawl_at(&mut self, raised: u64, number: u64, root: &str) -> Result<Told<N>, CrawlFault>
-        ensures crawled { CrawledWhole number root.now self.old.crawler result self.new.crawler }
-        ensures kept { KeepsOf self.old.last number raised result self.new.last }
-    {
-        let told = self.crawler.crawl_at(number, root, None)?;
-        self.keep(number, raised);
-        Ok(told)
-    }
-
-    /// Crawls the root of this text by a glance ([`Crawler::glance`]). The last crawls stay those that serve clients.
-    fn glance(&mut self, root: &str, reach: Reach) -> Result<bool, CrawlFault>
-        ensures glanced { Glanced root.now self.old.crawler result self.new.crawler }
-        ensures kept { self.new.last ≡ self.old.last }
-    {
-        self.crawler.glance(root, reach)
-    }
-
-    /// Finds the root of this text, or lists it and starts it ([`Crawler::watch`]).
-    fn watch(&mut self, root: &str) -> Result<Told<N>, CrawlFault>
-        ensures watched { Watched root.now self.old.crawler result self.new.crawler }
-        ensures kept { self.new.last ≡ self.old.last }
-    {
-        self.crawler.watch(root)
-    }
-
-    /// Publishes the end of the root of this number, if it is shown ([`Crawler::unwatch`]).
-    fn unwatch(&mut self, number: u64) -> Result<Told<N>, CrawlFault>
-        ensures unwatched { Unwatched number self.old.crawler result self.new.crawler }
-        ensures kept { self.new.last ≡ self.old.last }
-    {
-        self.crawler.unwatch(number)
-    }
-
-    /// Whether the last crawl of the root of this number began at this count of crawls, or later.
-    fn has_begun_since(&self, asked: u64, number: u64) -> bool
-        ensures { result ≡ option_map_or (λ begun. nat_le asked begun)
-            (lookup (nat_eq number) self.now.last.entries) false }
-    {
-        match self.last.peek(&number) {
-            Some(begun) => asked <= *begun,
-            None => false,
-        }
-    }
-
-    /// Keeps the number of crawls that had begun before the last one of the root of this number. If memory runs out for
-    /// that, each thread crawls for itself.
-    fn keep(&mut self, number: u64, before: u64)
-        ensures crawler { self.new.crawler ≡ self.old.crawler }
-        ensures last { Keeps self.old.last number before self.new.last }
-    {
-        match self.last.put(number, before) {
-            Ok(_) => {}
-            Err(_) => {}
-        }
+impl<N, R, T, S> SharedCrawler<N, R, T, S>
+where
+    N: Named,
+    R: Wait + Clock + Drop,
+    T: Tree + Drop,
+    S: Seconds + Drop,
+{
+    /// Waits until no client waits for a crawl of the root of this text, but no longer than this. Says whether none waits.
+    pub fn wait_for_none(&self, rt: &R, root: &str, time: Duration) -> bool {
+        let place = self.lanes.come(rt, root);
+        let waits_none = self.lanes.at(place).callers.wait_for_none(rt, time);
+        self.lanes.go(rt, place);
+        waits_none
     }
 }
 
-/// Crawls a root for the thread that asks, by the crawler under the lock.
-fn crawl_for<C, N, R, T, S>(
+/// Crawls a root for a thread that asked at this moment, in a lane that it waits for.
+fn crawl_in<C, N, R, T, S>(
     begun: &C,
-    crawls: &Mutex<LastCrawls<N, R, T, S>>,
+    shared: &SharedPublisher<N, R>,
+    lane: &Mutex<Lane<T, S>>,
     rt: &R,
+    asked: Asked,
     root: &str,
 ) -> Result<Option<Told<N>>, CrawlFault>
 where
@@ -207,34 +177,25 @@ where
     R: Wait + Drop,
     T: Tree + Drop,
     S: Seconds + Drop,
+    requires asked { C.read asked.count }
     ensures { RootsGive None (passing root.now) result None }
 {
-    // The thread reads the count before it waits for the lock.
-    let asked = begun.read();
-    crawl_since(begun, crawls, rt, asked, root)
+    lane.lock(rt).crawl(begun, shared, rt, asked, root)
 }
 
-/// Crawls a root for a thread that read this count, by the crawler under the lock.
-fn crawl_since<C, N, R, T, S>(
-    begun: &C,
-    crawls: &Mutex<LastCrawls<N, R, T, S>>,
+/// Watches a root, in a lane that the thread waits for.
+fn watch_in<N, R, T, S>(
+    shared: &SharedPublisher<N, R>,
+    lane: &Mutex<Lane<T, S>>,
     rt: &R,
-    asked: u64,
     root: &str,
-) -> Result<Option<Told<N>>, CrawlFault>
+) -> Result<Told<N>, CrawlFault>
 where
-    C: Counts,
     N: Named,
     R: Wait + Drop,
     T: Tree + Drop,
     S: Seconds + Drop,
-    requires asked { C.read asked }
-    ensures { RootsGive None (passing root.now) result None }
+    ensures { RootsGive None (showing root.now) (tells result) None }
 {
-    crawls.lock(rt).crawl(begun, asked, root)
-}
-
-/// The greatest number of roots that may be shown.
-fn most_roots() -> NonZeroUsize {
-    NonZeroUsize::new(MAX_ROOTS).unwrap_or(NonZeroUsize::MIN)
+    lane.lock(rt).watch(shared, rt, root)
 }

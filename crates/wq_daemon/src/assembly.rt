@@ -2,15 +2,14 @@
 ghost use Rattle.std.specs.Prelude.{◌≡◌};
 
 use crate::lock_host::LockHost;
-use std::alloc::Global;
+use std::alloc::{AllocError, Global};
 use std::io;
-use std::sync::atomic::AtomicU64;
 use std::sync::{Arc, Wait};
 use std::thread::Threads;
 use std::time::{Clock, CpuClock};
 use wq_base::Workers;
 use wq_clock::Run;
-use wq_crawl::{Crawler, Seconds, Tree};
+use wq_crawl::{LaneParts, Seconds, Tree};
 use wq_launch::{Notices, Spawn};
 use wq_live::{Blank, Named};
 use wq_registry::Cache;
@@ -20,15 +19,19 @@ use wq_server::{Listening, Pace, ToldTree, run};
 /// How many seats a server has: one for each session, one for idle moments, one for rounds of triggers, and a few more.
 pub const SEATS: usize = 48;
 
+/// How many lanes a server has beside the first one: enough for each root that is shown, and for one that each session
+/// watches.
+pub const MORE_LANES: usize = 63;
+
 /// The parts and settings of a server.
 #[derive(Drop)]
 pub struct Parts<T: Tree + Drop, S: Seconds + Drop, O: Notices + Drop, P: Spawn + Drop> {
     /// The run of the server.
     pub run: Run,
-    /// Lists roots.
-    pub tree: T,
-    /// Tells the second of a pass.
-    pub seconds: S,
+    /// Lists roots, one at a time.
+    pub first: LaneParts<T, S>,
+    /// List other roots at the same time.
+    pub more: Vec<LaneParts<T, S>>,
     /// Tells the operator of faults.
     pub notices: O,
     /// Starts the commands of triggers.
@@ -39,8 +42,6 @@ pub struct Parts<T: Tree + Drop, S: Seconds + Drop, O: Notices + Drop, P: Spawn 
     pub pace: Pace,
     /// How many threads may look for the files of a query.
     pub workers: Workers,
-    /// The server counts here the calls of sessions that wait for a crawl. The tree may look at it.
-    pub waiting: Arc<AtomicU64>,
 }
 
 /// Serves the clients of a socket until one asks that the server ends. It tells the operator that it listens.
@@ -65,20 +66,46 @@ where
 {
     let publisher = blank.open::<N, R>(rt);
     let notices = Arc::new(alloc, parts.notices)?;
-    let tree = ToldTree::new(rt, alloc, parts.tree, notices.clone()?);
-    let crawler = Crawler::new(publisher, tree, parts.seconds);
+    let first = told_lane(rt, alloc, parts.first, &notices)?;
+    let mut more = Vec::with_capacity(alloc, parts.more.len())?;
+    for lane in parts.more {
+        more.push(told_lane(rt, alloc, lane, &notices)?)
+            .map_err(AllocError::from)?;
+    }
     let cache = Cache::new(alloc, parts.run.start, parts.run.pid)?;
     let shelf = SharedShelf::new(alloc, cache, parts.sockname);
     let host = LockHost::new(
         rt,
         alloc,
         parts.run,
-        crawler,
+        publisher,
+        first,
+        more,
         shelf,
         notices.clone()?,
         parts.spawn,
         parts.workers,
-        parts.waiting,
     )?;
     run(rt, alloc, listening, host, &notices, parts.pace)
+}
+
+/// The parts of a lane, whose tree tells the operator of its listings.
+fn told_lane<R, T, S, O>(
+    rt: R,
+    alloc: Global,
+    lane: LaneParts<T, S>,
+    notices: &Arc<O>,
+) -> Result<LaneParts<ToldTree<R, T, O>, S>, AllocError>
+where
+    R: Clock + Copy + Drop,
+    T: Tree + Drop,
+    S: Seconds + Drop,
+    O: Notices + Drop,
+{
+    Ok(LaneParts {
+        tree: ToldTree::new(rt, alloc, lane.tree, notices.clone()?),
+        seconds: lane.seconds,
+        waiting: lane.waiting,
+        made_by: lane.made_by,
+    })
 }

@@ -2,11 +2,10 @@
 #![tactic(auto)]
 
 mod assembly;
-mod callers;
 mod failing;
 mod lock_host;
 mod rounds;
 mod waiting_roots;
 
-pub use assembly::{Parts, SEATS, serve_clients};
+pub use assembly::{MORE_LANES, Parts, SEATS, serve_clients};
 pub use lock_host::LockHost;

@@ -1,25 +1,23 @@
 //! The parts that the threads of the server share: the shelf, the seats, the launcher, and the crawler. Each is under a
 //! lock of its own. A look at files takes no lock, and neither does a listing of them.
 
-use crate::callers::Callers;
 use crate::failing::{Failing, back_line, fault_line};
 use crate::rounds::Rounds;
 use crate::waiting_roots::WaitingRoots;
 use std::alloc::{AllocError, Global};
 use std::io::Write;
-use std::sync::atomic::AtomicU64;
 use std::sync::{Arc, Mutex, Wait};
 use std::thread::Threads;
 use std::time::{Clock, Duration, Instant};
 use wq_ask::Refusal;
 use wq_base::{Asker, Workers};
 use wq_clock::Run;
-use wq_crawl::{Asked, CrawlFault, Crawler, LockRoots, Seconds, SharedCrawler, Tree};
+use wq_crawl::{Asked, CrawlFault, LaneParts, LockRoots, Seconds, SharedCrawler, Tree};
 use wq_follow::Trigger;
 use wq_launch::{MAX_RUNS, Notices, Run as StartedRun, Runs, Spawn};
-use wq_live::{Named, Seat};
+use wq_live::{Named, Publisher, Seat};
 use wq_serve::{Ended, Kept, LockDesk, ReachedShelf, SeatViews, SharedShelf, serve};
-use wq_server::{Host, MAX_SESSIONS, Reader, RootNumbers, Stop, refuse, time_since};
+use wq_server::{Host, MAX_SESSIONS, Reader, RootNumbers, Stop, Worked, refuse, time_since};
 use wq_stream::Inbox;
 use wq_view::Reach;
 
@@ -56,8 +54,6 @@ where
     notices: Arc<O>,
     /// How many threads may look for the files of a query.
     workers: Workers,
-    /// The calls of all sessions that wait for a crawl.
-    callers: Arc<Callers>,
 }
 
 /// The seats of a server.
@@ -71,6 +67,24 @@ struct Seats<N: Named> {
     rounds: Seat<N>,
 }
 
+impl<N: Named> Seats<N> {
+    /// Seats of this publisher.
+    fn new<R: Wait + Drop>(
+        alloc: Global,
+        publisher: &mut Publisher<N, R>,
+    ) -> Result<Seats<N>, AllocError> {
+        let mut sessions = Vec::with_capacity(alloc, MAX_SESSIONS)?;
+        for _ in 0..MAX_SESSIONS {
+            sessions.push(publisher.seat()?).map_err(AllocError::from)?;
+        }
+        Ok(Seats {
+            sessions,
+            idle: publisher.seat()?,
+            rounds: publisher.seat()?,
+        })
+    }
+}
+
 impl<N, R, T, S, O, P> LockHost<N, R, T, S, O, P, Trigger>
 where
     N: Named,
@@ -80,37 +94,39 @@ where
     O: Notices + Drop,
     P: Spawn + Drop,
 {
-    /// A server over this crawler and this shelf. It has a seat for each session that may be, one for idle moments and
-    /// one for rounds of triggers. `spawn` starts commands, and so many threads may look for the files of a query. The
-    /// last parameter counts the calls of sessions that wait for a crawl.
+    /// A server over this publisher, these lanes and this shelf. It has a seat for each session that may be, one for idle
+    /// moments and one for rounds of triggers. `spawn` starts commands, and so many threads may look for the files of a
+    /// query.
     pub(crate) fn new(
         rt: R,
         alloc: Global,
         run: Run,
-        crawler: Crawler<N, R, T, S>,
+        publisher: Publisher<N, R>,
+        first: LaneParts<T, S>,
+        more: Vec<LaneParts<T, S>>,
         shelf: SharedShelf,
         notices: Arc<O>,
         spawn: P,
         workers: Workers,
-        waiting: Arc<AtomicU64>,
     ) -> Result<LockHost<N, R, T, S, O, P, Trigger>, AllocError> {
         let greeting = format!(in alloc; "listening on {}", shelf.sockname())?;
         let shelf = Arc::new(alloc, Mutex::new(shelf))?;
-        let (seats, crawler) = shared(alloc, crawler)?;
+        let mut publisher = publisher;
+        let seats = Seats::new(alloc, &mut publisher)?;
+        let crawler = SharedCrawler::new(alloc, publisher, first, more)?;
         Ok(LockHost {
             rt,
             alloc,
             run,
             seats: Mutex::new(seats.sessions),
             idle_seat: Mutex::new(Some(seats.idle)),
-            crawler,
+            crawler: Arc::new(alloc, crawler)?,
             shelf,
             rounds: Rounds::new(rt, alloc, run, seats.rounds, spawn)?,
             failing: Mutex::new(Failing::new(alloc)),
             greeting,
             notices,
             workers,
-            callers: Arc::new(alloc, Callers::new(waiting))?,
         })
     }
 
@@ -120,10 +136,8 @@ where
         reader: &'a A,
     ) -> Result<WaitingRoots<'a, N, R, T, S, A>, AllocError> {
         Ok(WaitingRoots {
-            rt: self.rt,
             reader,
             roots: LockRoots::new(self.crawler.clone()?, self.rt, self.workers),
-            callers: self.callers.clone()?,
         })
     }
 
@@ -155,10 +169,8 @@ where
     /// Crawls a root in a round, and returns for how long it worked, and the fault if it was not
     /// crawled.
     ///
-    /// It begins when no client waits for a crawl, and gives way to one that comes. If that one's
-    /// crawl was of this root, it serves the round too. After four walks that it gave up, or if
-    /// clients wait all the time, the round waits for the crawler as a client does. So clients of
-    /// one root do not keep another root from being crawled.
+    /// It begins when no client waits for a crawl of the root, and gives way to one that comes, whose crawl serves the round
+    /// too. After four walks that it gave up, or if clients wait all the time, the round waits as a client does.
     fn crawl_in_round(&self, root: &str, stop: &Stop) -> (Duration, Result<(), CrawlFault>) {
         let asked = self.crawler.ask();
         let mut worked = Duration::ZERO;
@@ -166,10 +178,8 @@ where
             if stop.is_asked(&self.rt) {
                 return (worked, Err(CrawlFault::GaveWay));
             }
-            if !self
-                .callers
-                .wait_for_none(&self.rt, Duration::from_secs(PATIENCE))
-            {
+            let patience = Duration::from_secs(PATIENCE);
+            if !self.crawler.wait_for_none(&self.rt, root, patience) {
                 break;
             }
             let (took, crawled) = self.crawl_since(asked, root);
@@ -181,10 +191,10 @@ where
         if stop.is_asked(&self.rt) {
             return (worked, Err(CrawlFault::GaveWay));
         }
-        self.callers.enter();
-        let (took, crawled) = self.crawl_since(asked, root);
-        self.callers.leave(&self.rt);
-        (worked.saturating_add(took), crawled)
+        let began = Instant::now(&self.rt);
+        let crawled = self.crawler.crawl_soon(&self.rt, asked, root);
+        let took = time_since(&self.rt, began);
+        (worked.saturating_add(took), crawled.map(|_| ()))
     }
 
     /// Crawls a root for a round that asked at this moment, and returns how long that took.
@@ -222,30 +232,6 @@ where
             self.notices.tell(line.as_str());
         }
     }
-}
-
-/// The seats of a server, and the crawler that threads share.
-fn shared<N, R, T, S>(
-    alloc: Global,
-    mut crawler: Crawler<N, R, T, S>,
-) -> Result<(Seats<N>, Arc<SharedCrawler<N, R, T, S>>), AllocError>
-where
-    N: Named,
-    R: Wait + Copy + Drop,
-    T: Tree + Drop,
-    S: Seconds + Drop,
-{
-    let mut sessions = Vec::with_capacity(alloc, MAX_SESSIONS)?;
-    for _ in 0..MAX_SESSIONS {
-        sessions.push(crawler.seat()?).map_err(AllocError::from)?;
-    }
-    let seats = Seats {
-        sessions,
-        idle: crawler.seat()?,
-        rounds: crawler.seat()?,
-    };
-    let crawler = SharedCrawler::new(alloc, crawler)?;
-    Ok((seats, Arc::new(alloc, crawler)?))
 }
 
 /// The text of the root of this number, if a seat sees it, and the seat. There is none if memory
@@ -338,29 +324,30 @@ where
         shelf.roots().iter().any(|root| root.trigger_count() > 0)
     }
 
-    fn crawl(&self, number: u64, stop: &Stop) -> Duration {
+    fn crawl(&self, number: u64, stop: &Stop) -> Worked {
         // If memory runs out for the text, the root is crawled in the next round.
         let Some(root) = self.text(number) else {
-            return Duration::ZERO;
+            return Worked {
+                time: Duration::ZERO,
+                threads: 1,
+            };
         };
-        let (worked, crawled) = self.crawl_in_round(&root, stop);
+        let (time, crawled) = self.crawl_in_round(&root, stop);
+        let threads = self.crawler.made_by(&self.rt, &root);
         match crawled {
             Ok(()) => self.tell_if_back(number, &root),
             // The server ends.
-            Err(CrawlFault::GaveWay) => return worked,
+            Err(CrawlFault::GaveWay) => return Worked { time, threads },
             Err(fault) => self.tell_once(number, &root, fault),
         }
         let began = Instant::now(&self.rt);
         self.rounds.fire(number, &*self.shelf);
         self.tell_of_starts();
-        worked.saturating_add(time_since(&self.rt, began))
+        let time = time.saturating_add(time_since(&self.rt, began));
+        Worked { time, threads }
     }
 
     fn glance(&self, number: u64, reach: Reach) {
-        // The walk for a client that waits brings all changes.
-        if self.callers.is_any() {
-            return;
-        }
         // If memory runs out for the text, there is no glance in this round.
         let Some(root) = self.text(number) else {
             return;
@@ -372,8 +359,7 @@ where
     }
 
     fn end_walk(&self) {
-        // As for a client that waits. Nobody leaves again, since the server ends.
-        self.callers.enter();
+        self.crawler.end_walks();
     }
 
     fn take_run(&self) -> Option<StartedRun> {

@@ -1,13 +1,11 @@
-//! The roots of a session, which count the callers that wait for a crawl.
+//! The roots of a session that has read its line before it asks for a crawl.
 
-use crate::callers::Callers;
-use std::sync::{Arc, Wait};
+use std::sync::Wait;
 use wq_crawl::{CrawlFault, LockRoots, Roots, Seconds, Tree};
 use wq_live::{Named, Told};
 use wq_server::Reader;
 
-/// Roots over a crawler that threads share. Each call is counted as long as it waits for the
-/// crawler, so that a round gives way to it. The session has read its line before. They show no crawler.
+/// Roots over a crawler that threads share. The session has read its line before each call. They show no crawler.
 #[derive(Drop)]
 pub(crate) struct WaitingRoots<'a, N, R, T, S, A>
 where
@@ -17,10 +15,8 @@ where
     S: Seconds + Drop,
     A: Reader,
 {
-    pub(crate) rt: R,
     pub(crate) reader: &'a A,
     pub(crate) roots: LockRoots<N, R, T, S>,
-    pub(crate) callers: Arc<Callers>,
 }
 
 impl<N, R, T, S, A> Roots<N> for WaitingRoots<'_, N, R, T, S, A>
@@ -37,26 +33,17 @@ where
 
     fn watch(&mut self, root: &str) -> Result<Told<N>, CrawlFault> {
         self.reader.has_read();
-        self.callers.enter();
-        let told = self.roots.watch(root);
-        self.callers.leave(&self.rt);
-        told
+        self.roots.watch(root)
     }
 
     fn crawl(&mut self, root: &str) -> Result<Option<Told<N>>, CrawlFault> {
         self.reader.has_read();
-        self.callers.enter();
-        let told = self.roots.crawl(root);
-        self.callers.leave(&self.rt);
-        told
+        self.roots.crawl(root)
     }
 
     fn unwatch(&mut self, number: u64) -> Result<Told<N>, CrawlFault> {
         self.reader.has_read();
-        self.callers.enter();
-        let told = self.roots.unwatch(number);
-        self.callers.leave(&self.rt);
-        told
+        self.roots.unwatch(number)
     }
 
     fn workers(&self) -> u32 {

@@ -3,6 +3,7 @@ mod Roots
 mod Events
 mod Starts
 mod Passes
+mod Since
 mod Ends
 mod FirstView
 mod FirstPasses

@@ -121,6 +121,28 @@ impl<N: Named, R: Wait + Drop> Publisher<N, R> {
         self.writer.published().log().is_shorter(look.log())
     }
 
+    /// Whether the root of this number is shown as it was when a list was given out: it was and is shown, and no pass
+    /// over it was published since then.
+    pub fn is_as_told(&self, told: &Told<N>, number: u64) -> bool
+        ensures { IsTrue result → passes_over number self.now ≡ passes_over number told.now }
+    {
+        if self.is_behind(told) {
+            return false;
+        }
+        match (self.table().view(number), told.table().view(number)) {
+            (Some(now), Some(then)) => now.tick() == then.tick(),
+            _ => false,
+        }
+    }
+
+    /// Whether the list of events is shorter than one that was given out, which it never is. If it is not, the list that
+    /// was given out begins it.
+    fn is_behind(&self, told: &Told<N>) -> bool
+        ensures { AgreeAs result self.now told.now }
+    {
+        self.writer.published().log().is_shorter(told.log())
+    }
+
     /// The number of the root of this text, if it is shown.
     pub fn find(&self, text: &str) -> Option<u64>
         ensures { result ≡ option_map (λ root. root.number) (shown_root text.now self.now) }

@@ -59,6 +59,20 @@ impl<N: Named> Told<N> {
     {
         let _ = &self.shown;
     }
+
+    /// The table of the list.
+    pub fn table(&self) -> &RootTable
+        ensures { IsTableOf self.now result.now }
+    {
+        self.shown.table()
+    }
+
+    /// The list.
+    pub(crate) fn log(&self) -> &Log
+        ensures { result.now ≡ record { book = N.book; log = self.now } }
+    {
+        self.shown.log()
+    }
 }
 
 /// A seat. Contracts see the list with which its next look begins. That is the longest list that it learned, or the

@@ -1,22 +1,31 @@
-//! The thread that crawls: rounds of the roots that are due, and the commands of their triggers.
+//! The thread that has rounds: it has the roots crawled that are due, and the commands of their triggers attended.
 
+use crate::attendance::attend_all;
+use crate::hand::Hand;
+use crate::hands::Hands;
 use crate::host::Host;
 use crate::server::Server;
-use crate::timing::{Took, time_since};
+use crate::task::Task;
+use crate::timing::Took;
 use crate::walks::{Turn, Walks};
 use std::alloc::Global;
-use std::io;
 use std::sync::{Arc, Wait};
-use std::thread::Threads;
-use std::time::{Clock, CpuClock, Duration, Instant};
-use wq_launch::{MAX_RUNS, Notices, attend};
+use std::thread::{self, Threads};
+use std::time::{Clock, CpuClock, Duration};
+use wq_launch::Notices;
 
-/// Crawls, and has commands of triggers started and attended, until the server ends. If rounds have a share, there is
-/// no round while nobody needs one.
-pub(crate) fn crawl_always<R, H, O>(rt: R, alloc: Global, server: &Server<H>, notices: &Arc<O>)
+/// For how many milliseconds a round waits for the crawl of a root, before it goes on with the next root.
+const PATIENCE: u64 = 250;
+
+/// For how many milliseconds the end of rounds waits for crawls.
+const END: u64 = 500;
+
+/// Has roots crawled, and commands of triggers started and attended, until the server ends. If rounds have a share,
+/// there is no round while nobody needs one.
+pub(crate) fn crawl_always<R, H, O>(rt: R, alloc: Global, server: &Arc<Server<H>>, notices: &Arc<O>)
 where
     R: Threads + Wait + Clock + CpuClock + Copy + Drop + Send + Sync + 'static,
-    H: Host + Drop,
+    H: Host + Drop + Send + Sync + 'static,
     O: Notices + Drop + Send + Sync + 'static,
 {
     let mut crawling = Crawling {
@@ -25,33 +34,38 @@ where
         server,
         notices,
         walks: Walks::new(alloc),
+        hands: Hands::new(alloc),
     };
+    // If no thread can be made yet, the first task has one made.
+    let _ = crawling.another_hand();
     for _ in rt.forever() {
         if server.pace.share.is_some() {
             crawling.wait_for_need();
         }
-        let pause = crawling.crawl_due();
+        crawling.crawl_due();
         server.pulse.beat(&rt);
-        if server.stop.wait(&rt, pause) {
-            return;
+        if server.stop.wait(&rt, server.pace.interval) {
+            break;
         }
     }
+    crawling.hands.end(&rt, Duration::from_millis(END));
 }
 
-/// What the thread that crawls works with.
+/// What the thread that has rounds works with.
 #[derive(Drop)]
 struct Crawling<'a, R, H: Host + Drop, O> {
     rt: R,
     alloc: Global,
-    server: &'a Server<H>,
+    server: &'a Arc<Server<H>>,
     notices: &'a Arc<O>,
     walks: Walks,
+    hands: Hands,
 }
 
 impl<R, H, O> Crawling<'_, R, H, O>
 where
     R: Threads + Wait + Clock + CpuClock + Copy + Drop + Send + Sync + 'static,
-    H: Host + Drop,
+    H: Host + Drop + Send + Sync + 'static,
     O: Notices + Drop + Send + Sync + 'static,
 {
     /// Waits as long as nobody needs a round and the server goes on: no client is connected, there is no trigger, and
@@ -67,111 +81,134 @@ where
         links.wait_for_another(&self.rt, &self.server.stop, count);
     }
 
-    /// Crawls each root that is due, with a round of its triggers after it. It stops if the server is to end. Returns
-    /// the pause until the next round.
-    fn crawl_due(&mut self) -> Duration {
+    /// Has each root crawled that is due, with a round of its triggers after it, and glances at others. It stops if the
+    /// server is to end. A root that is still being crawled or looked at waits for its next round.
+    fn crawl_due(&mut self) {
         // Commands that could not be attended before are tried again, whether or not a root is watched.
         self.attend_all();
-        let pace = &self.server.pace;
+        self.keep_done();
+        self.hands.end_spare(&self.rt);
         // If memory runs out for the roots, they are crawled in the next round.
         let Some(roots) = self.server.host.begin_round() else {
-            return pace.interval;
-        };
-        self.walks.forget_others(&roots.shown);
-        let Ok(turns) = self.walks.due(&self.rt, pace, &roots.shown) else {
-            return pace.interval;
-        };
-        self.glance_between(&roots.shown, &turns);
-        match self.crawl_turns(&roots.shown, turns) {
-            Some(ended) => pace.interval.saturating_sub(time_since(&self.rt, ended)),
-            None => pace.interval,
-        }
-    }
-
-    /// Crawls the roots of these turns. Returns when the short walks before the last long one ended, if there was a long
-    /// one.
-    ///
-    /// The pause begins then, and so may be over after the long walk. So a root with a short walk waits for a long one
-    /// only as long as that goes on after the interval.
-    fn crawl_turns(&mut self, shown: &[u64], turns: Vec<Turn>) -> Option<io::Result<Instant>> {
-        let mut short_ended: Option<io::Result<Instant>> = None;
-        for turn in turns {
-            if turn.is_long() {
-                if short_ended.is_some() {
-                    self.crawl_short(shown);
-                }
-                self.server.pulse.beat(&self.rt);
-                short_ended = Some(Instant::now(&self.rt));
-            }
-            if self.server.stop.is_asked(&self.rt) {
-                break;
-            }
-            self.crawl_one(turn.number);
-        }
-        short_ended
-    }
-
-    /// Crawls the roots with short walks that became due during a long one, so that they wait for no second one.
-    fn crawl_short(&mut self, shown: &[u64]) {
-        // If memory runs out for the roots, they are crawled in the next round.
-        let Ok(turns) = self.walks.due(&self.rt, &self.server.pace, shown) else {
             return;
         };
+        self.walks.forget_others(&roots.shown);
+        let (rt, server) = (self.rt, self.server);
+        let Ok(turns) = self.walks.due(&rt, &server.pace, &roots.shown) else {
+            return;
+        };
+        self.glance_between(&roots.shown, &turns);
         for turn in turns {
-            if turn.is_long() || self.server.stop.is_asked(&self.rt) {
+            if server.stop.is_asked(&rt) {
                 return;
             }
-            self.crawl_one(turn.number);
+            // No other root waits for a crawl that takes long.
+            let patience = if turn.is_long() { 0 } else { PATIENCE };
+            self.have_done(Task::Crawl(turn.number), Duration::from_millis(patience));
         }
     }
 
     /// Glances at the roots that are not due, so that changes there are listed soon.
     fn glance_between(&mut self, shown: &[u64], due: &[Turn]) {
+        let (rt, server) = (self.rt, self.server);
         // If memory runs out for the roots, there are glances in the next round.
-        let Ok(looks) = self
-            .walks
-            .to_glance(&self.rt, &self.server.pace, shown, due)
-        else {
+        let Ok(looks) = self.walks.to_glance(&rt, &server.pace, shown, due) else {
             return;
         };
         for look in looks {
-            if self.server.stop.is_asked(&self.rt) {
+            if server.stop.is_asked(&rt) {
                 return;
             }
-            let (began, before) = (Instant::now(&self.rt), self.rt.thread_cpu_time());
-            self.server.host.glance(look.number, look.reach);
-            let took = Took::new(
-                time_since(&self.rt, began),
-                before,
-                self.rt.thread_cpu_time(),
-            );
-            self.walks.add_glance(&self.rt, look, took.work);
-            self.attend_all();
+            self.have_done(Task::Glance(look), Duration::from_millis(PATIENCE));
         }
     }
 
-    /// Crawls a root, keeps how long that took, and has the commands attended that were started.
-    fn crawl_one(&mut self, number: u64) {
-        let before = self.rt.thread_cpu_time();
-        let time = self.server.host.crawl(number, &self.server.stop);
-        let took = Took::new(time, before, self.rt.thread_cpu_time());
-        self.walks.add(&self.rt, number, took);
+    /// Has a task done, and waits for it so long. It does nothing if the root has a task that is not done yet.
+    fn have_done(&mut self, task: Task, patience: Duration) {
+        if self.hands.has(task.number()) {
+            return;
+        }
+        let (rt, server) = (self.rt, self.server);
+        let took = match self.idle_hand() {
+            Some(place) => self.hands.give(&rt, place, task, patience),
+            // If no thread can be made, this one does the task.
+            None => Some(task.run(&rt, server)),
+        };
+        if let Some(took) = took {
+            self.keep(task, took);
+        }
         self.attend_all();
     }
 
-    /// Starts a thread for each command that was started, which attends it, and says whether all are attended. If no
-    /// thread can be made, the commands wait.
-    fn attend_all(&self) -> bool {
-        let host = &self.server.host;
-        for _ in 0..MAX_RUNS {
-            let Some(run) = host.take_run() else {
-                return true;
+    /// Keeps how long the tasks took that were done since the last round.
+    fn keep_done(&mut self) {
+        for _ in 0..self.hands.len() {
+            let Some((task, took)) = self.hands.take_done(&self.rt) else {
+                return;
             };
-            if let Some(run) = attend(self.rt, self.alloc, host.runs(), self.notices, run) {
-                host.give_back(run);
-                return false;
+            self.keep(task, took);
+        }
+    }
+
+    /// Keeps how long a task took.
+    fn keep(&mut self, task: Task, took: Took) {
+        match task {
+            Task::Crawl(number) => self.walks.add(&self.rt, number, took),
+            Task::Glance(look) => self.walks.add_glance(&self.rt, look, took.work),
+        }
+    }
+
+    /// A thread that has no task, which is made if there is none.
+    fn idle_hand(&mut self) -> Option<usize> {
+        self.keep_done();
+        match self.hands.idle() {
+            Some(place) => Some(place),
+            None => self.another_hand(),
+        }
+    }
+
+    /// Makes a thread that has no task.
+    fn another_hand(&mut self) -> Option<usize> {
+        let hand = self.hands.another().ok()?;
+        let (theirs, server) = (hand.clone().ok()?, self.server.clone().ok()?);
+        let (rt, alloc, notices) = (self.rt, self.alloc, self.notices.clone().ok()?);
+        let place = self.hands.len();
+        self.hands.add(hand).ok()?;
+        match thread::spawn(&rt, move || {
+            work_always(rt, alloc, &*server, &notices, &*theirs)
+        }) {
+            // Nobody joins it: it ends when the rounds end.
+            Ok(_) => Some(place),
+            Err(_) => {
+                self.hands.remove_last();
+                None
             }
         }
-        false
+    }
+
+    /// Has the commands attended that were started ([`attend_all`]).
+    fn attend_all(&self) -> bool {
+        attend_all(self.rt, self.alloc, &self.server.host, self.notices)
+    }
+}
+
+/// Does the tasks that a thread is given, until it is to end.
+fn work_always<R, H, O>(rt: R, alloc: Global, server: &Server<H>, notices: &Arc<O>, hand: &Hand)
+where
+    R: Threads + Wait + Clock + CpuClock + Copy + Drop + Send + Sync + 'static,
+    H: Host + Drop,
+    O: Notices + Drop + Send + Sync + 'static,
+{
+    for _ in rt.forever() {
+        let Some(task) = hand.next(&rt) else {
+            return;
+        };
+        let took = task.run(&rt, server);
+        attend_all(rt, alloc, &server.host, notices);
+        hand.finish(&rt, took);
+        // The round did not wait for it.
+        if took.is_long() {
+            server.pulse.beat(&rt);
+        }
     }
 }

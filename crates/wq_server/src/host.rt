@@ -14,6 +14,15 @@ use wq_launch::{Run, Runs};
 use wq_stream::Inbox;
 use wq_view::Reach;
 
+/// The work of a crawl.
+#[derive(Clone, Copy, Drop)]
+pub struct Worked {
+    /// How long it took by the clock.
+    pub time: Duration,
+    /// How many threads worked side by side, 1 at the least.
+    pub threads: u64,
+}
+
 /// Serves clients, crawls roots and starts the commands of triggers, from many threads at once.
 pub trait Host {
     /// Tells the operator that clients are served from now on.
@@ -40,14 +49,13 @@ pub trait Host {
     fn has_triggers(&self) -> bool;
 
     /// Crawls the root of this number, if it is shown, and then has a round of its triggers. The
-    /// caller then takes the commands that were started. Returns how long it worked by the
-    /// clock: waiting for clients is no work.
+    /// caller then takes the commands that were started. Waiting for clients is no work.
     ///
-    /// The crawl gives way to clients that wait for one. If the server is to end, it does no more.
-    fn crawl(&self, number: u64, stop: &Stop) -> Duration;
+    /// The crawl gives way to clients that wait for a crawl of the root. If the server is to end, it does no more.
+    fn crawl(&self, number: u64, stop: &Stop) -> Worked;
 
-    /// Glances at the root of this number, looks so far, and then has a round of its triggers. It gives way to clients that wait for a crawl. Nobody hears of a fault, since the
-    /// next crawl meets it too.
+    /// Glances at the root of this number, looks so far, and then has a round of its triggers. It gives way to clients
+    /// that wait for a crawl of the root. Nobody hears of a fault, since the next crawl meets it too.
     fn glance(&self, number: u64, reach: Reach);
 
     /// Has the walk of a round end before its time, since the server ends.

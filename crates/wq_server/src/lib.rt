@@ -2,9 +2,12 @@
 //! how all of it ends. A [`Host`] does their work: it runs sessions, crawls roots and has rounds of triggers.
 #![tactic(auto)]
 
+mod attendance;
 mod client;
 mod clients;
 mod crawling;
+mod hand;
+mod hands;
 mod host;
 mod latch;
 mod law;
@@ -24,13 +27,14 @@ mod server;
 mod socket;
 mod stop;
 mod stream_reader;
+mod task;
 mod timing;
 mod told_tree;
 mod turnstile;
 mod walks;
 
 pub use clients::MAX_SESSIONS;
-pub use host::Host;
+pub use host::{Host, Worked};
 pub use law::parts_make_share;
 pub use moments::RootNumbers;
 pub use pace::{Pace, Share};

@@ -109,7 +109,7 @@ where
 {
     let (server, notices) = (server.clone()?, notices.clone()?);
     Ok(thread::spawn(&rt, move || {
-        crawl_always(rt, alloc, &*server, &notices);
+        crawl_always(rt, alloc, &server, &notices);
         server.crawled.open(&rt);
     })?)
 }

@@ -1,7 +1,11 @@
 //! How long something took.
 
+use crate::host::Worked;
 use std::io;
 use std::time::{Clock, Duration, Instant};
+
+/// A walk that took this many milliseconds by the clock is long.
+const LONG: u64 = 50;
 
 /// How long a walk took.
 #[derive(Clone, Copy, Drop)]
@@ -13,18 +17,28 @@ pub(crate) struct Took {
 }
 
 impl Took {
-    /// A walk that took so long by the clock, if this is the processor time that the thread had used before it and has
-    /// used now. Its work is its time if the processor time is not known.
+    /// A walk by so many threads that took so long by the clock, if this is the processor time that one of them had used
+    /// before it and has used now. Each of the others counts as much. The work of one is its time if the processor time is
+    /// not known.
     pub(crate) fn new(
-        time: Duration,
+        worked: Worked,
         before: io::Result<Duration>,
         after: io::Result<Duration>,
     ) -> Took {
         let work = match (before, after) {
             (Ok(before), Ok(after)) => after.saturating_sub(before),
-            _ => time,
+            _ => worked.time,
         };
-        Took { time, work }
+        let threads = u32::try_from(worked.threads).unwrap_or(u32::MAX);
+        Took {
+            time: worked.time,
+            work: work.saturating_mul(threads),
+        }
+    }
+
+    /// Whether it took long by the clock.
+    pub(crate) fn is_long(&self) -> bool {
+        self.time >= Duration::from_millis(LONG)
     }
 }
 

@@ -7,9 +7,6 @@ use std::alloc::{AllocError, Global};
 use std::time::{Clock, Duration, Instant};
 use wq_view::Reach;
 
-/// A walk that took this many milliseconds by the clock is long.
-const LONG: u64 = 50;
-
 /// The last walk of a root.
 #[derive(Drop)]
 struct Walked {
@@ -104,14 +101,14 @@ pub(crate) struct Look {
 pub(crate) struct Turn {
     /// The number of the root.
     pub(crate) number: u64,
-    /// How long its last walk took by the clock. It is no time if there was none, or if there is no share.
-    time: Duration,
+    /// How long its last walk took. It is no time if there was none.
+    took: Took,
 }
 
 impl Turn {
     /// Whether the root's last walk was long.
     pub(crate) fn is_long(&self) -> bool {
-        self.time >= Duration::from_millis(LONG)
+        self.took.is_long()
     }
 }
 
@@ -190,23 +187,35 @@ impl Walks {
 
     /// The roots of these that are due at this pace. Those come first of which the last walk was the shortest by the
     /// clock, so no root waits for a walk that was long and can come after its own. A new root comes first too.
-    ///
-    /// Without a share all of them are due.
     pub(crate) fn due<R: Clock>(
         &self,
         rt: &R,
         pace: &Pace,
         shown: &[u64],
     ) -> Result<Vec<Turn>, AllocError> {
+        let pauses = self.pauses(pace, shown)?;
         let mut turns = Vec::with_capacity(self.alloc, shown.len())?;
-        let Some(share) = pace.share else {
-            for number in shown {
+        for (number, pause) in shown.iter().zip(&pauses) {
+            if self.is_due(rt, *number, *pause) {
                 turns.push(Turn {
                     number: *number,
-                    time: Duration::ZERO,
+                    took: self.last_of(*number),
                 })?;
             }
-            return Ok(turns);
+        }
+        turns.sort_unstable_by_key(|turn| turn.took.time);
+        Ok(turns)
+    }
+
+    /// The pause of each of these roots from its last walk to the next one at this pace. Without a share it is the
+    /// interval.
+    fn pauses(&self, pace: &Pace, shown: &[u64]) -> Result<Vec<Duration>, AllocError> {
+        let mut pauses = Vec::with_capacity(self.alloc, shown.len())?;
+        let Some(share) = pace.share else {
+            for _ in shown {
+                pauses.push(pace.interval)?;
+            }
+            return Ok(pauses);
         };
         let mut works = Vec::with_capacity(self.alloc, shown.len())?;
         for number in shown {
@@ -215,16 +224,9 @@ impl Walks {
         let cycles = share.cycles(self.alloc, pace.interval, &works)?;
         for (number, cycle) in shown.iter().zip(&cycles) {
             // Glances are work within the pause, and so make it longer by what they took.
-            let pause = cycle.pause.saturating_add(self.glances_of(*number).work);
-            if self.is_due(rt, *number, pause) {
-                turns.push(Turn {
-                    number: *number,
-                    time: self.last_of(*number).time,
-                })?;
-            }
+            pauses.push(cycle.pause.saturating_add(self.glances_of(*number).work))?;
         }
-        turns.sort_unstable_by_key(|turn| turn.time);
-        Ok(turns)
+        Ok(pauses)
     }
 
     /// Whether this pause of a root has passed, or the root was not walked yet. It has passed if the clock cannot be

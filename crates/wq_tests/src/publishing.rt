@@ -8,12 +8,13 @@ use std::collections::VecDeque;
 use std::io;
 use std::io::Write;
 use std::marker::Brand;
+use std::sync::atomic::AtomicU64;
 use std::sync::{Arc, Wait};
 use std::thread::Threads;
 use wq_ask::Cursor;
 use wq_base::{Stays, Workers};
 use wq_clock::Run;
-use wq_crawl::{CrawlFault, Crawler, LockRoots, Roots, SharedCrawler};
+use wq_crawl::{CrawlFault, LaneParts, LockRoots, Roots, SharedCrawler};
 use wq_live::{Blank, Named, Told};
 use wq_registry::{CacheKey, Compiled, Forgotten};
 use wq_serve::{LockDesk, SeatViews, serve};
@@ -124,9 +125,16 @@ fn talk<N: Named, R: Threads + Wait + Copy + Drop + Sync>(
         names: &[b"a", b"b"],
         others: &[b"a"],
     };
-    let mut crawler = Crawler::new(blank.open::<N, R>(rt), tree, Still(100));
-    let seat = crawler.seat().ok()?;
-    let crawler = Arc::new(alloc, SharedCrawler::new(alloc, crawler).ok()?).ok()?;
+    let mut publisher = blank.open::<N, R>(rt);
+    let seat = publisher.seat().ok()?;
+    let lane = LaneParts {
+        tree,
+        seconds: Still(100),
+        waiting: Arc::new(alloc, AtomicU64::new(0)).ok()?,
+        made_by: Arc::new(alloc, AtomicU64::new(1)).ok()?,
+    };
+    let crawler = SharedCrawler::new(alloc, publisher, lane, Vec::new(alloc)).ok()?;
+    let crawler = Arc::new(alloc, crawler).ok()?;
     let mut inbox = MemoryInbox::new(VecDeque::from(Splitter::new(alloc).feed(lines).ok()?));
     let mut writer = Telling {
         bytes: Vec::new(alloc),

@@ -11,6 +11,8 @@ use crate::stat::{Stat, stat_of};
 use crate::unseen::walk_fault;
 use std::env;
 use std::fs::Files;
+use std::sync::Arc;
+use std::sync::atomic::{AtomicBool, Ordering};
 use wq_crawl::TreeFault;
 
 /// A source of directories and files. It fails if no answer can be had for any of them, because no file handle is left
@@ -44,34 +46,48 @@ pub trait Disk {
 #[derive(Drop)]
 pub struct FileDisk {
     files: HostRuntime,
-    /// The path of the root in which the process is, with a slash at its end. It is empty if the process is in none.
+    /// The path of the root in which this disk has the process, with a slash at its end. It is empty if it has not.
     entered: String,
+    /// Whether a disk has the process in a root. All disks of the process share it.
+    is_taken: Arc<AtomicBool>,
 }
 
 impl FileDisk {
-    /// The disk that these files are on. The call takes no memory.
-    pub fn new(files: &HostRuntime) -> FileDisk {
+    /// The disk that these files are on. All disks of a process share this word, which says whether one of them has the
+    /// working directory. The call takes no memory.
+    pub fn new(files: &HostRuntime, is_taken: Arc<AtomicBool>) -> FileDisk {
         FileDisk {
             files: *files,
             entered: String::new(files.alloc()),
+            is_taken,
         }
     }
 
-    /// Makes a root the working directory of the process, so that the system begins each look below it there. If that
-    /// fails, it begins at `/`.
+    /// Makes a root the working directory of the process, so that the system begins each look below it there. If another
+    /// disk has the working directory, or if that fails, it begins at `/`.
     pub(crate) fn enter(&mut self, root: &str) {
         let Ok(path) = with_slash(self.files.alloc(), root) else {
             return;
         };
+        if self.is_taken.swap(true, Ordering::SeqCst) {
+            return;
+        }
         if env::set_current_dir(&self.files, path.as_str()).is_ok() {
             self.entered = path;
+        } else {
+            self.is_taken.store(false, Ordering::SeqCst);
         }
     }
 
-    /// Makes `/` the working directory of the process, so that no file system stays in use.
+    /// Makes `/` the working directory of the process, so that no file system stays in use. It does nothing if another
+    /// disk has the working directory.
     pub(crate) fn leave(&mut self) {
+        if self.entered.is_empty() {
+            return;
+        }
         self.entered.clear();
         let _ = env::set_current_dir(&self.files, "/");
+        self.is_taken.store(false, Ordering::SeqCst);
     }
 
     /// A path to the same file from the working directory. That of the root stays whole: a root that was deleted is

@@ -39,6 +39,8 @@ pub struct Walker<T: Threads + Drop, D: Disk + Drop> {
     slow: SlowRoots,
     /// How many callers wait for a listing.
     waiting: Arc<AtomicU64>,
+    /// How many threads made the last listing.
+    made_by: Arc<AtomicU64>,
     failures: u64,
     /// The number of files that the last listing left out.
     left_out: LeftOut,
@@ -48,15 +50,16 @@ pub struct Walker<T: Threads + Drop, D: Disk + Drop> {
 
 impl<T: Threads + Drop, D: Disk + Drop> Walker<T, D> {
     /// A walker of the trees of a disk that has listed nothing and counted no failure. Up to so
-    /// many threads walk a tree. If this count of callers that wait for a listing is 0, one thread
-    /// walks, and the listing of a tree that was listed before gives way as soon as it is not 0.
-    /// The call takes no memory.
+    /// many threads walk a tree, and more if its disk is slow. If this count of callers that wait for a listing is 0, one thread
+    /// walks a tree whose disk is not slow, and the listing of a tree that was listed before gives way as soon as it is not 0.
+    /// The last word says how many threads made the last listing. The call takes no memory.
     pub fn new(
         disk: D,
         alloc: Global,
         threads: T,
         walkers: Workers,
         waiting: Arc<AtomicU64>,
+        made_by: Arc<AtomicU64>,
     ) -> Walker<T, D>
         ensures failures { result.failures ≡ 0 }
         ensures disk { result.disk ≡ disk }
@@ -68,6 +71,7 @@ impl<T: Threads + Drop, D: Disk + Drop> Walker<T, D> {
             walkers,
             slow: SlowRoots::new(alloc),
             waiting,
+            made_by,
             failures: 0,
             left_out: LeftOut::nothing(),
             is_whole: true,
@@ -76,13 +80,14 @@ impl<T: Threads + Drop, D: Disk + Drop> Walker<T, D> {
 
     /// How many threads walk this root now, and whether they give way.
     fn walkers_now(&self, root: &str) -> (Walkers, Way<'_>) {
-        if self.waiting.load(Ordering::SeqCst) > 0 {
-            let least = self.walkers.count as usize;
-            (self.slow.walkers(root, least), Way::Keeps)
+        let (least, way) = if self.waiting.load(Ordering::SeqCst) > 0 {
+            (self.walkers.count as usize, Way::Keeps)
         } else {
-            // The share of rounds counts what one thread works.
-            (Walkers { count: 1 }, Way::Gives(&self.waiting))
-        }
+            (1, Way::Gives(&self.waiting))
+        };
+        let walkers = self.slow.walkers(root, least);
+        self.made_by.store(walkers.count as u64, Ordering::SeqCst);
+        (walkers, way)
     }
 }
 
@@ -226,6 +231,7 @@ impl<T: Threads + Drop, D: Disk + Drop> Walker<T, D> {
         ensures rooted { IfOk result (λ _. IsRooted (D.says self.old.disk) root.now) }
         ensures part { self.new.is_whole ≡ false }
     {
+        self.made_by.store(1, Ordering::SeqCst);
         let listed = {
             let progress = Progress::new(Way::Gives(&self.waiting));
             glanced(&progress, &self.disk, self.alloc, root, last, recent)
@@ -236,8 +242,8 @@ impl<T: Threads + Drop, D: Disk + Drop> Walker<T, D> {
     }
 }
 
-/// During a listing the root is the working directory of the process, and `/` after it. So one walker may list at a
-/// time, and nothing else may use a relative path.
+/// During a listing the root is the working directory of the process, unless that is the root of another walker, and `/`
+/// is it after that. So nothing else may use a relative path.
 impl<T: Threads + Clock + Drop> Tree for Walker<T, FileDisk> {
     ghost failed = { λ walker. walker.failures };
 

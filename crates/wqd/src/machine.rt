@@ -4,12 +4,11 @@ use std::alloc::Global;
 use std::io;
 use std::marker::Brand;
 use std::process::ExitCode;
-use std::sync::atomic::AtomicU64;
-use std::sync::{Arc, Wait};
+use std::sync::Wait;
 use std::thread::Threads;
 use std::time::{Clock, CpuClock, Duration};
 use wq_command_line::Settings;
-use wq_crawl::{Seconds, Tree};
+use wq_crawl::{LaneParts, Seconds, Tree};
 use wq_daemon::{Parts, SEATS, serve_clients};
 use wq_launch::{Notices, Spawn};
 use wq_live::Blank;
@@ -32,12 +31,10 @@ impl<R: Eprint + Drop> Notices for StandardError<R> {
 /// The parts of this machine with which the server works.
 #[derive(Drop)]
 pub(crate) struct Machine<T: Tree + Drop, S: Seconds + Drop, O: Notices + Drop, P: Spawn + Drop> {
-    pub(crate) tree: T,
-    pub(crate) seconds: S,
+    pub(crate) first: LaneParts<T, S>,
+    pub(crate) more: Vec<LaneParts<T, S>>,
     pub(crate) notices: O,
     pub(crate) spawn: P,
-    /// How many calls of sessions wait for a crawl. The tree looks at it.
-    pub(crate) waiting: Arc<AtomicU64>,
 }
 
 /// Serves clients until one of them asks that the server ends, and gives the exit status. Threads
@@ -88,8 +85,8 @@ where
 {
     let parts = Parts {
         run: settings.run,
-        tree: machine.tree,
-        seconds: machine.seconds,
+        first: machine.first,
+        more: machine.more,
         notices: machine.notices,
         spawn: machine.spawn,
         sockname: settings.sockname,
@@ -98,7 +95,6 @@ where
             share: settings.share,
         },
         workers: settings.workers,
-        waiting: machine.waiting,
     };
     let blank = Blank::new(alloc, &rt, SEATS)?;
     serve_clients::<Brand, R, T, S, O, P>(rt, alloc, listening, blank, parts)

@@ -3,22 +3,19 @@
 //! commands for it; `wq_replay` replays a script, and `wq_verify` describes program files.
 #![tactic(auto)]
 
+mod lanes;
 mod machine;
 
+use lanes::lanes;
 use machine::{Machine, StandardError, cannot_listen, serve};
-use std::alloc::{AllocError, Global};
 use std::env;
 use std::fs::File;
 use std::io::{self, BufReader, BufWriter, ErrorKind, Read, Write};
 use std::process::ExitCode;
-use std::sync::Arc;
-use std::sync::atomic::AtomicU64;
 use wq_command_line::{CommandLineFault, Task, task_of};
-use wq_crawl::MachineClock;
 use wq_launch::System;
 use wq_replay::{ReplayFault, replay};
 use wq_verify::{FAULT, MAX_FILE, check};
-use wq_walk::{FileDisk, Walker};
 
 /// The exit status after a wrong command line.
 const WRONG_COMMAND_LINE: u8 = 2;
@@ -28,15 +25,14 @@ fn main(rt: HostRuntime) -> ExitCode {
         Ok(Task::Replay) => replay_status(&rt, replay_script(&rt)),
         Ok(Task::Check(path)) => ExitCode::from(check_file(&rt, &path)),
         Ok(Task::Serve(settings)) => {
-            let Ok((waiting, seen)) = shared_count(rt.alloc()) else {
+            let Ok((first, more)) = lanes(&rt, rt, settings.walkers) else {
                 return cannot_listen(&rt);
             };
             let machine = Machine {
-                tree: Walker::new(FileDisk::new(&rt), rt.alloc(), rt, settings.walkers, seen),
-                seconds: MachineClock::new(rt),
+                first,
+                more,
                 notices: StandardError { rt },
                 spawn: System::new(rt),
-                waiting,
             };
             serve(&rt, rt, machine, settings)
         }
@@ -46,12 +42,6 @@ fn main(rt: HostRuntime) -> ExitCode {
         }
         Err(CommandLineFault::NoMemory) => replay_status(&rt, Err(ReplayFault::Memory)),
     }
-}
-
-/// A count at 0, twice shared.
-fn shared_count(alloc: Global) -> Result<(Arc<AtomicU64>, Arc<AtomicU64>), AllocError> {
-    let count = Arc::new(alloc, AtomicU64::new(0))?;
-    Ok((count.clone()?, count))
 }
 
 /// The task that the command line asks for, if its words are in UTF-8 and ask for a task.

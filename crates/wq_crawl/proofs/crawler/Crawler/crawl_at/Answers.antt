@@ -1,5 +1,5 @@
 -- The root was listed, and the pass of the listing was published; or the pass is no news, and nothing was added.
-use Rattle.std.proofs.Common.{rules, ◌≡◌, subst, w64}
+use Rattle.std.proofs.Common.{rules, subst, w64}
 use mir.Val.{SFits}
 use Rattle.std.proofs.lemmas.Int.{to_z-of_z}
 use Rattle.wq_crawl.specs.Crawl.{IsRelisted}

@@ -1,5 +1,5 @@
 -- by the table after the pass, and the view that the pass differs from
-use Rattle.std.proofs.Common.{w64, ◌≡◌, ◌<◌, ◌++◌, ◌∷◌, [], Err, Ok, None, Some, IfSome, MatchOption, option_map, length, refl, inl, inr, ap, sym, subst, ◌∙◌}
+use Rattle.std.proofs.Common.{w64, ◌<◌, ◌++◌, ◌∷◌, [], Err, Ok, None, Some, IfSome, option_map, length, refl, inl, inr, ap, sym, subst, ◌∙◌}
 use Rattle.std.proofs.lemmas.Int.{to_z-of_z}
 use Rattle.std.proofs.lemmas.Result.{err_from_is_err_and}
 use Rattle.wq_record.specs.Limit.{max_tick}
@@ -7,7 +7,6 @@ use Rattle.wq_view.specs.View.{IsViewOf, ViewData}
 use Rattle.wq_view.specs.declared.view.ViewFault.TheVariants.{NoMemory}
 use Rattle.wq_live.specs.Event.{passes_over}
 use Rattle.wq_live.specs.Patched.{pass_by}
-use Rattle.wq_live.specs.Table.{IsTableOf}
 use Rattle.wq_live.specs.declared.event.RootEvent.TheVariants.{Passed}
 use Rattle.wq_live.proofs.Passes.{fit_found, none_passed, shared_view, some_passed}
 use Rattle.wq_live.proofs.Spending.{no_memory, same_error, well}
