@@ -48,7 +48,7 @@ COMMANDS: List[List[object]] = [
     ["query", ROOT], ["find"], ["since"], ["since", ROOT], ["since", ROOT, "x"], ["since", ROOT, 7], ["subscribe", ROOT],
     ["subscribe", ROOT, 7, {}], ["subscribe", ROOT, "a", 7], ["subscribe", ROOT, "a", {"defer": 7}],
     ["subscribe", ROOT, "a", {"drop": 7}], ["unsubscribe", ROOT], ["unsubscribe", ROOT, 7], ["unsubscribe", ROOT, "nope"],
-    ["trigger"], ["trigger", ROOT, "t", "*.c", "--", 123], ["find", ROOT, "*", 7], ["since", ROOT, "n:"],
+    ["trigger"], ["trigger", ROOT, "t", "*.c", "--", 123], ["find", ROOT, "*", 7],
     ["trigger", ROOT], ["trigger", ROOT, "t"], ["trigger", ROOT, {}], ["trigger", ROOT, {"name": "x"}],
     *(["trigger", ROOT, {**NAMED, **keys}] for keys in (
         {"stdin": 7}, {"stdin": "foo"}, {"stdout": "foo"}, {"stderr": "foo"}, {"max_files_stdin": -1}, {"expression": ["frob"]})),
