@@ -3,10 +3,14 @@
 import os
 import sys
 
-if not __package__:
-    # The directory was run, and is first on the path: its modules are those of a package, and no others' business.
+IS_DIRECTORY = not __package__
+if IS_DIRECTORY:
+    # Python puts a directory that it runs first on the path. The package is one above.
     sys.path[0] = os.path.dirname(os.path.dirname(os.path.realpath(__file__)))
 
-from wqd_watchdog.command import main
+from wqd_watchdog.command import is_isolated, main
 
+# What was put there for this command is not for the tool.
+if IS_DIRECTORY or not is_isolated():
+    del sys.path[0]
 sys.exit(main(sys.argv[1:]))

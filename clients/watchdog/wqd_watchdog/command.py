@@ -45,7 +45,7 @@ def main(words: List[str]) -> int:
 def run_module(words: List[str]) -> None:
     put_in_place()
     sys.argv = words
-    sys.path[0] = os.getcwd()
+    put_first(os.getcwd())
     runpy.run_module(words[0], run_name="__main__", alter_sys=True)
 
 
@@ -56,9 +56,18 @@ def run_script(script: str, words: List[str], is_here: bool) -> None:
         os.execv(python[0], [*python, package, HERE, script, *words])
     put_in_place()
     sys.argv = [script, *words]
-    # As if the script had been run itself.
-    sys.path[0] = os.path.dirname(os.path.realpath(script))
+    put_first(os.path.dirname(os.path.realpath(script)))
     runpy.run_path(script, run_name="__main__")
+
+
+def put_first(directory: str) -> None:
+    """The directory of what is run is first on the path, unless this Python is to have no such."""
+    if not is_isolated():
+        sys.path.insert(0, directory)
+
+
+def is_isolated() -> bool:
+    return bool(sys.flags.isolated or getattr(sys.flags, "safe_path", False))
 
 
 def put_in_place() -> None:

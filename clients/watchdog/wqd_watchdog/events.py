@@ -1,4 +1,4 @@
-"""The events of watchdog for changes, in the order in which its polling has them."""
+"""The events of watchdog for changes, in an order in which they lead from one picture to the other."""
 
 from typing import Iterator, List, Optional
 
@@ -11,16 +11,18 @@ from .rows import Change, Row
 
 
 def events_of(changes: List[Change]) -> Iterator[FileSystemEvent]:
-    """First those of files, then those of directories. What lies deeper goes first and comes last."""
-    for is_directory in (False, True):
-        deleted = DirDeletedEvent if is_directory else FileDeletedEvent
-        modified = DirModifiedEvent if is_directory else FileModifiedEvent
-        created = DirCreatedEvent if is_directory else FileCreatedEvent
-        kinds = [(each.path, is_of(each.before, is_directory), is_of(each.now, is_directory)) for each in changes]
-        yield from (deleted(path) for path, before, now in reversed(kinds) if before and not now)
-        yield from (modified(path) for path, before, now in kinds if before and now)
-        yield from (created(path) for path, before, now in kinds if now and not before)
+    """First what went, the deepest first; then what was written; then what came, the outermost first. The changes are in
+    the order of their paths. A file in the place of a directory went and came."""
+    for path, before, now in reversed(changes):
+        if before and not is_alike(before, now):
+            yield DirDeletedEvent(path) if before.is_directory else FileDeletedEvent(path)
+    for path, before, now in changes:
+        if now and is_alike(before, now):
+            yield DirModifiedEvent(path) if now.is_directory else FileModifiedEvent(path)
+    for path, before, now in changes:
+        if now and not is_alike(before, now):
+            yield DirCreatedEvent(path) if now.is_directory else FileCreatedEvent(path)
 
 
-def is_of(row: Optional[Row], is_directory: bool) -> bool:
-    return row is not None and row.is_directory == is_directory
+def is_alike(before: Optional[Row], now: Optional[Row]) -> bool:
+    return before is not None and now is not None and before.is_directory == now.is_directory
