@@ -32,7 +32,7 @@ class Feed {
     this.waiting = [];
     this.work = Promise.resolve();
     this.session = hub.acquire(keeps);
-    this.session.lists.set(this.name, (list) => this.take(list));
+    this.session.lists.set(this.name, this);
     this.isBegun = false;
     this.isClosed = false;
     this.onUp = () => this.begin();
@@ -52,9 +52,10 @@ class Feed {
     this.session.removeListener('up', this.onUp);
     this.session.removeListener('fault', this.onFault);
     this.session.lists.delete(this.name);
-    if (this.session.isUp()) this.session.ask('unsubscribe', this.root, this.name);
-    hub.release(this.session, this.keeps);
     for (const each of this.waiting.splice(0)) each.resolve(false);
+    this.session.ask('unsubscribe', this.root, this.name)
+      .then(() => this.session.giveBack(this.root))
+      .finally(() => hub.release(this.session, this.keeps));
   }
 
   /** Takes a place in, before the others: what several have is the newest one's to tell. */
@@ -83,10 +84,9 @@ class Feed {
   }
 
   async watched() {
-    const { roots = [] } = await this.session.ask('watch-list');
-    const reply = await this.session.ask('watch', this.root);
+    const reply = await this.session.watch(this.root);
     // What is watched already may have been scanned long ago.
-    if (reply.error || !roots.includes(this.root)) return reply;
+    if (reply.error || reply.isNew) return reply;
     return this.session.ask('clock', this.root, { sync_timeout: PATIENCE });
   }
 

@@ -65,7 +65,7 @@ function stars(glob, at) {
   if (end === at) end += 1;
   const isWhole = end - at > 1 && (at === 0 || glob[at - 1] === '/') && (end === glob.length || glob[end] === '/');
   if (!isWhole) return ['[^/]*', end];
-  if (end < glob.length) return ['(?:[^/]+/)*', end + 1];
+  if (end < glob.length) return ['(?:[^/]*/)*', end + 1];
   return ['.*', end];
 }
 

@@ -3,11 +3,15 @@
 
 const { EventEmitter } = require('events');
 const { connect } = require('./connection');
+const { Notes } = require('./notes');
 const { startServer, wasStopped } = require('./starting');
 
 const NOBODY_LISTENS = new Set(['ENOENT', 'ECONNREFUSED']);
 const FIRST_PAUSE = 50;
 const LONGEST_PAUSE = 2000;
+// So many failures one after the other are told.
+const TOLD_FAILURES = 2;
+const TOO_MANY = 'E13';
 
 /** Emits `up` when it is connected, `down` when the server went, and `fault` if it cannot connect. */
 class Session extends EventEmitter {
@@ -21,8 +25,10 @@ class Session extends EventEmitter {
     this.users = 0;
     this.keepers = 0;
     this.pause = FIRST_PAUSE;
+    this.failures = 0;
     this.timer = null;
     this.connectedAt = 0;
+    this.notes = null;
   }
 
   /** Someone uses the session. One that keeps it keeps the process alive too. */
@@ -73,11 +79,47 @@ class Session extends EventEmitter {
     });
   }
 
+  /**
+   * Has the server watch a root. If it watches as many as it may, one that nobody needs is given up.
+   * @returns {Promise<object>} the reply; `isNew` in it says whether the root was scanned just now
+   */
+  async watch(root) {
+    const { roots = [] } = await this.ask('watch-list');
+    let reply = await this.ask('watch', root);
+    if (reply.error && reply.error.startsWith(TOO_MANY)) {
+      for (const one of this.notes.droppable(roots)) {
+        if (!(await this.giveUp(one))) continue;
+        reply = await this.ask('watch', root);
+        if (!reply.error) break;
+      }
+    }
+    const isNew = !roots.includes(root);
+    if (!reply.error && isNew) this.notes.keep(root);
+    return { ...reply, isNew };
+  }
+
+  /** Ends the watch of a root, unless it has triggers: whether that was done. */
+  async giveUp(root) {
+    const { triggers } = await this.ask('trigger-list', root);
+    if (!triggers || triggers.length > 0) return false;
+    const reply = await this.ask('watch-del', root);
+    if (!reply.error) this.notes.forget(root);
+    return !reply.error;
+  }
+
+  /** Gives a root back that this process had watched, if no other feed and nobody else needs it. */
+  async giveBack(root) {
+    if ([...this.lists.values()].some((feed) => feed.root === root)) return;
+    if (this.connection && this.notes.isOwn(root)) await this.giveUp(root);
+  }
+
   async reach() {
     try {
       this.begin(await this.connected());
     } catch (fault) {
-      if (this.users > 0) this.emit('fault', fault);
+      this.failures += 1;
+      // A server that is started just now may be ended by somebody else.
+      if (this.users > 0 && this.failures >= TOLD_FAILURES) this.emit('fault', fault);
       this.later();
     }
   }
@@ -99,6 +141,8 @@ class Session extends EventEmitter {
       return;
     }
     this.connection = connection;
+    this.failures = 0;
+    this.notes = new Notes(this.sockname);
     this.connectedAt = Date.now();
     connection.on('value', (value) => this.take(value));
     connection.on('end', () => this.ended(connection));
@@ -109,8 +153,8 @@ class Session extends EventEmitter {
   take(value) {
     this.pause = FIRST_PAUSE;
     if (value.unilateral) {
-      const list = this.lists.get(value.subscription);
-      if (list) list(value);
+      const feed = this.lists.get(value.subscription);
+      if (feed) feed.take(value);
       return;
     }
     const reply = this.replies.shift();
