@@ -12,7 +12,7 @@ USAGE = """\
 Runs a tool that watches files by Python's watchdog, and has wqd watch them.
 
     python3 -m wqd_watchdog COMMAND [WORD..]      a command such as mkdocs, or a file
-    python3 -m wqd_watchdog -m MODULE [WORD..]    a module, as python3 -m runs it
+    python3 -m wqd_watchdog -m MODULE [WORD..]    a module, by its name
 
 COMMAND is run by the Python that its first line names; with --here before it, by this one.
 WqdObserver takes the place of PollingObserver, and of Observer."""
