@@ -29,6 +29,7 @@ class History {
     this.draw = drawing(seed);
     this.restart = restart;
     this.steps = [];
+    this.writes = 0;
     this.written = new Map();
     this.existed = new Set();
     for (const one of [this.root, this.outside, path.join(this.outside, 'x')]) fs.mkdirSync(one);
@@ -50,10 +51,18 @@ class History {
     return path.join(this.root, this.pick(DIRECTORIES));
   }
 
-  /** A file gets other content, of another length or time. */
+  /** A file gets other content. No two have one length: nobody who polls sees that a file took the place of its like. */
   write(file) {
-    fs.writeFileSync(file, 'x'.repeat(1 + Math.floor(this.draw() * 50)) + this.steps.length);
+    this.writes += 1;
+    fs.writeFileSync(file, 'x'.repeat(this.writes));
     this.written.set(file, Date.now());
+  }
+
+  rename(from, to) {
+    fs.accessSync(from);
+    if (from === to) return;
+    fs.renameSync(from, to);
+    this.written.set(to, Date.now());
   }
 
   change() {
@@ -61,7 +70,7 @@ class History {
       write: () => this.write(this.file()),
       append: () => { const file = this.file(); fs.accessSync(file); this.write(file); },
       save: () => { const file = this.file(); this.write(`${file}~`); fs.renameSync(`${file}~`, file); this.written.set(file, Date.now()); },
-      rename: () => { const to = this.file(); fs.renameSync(this.file(), to); this.written.set(to, Date.now()); },
+      rename: () => this.rename(this.file(), this.file()),
       remove: () => fs.unlinkSync(this.file()),
       again: () => { const file = this.file(); fs.unlinkSync(file); this.write(file); },
       mkdir: () => fs.mkdirSync(this.directory()),
@@ -98,7 +107,7 @@ class History {
 
   /** Keeps in mind which paths were ever there, also by a link. */
   note() {
-    for (const name of walked(this.root, true).keys()) this.existed.add(name);
+    for (const follows of [true, false]) for (const name of walked(this.root, follows).keys()) this.existed.add(name);
   }
 }
 
@@ -107,8 +116,7 @@ function walked(root, follows, name = '', found = new Map()) {
   const whole = path.join(root, name);
   let stats;
   try {
-    stats = fs.statSync(whole);
-    if (!follows && fs.lstatSync(whole).isSymbolicLink()) stats = { isDirectory: () => false };
+    stats = (follows ? fs.statSync : fs.lstatSync)(whole);
   } catch {
     return found;
   }

@@ -5,16 +5,22 @@ const fs = require('fs');
 const net = require('net');
 const path = require('path');
 
+// A server that starts is left alone, in milliseconds.
+const APART = 1500;
+
 class Server {
   constructor(room) {
     this.sockname = path.join(room, 'wqd.sock');
+    this.killed = 0;
     process.env.WQD_SOCK = this.sockname;
   }
 
-  /** Ends the server at once, without a word to its clients. */
+  /** Ends the server at once, without a word to its clients, unless another history did so just now. */
   kill() {
     const owner = this.process();
-    if (owner) process.kill(owner, 'SIGKILL');
+    if (!owner || Date.now() - this.killed < APART) return;
+    this.killed = Date.now();
+    process.kill(owner, 'SIGKILL');
   }
 
   /** The process that listens: the one whose command line has the socket. */

@@ -32,11 +32,10 @@ class Link {
     return true;
   }
 
-  /** Without followSymlinks a link is a file of its own, unless it leads nowhere. */
-  async showItself() {
-    this.target = await realPath(this.path);
+  /** Without followSymlinks a link is a file of its own, wherever it leads. */
+  showItself() {
     const { watcher } = this.place;
-    if (!this.target || this.isEnded || !watcher.claim(this, this.shown)) return false;
+    if (!watcher.claim(this, this.shown)) return false;
     watcher.tell('add', this.shown, this.row, this.place.isInitial);
     return true;
   }
@@ -62,14 +61,14 @@ class Link {
     if (!this.isEnded && this.target) await this.enter();
   }
 
-  /** Whether the link is another one now. If it led to a file, a look at that says so. */
+  /** Whether the link leads elsewhere now. If it led to a file, a look at that says so. */
   async leadsElsewhere(row) {
-    const target = await realPath(this.path);
-    if (!this.place.watcher.options.followSymlinks) {
-      if (target) this.place.watcher.tell('change', this.shown, row);
-      return !target;
+    const { watcher } = this.place;
+    if (!watcher.options.followSymlinks) {
+      watcher.tell('change', this.shown, row);
+      return false;
     }
-    return !(this.inner instanceof Lone) && target !== this.target;
+    return !(this.inner instanceof Lone) && (await realPath(this.path)) !== this.target;
   }
 
   end(tells) {
