@@ -24,8 +24,10 @@ sys.path.append("/usr/lib/python3/dist-packages")
 CLIENTS = Path(__file__).resolve().parent.parent
 # A test that takes longer has failed, in seconds.
 PATIENCE = 60
+# These are of no encoding, and left out without PHP.
+IN_PHP = "test_php"
 # These need other programs, another file system or a user's terminal.
-LEFT_OUT = ("test_eden", "test_php", "test_nodejs", "test_cppclient", "test_scm", "test_site_spawn", "test_age")
+LEFT_OUT = ("test_eden", "test_nodejs", "test_cppclient", "test_scm", "test_site_spawn", "test_age")
 INTERVAL = "50"
 Found = Dict[str, List[str]]
 
@@ -102,8 +104,9 @@ def run_module(name: str, found: Found) -> None:
         return
     for case in unittest.defaultTestLoader.loadTestsFromModule(module):
         for test in case:
-            if hasattr(test, "setConfiguration"):
-                key = f"{name}.{type(test).__name__}.{test._testMethodName}"
+            if hasattr(test, "setConfiguration") or name == IN_PHP:
+                method = type(test).__name__ if name == IN_PHP else test._testMethodName
+                key = f"{name}.{type(test).__name__}.{method}"
                 found[key] = outcome_of(test)
                 print(found[key][0], key, flush=True)
 
