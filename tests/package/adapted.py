@@ -53,7 +53,11 @@ def check_adapters_elsewhere(tally: built.Tally, room: Path) -> None:
     same(tally, "no line for a Python", list(prefix.rglob("*.pth")), [])
     link = room / "link"
     link.symlink_to(prefix / LAUNCHER)
-    same(tally, "the launcher by a link", head_of([str(link), "--help"], room), HELP)
+    tree = room / "tree"
+    tree.mkdir()
+    for name in ("re", "runpy", "shlex", "shutil", "typing", "wqd_watchdog"):
+        (tree / f"{name}.py").write_text("raise SystemExit(77)\n")
+    same(tally, "the launcher by a link, beside modules of others", head_of([str(link), "--help"], room, tree), HELP)
     call(room, "install", "--remove", str(prefix))
     same(tally, "what --remove leaves there", listing(prefix), [])
 
@@ -73,11 +77,11 @@ def version_in(package: Path) -> str:
     return str(json.loads((package / "package.json").read_text())["version"])
 
 
-def head_of(command: List[str], home: Path, **variables: str) -> bytes:
-    """The first line of what a command prints, for somebody with this home and no settings for Python."""
+def head_of(command: List[str], home: Path, at: Path = Path("/"), **variables: str) -> bytes:
+    """The first line of what a command prints in a directory, for somebody with this home and no settings for Python."""
     environment = {name: value for name, value in os.environ.items() if not name.startswith("PYTHON")}
     environment.update(HOME=str(home), **variables)
-    ended = subprocess.run(command, cwd="/", env=environment, stdout=subprocess.PIPE, stderr=subprocess.PIPE, timeout=PATIENCE)
+    ended = subprocess.run(command, cwd=at, env=environment, stdout=subprocess.PIPE, stderr=subprocess.PIPE, timeout=PATIENCE)
     return ended.stdout.partition(b"\n")[0] or ended.stderr
 
 
