@@ -48,7 +48,7 @@ def check_adapters_elsewhere(tally: built.Tally, room: Path) -> None:
     prefix = room / "a prefix"
     prefix.mkdir()
     ended = call(room, "install", str(prefix), "--adapters")
-    said = f"To import wqd_watchdog, set PYTHONPATH={prefix}/lib/wqd/python\n".encode()
+    said = f"To import wqd_watchdog, set PYTHONPATH='{prefix}/lib/wqd/python'\n".encode()
     same(tally, "how it ends elsewhere", (ended.status, said in ended.output), (0, True))
     same(tally, "no line for a Python", list(prefix.rglob("*.pth")), [])
     link = room / "link"
