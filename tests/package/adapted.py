@@ -62,6 +62,65 @@ def check_adapters_elsewhere(tally: built.Tally, room: Path) -> None:
     same(tally, "what --remove leaves there", listing(prefix), [])
 
 
+OF_NODE = """
+const {watch} = require(process.argv[2]);
+watch(process.argv[3]).on('add', (path) => { console.log(path); process.exit(); });
+"""
+OF_PYTHON = """#!/usr/bin/python3
+import os, sys
+from watchdog.events import FileSystemEventHandler
+from watchdog.observers.polling import PollingObserver
+
+class Handler(FileSystemEventHandler):
+    def on_created(self, event):
+        print(type(observer).__name__, event.src_path, flush=True)
+        os._exit(0)
+
+observer = PollingObserver()
+observer.schedule(Handler(), sys.argv[1])
+observer.start()
+open(os.path.join(sys.argv[1], "new"), "w").close()
+observer.join(60)
+"""
+
+
+def check_served_tools(tally: built.Tally, room: Path) -> None:
+    """A tool of Node and one of Python hear of files by the installed server, which they start."""
+    prefix, tree, runtime = room / "prefix", room / "tree", room / "runtime"
+    tree.mkdir()
+    runtime.mkdir(mode=0o700)
+    (tree / "a").touch()
+    call(room, "install", "--adapters", str(prefix))
+    (room / "tool.js").write_text(OF_NODE)
+    (room / "tool").write_text(OF_PYTHON)
+    (room / "tool").chmod(0o755)
+    kept = {name: os.environ[name] for name in ("LANG", "PYENV_VERSION") if name in os.environ}
+    environment = {**kept, "PATH": os.environ["PATH"], "HOME": str(room), "XDG_RUNTIME_DIR": str(runtime)}
+
+    def said(*words: object) -> bytes:
+        ended = subprocess.run([str(word) for word in words], env=environment, cwd=room, stdout=subprocess.PIPE,
+                               stderr=subprocess.PIPE, timeout=PATIENCE)
+        return ended.stdout or ended.stderr
+
+    if shutil.which("node") is not None:
+        found = said("node", room / "tool.js", prefix / NODE_PLACE, tree)
+        same(tally, "a tool of Node", found, f"{tree}/a\n".encode())
+        same(tally, "the server that it started", said(prefix / "bin" / "wq", "stop")[:14], b"wq: the server")
+    if has_watchdog():
+        found = said(prefix / LAUNCHER, room / "tool", tree)
+        same(tally, "a tool of Python", found, f"WqdObserver {tree}/new\n".encode())
+        same(tally, "the server that it started too", said(prefix / "bin" / "wq", "stop")[:14], b"wq: the server")
+    else:
+        print("left out: a tool that uses watchdog, since Debian's python3-watchdog is not installed")
+
+
+def has_watchdog() -> bool:
+    """Whether Debian's Python has the library that tools watch by."""
+    python = "/usr/bin/python3"
+    command = [python, "-c", "import watchdog"]
+    return os.access(python, os.X_OK) and subprocess.run(command, stderr=subprocess.DEVNULL).returncode == 0
+
+
 def expected_files() -> Dict[str, int]:
     """The files of the adapters below a prefix that are named here by the sources alone."""
     node, python = built.TOP / "clients" / "node", built.TOP / "clients" / "watchdog" / "wqd_watchdog"
