@@ -56,8 +56,8 @@ def node_files() -> List[File]:
     home = TOP / "clients" / "node"
     about = text("clients/node/package.json")
     found = {"package.json": VERSION.sub(rf'\1"{version()}"', about).encode()}
-    for name in json.loads(about)["files"]:
-        for path in sorted((home / name).rglob("*")) if name.endswith("/") else [home / name]:
+    for given in (home / name for name in json.loads(about)["files"]):
+        for path in sorted(given.rglob("*")) if given.is_dir() else [given]:
             if path.is_file():
                 found[str(path.relative_to(home))] = path.read_bytes()
     found.update({name: text(name).encode() for name in LICENCES})
