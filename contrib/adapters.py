@@ -1,5 +1,5 @@
-"""The adapters for tools that poll by other libraries: wqd-chokidar for Node, and wqd_watchdog for Python. As files below a
-prefix for `./install`, and as a package for npm and one for pip, which are the same on every machine."""
+"""The adapters for tools that poll by other libraries: wqd-chokidar for Node, and wqd_watchdog for Python. As files below
+a prefix for `./install`, and as a package for npm and one for pip, which are the same on every machine."""
 
 import base64
 import gzip
@@ -9,6 +9,7 @@ import json
 import os
 import re
 import site
+import stat
 import tarfile
 import zipfile
 from pathlib import Path
@@ -25,6 +26,8 @@ VERSION = re.compile(r'^(  "version": )"[^"]*"', re.M)
 NPM_TIME = 499_162_500
 # The first time that an archive of this kind can have.
 ZIP_TIME = (1980, 1, 1, 0, 0, 0)
+# What such an archive calls a system whose files have modes.
+UNIX = 3
 LAUNCHER = """#!/bin/sh
 # Runs a tool with wqd in the place of Python's watchdog: wqd-watchdog mkdocs serve
 exec python3 "$(dirname "$(readlink -f "$0")")/../{place}/{package}" "$@"
@@ -72,7 +75,8 @@ def python_files() -> List[File]:
 
 
 def files_of_adapters(prefix: str) -> List[File]:
-    """The files of `./install --adapters`. A Python that looks for packages below the prefix gets a line that leads on."""
+    """The files of `./install --adapters`. A Python that looks for packages below the prefix gets a line that leads
+    on."""
     found = [File(f"{NODE_PLACE}/{file.path}", file.mode, file.data) for file in node_files()]
     found += [File(f"{PYTHON_PLACE}/{file.path}", file.mode, file.data) for file in python_files()]
     launcher = LAUNCHER.format(place=PYTHON_PLACE, package=PYTHON)
@@ -119,7 +123,8 @@ def wheel() -> bytes:
     with zipfile.ZipFile(written, "w", zipfile.ZIP_DEFLATED) as archive:
         for file in [*found, File(record, 0o644, "".join(lines).encode())]:
             info = zipfile.ZipInfo(file.path, ZIP_TIME)
-            info.compress_type, info.create_system, info.external_attr = zipfile.ZIP_DEFLATED, 3, (0o100000 | file.mode) << 16
+            info.compress_type, info.create_system = zipfile.ZIP_DEFLATED, UNIX
+            info.external_attr = (stat.S_IFREG | file.mode) << 16
             archive.writestr(info, file.data)
     return written.getvalue()
 

@@ -18,8 +18,8 @@ def second_of(spec: object) -> Optional[int]:
 
 
 def said_clock(spec: object) -> object:
-    """The clock spec without the forms that the server does not know. What is none stays as it is, and the server refuses
-    it."""
+    """The clock spec without the forms that the server does not know. What is none stays as it is, and the server
+    refuses it."""
     if isinstance(spec, dict):
         return clock_in(spec)
     if spec == CURSOR:

@@ -67,7 +67,7 @@ def main(arguments: List[str], home: str) -> None:
         sys.exit(harmless_lines(end.code) if isinstance(end.code, str) else end.code)
     except Unwritten as fault:
         if not isinstance(fault.__cause__, BrokenPipeError):
-            print(f"watchman: standard output: {fault}", file=sys.stderr)
+            print(f"watchman: standard output: {fault}", file=sys.stderr, flush=True)
         os._exit(1)  # nothing is to be written at the end either
 
 

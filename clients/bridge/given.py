@@ -9,8 +9,8 @@ from typing import List, NamedTuple, NoReturn, Optional
 # The first argument of these is a root.
 OF_A_ROOT = (
     "clock", "debug-get-subscriptions", "debug-recrawl", "find", "flush-subscriptions", "get-config", "query", "since",
-    "state-enter", "state-leave", "subscribe", "trigger", "trigger-del", "trigger-list", "unsubscribe", "watch", "watch-del",
-    "watch-project",
+    "state-enter", "state-leave", "subscribe", "trigger", "trigger-del", "trigger-list", "unsubscribe", "watch",
+    "watch-del", "watch-project",
 )
 
 
@@ -67,7 +67,8 @@ def fault_of(command: object) -> Optional[str]:
 
 
 def with_absolute_root(command: List[object]) -> List[object]:
-    """The command with a root that does not depend on the directory in which the user is, as Watchman's own command sends it."""
+    """The command with a root that does not depend on the directory in which the user is, as Watchman's own command
+    sends it."""
     if command[0] not in OF_A_ROOT:
         return command
     root = str(command[1])

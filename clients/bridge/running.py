@@ -1,5 +1,5 @@
-"""The lock of a bridge, which says who runs: the bridge, its server, and where that listens. The command reads it too, the
-first line without Python."""
+"""The lock of a bridge, which says who runs: the bridge, its server, and where that listens. The command reads it too,
+the first line without Python."""
 
 import os
 import threading
@@ -33,8 +33,8 @@ def started(process: int) -> str:
 
 
 class Running:
-    """The lines of the lock. The first has the number of the bridge and its start, and those of the server as soon as a client
-    was served. The second is the socket of the server."""
+    """The lines of the lock. The first has the number of the bridge and its start, and those of the server as soon as a
+    client was served. The second is the socket of the server."""
 
     def __init__(self, lock: IO[str], server: str) -> None:
         self.lock = lock

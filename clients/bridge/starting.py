@@ -22,7 +22,8 @@ class Start:
         self.server = server_of(sockname)
 
     def start(self) -> None:
-        """A bridge that runs already says which server it asks. That may be one that was started without this command."""
+        """A bridge that runs already says which server it asks. That may be one that was started without this
+        command."""
         try:
             with alone(self.sockname):
                 has_bridge = is_listened_on(self.sockname)

@@ -30,8 +30,8 @@ def try_sane(room: Room) -> Outcome:
 
 
 def try_sane_restarts(room: Room) -> Outcome:
-    """Changes before and after the server ends, the server is killed, and the bridge is killed, both as if nobody looked at
-    processes that have ended."""
+    """Changes before and after the server ends, the server is killed, and the bridge is killed, both as if nobody
+    looked at processes that have ended."""
     with unreaped():
         return ends_under_sane(room)
 

@@ -49,8 +49,8 @@ def try_killed_server(room: Room) -> Outcome:
         for kill in (room.kill_server, room.kill_bridge):
             kill()
             found.append(answers())
-    return outcome("get-sockname and a question after the server or the bridge was killed, though no first process reaps",
-                   found, [[], [], []])
+    return outcome("get-sockname and a question after the server or the bridge was killed, though no first process "
+                   "reaps", found, [[], [], []])
 
 
 def try_pywatchman(room: Room) -> Outcome:

@@ -150,8 +150,8 @@ def kill(process: int) -> None:
 
 @contextlib.contextmanager
 def unreaped() -> Iterator[None]:
-    """Processes that clients leave behind come to this one meanwhile, which does not look at them: those that end stay in the
-    system's table, as in a container whose first process does not look either."""
+    """Processes that clients leave behind come to this one meanwhile, which does not look at them: those that end stay in
+    the system's table, as in a container whose first process does not look either."""
     system = ctypes.CDLL(None)
     system.prctl(SET_CHILD_SUBREAPER, 1)
     try:

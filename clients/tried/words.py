@@ -25,8 +25,9 @@ TERMS: List[object] = [
     ["name", "a", "x"], ["name", "a", "wholename", "z"], ["iname", ["a", 7]], "name", ["match", 7], ["match", "a", "foo"],
     ["imatch"], ["match", "*", "basename", {"frob": 1}], ["match", "*", "basename", {"includedotfiles": 3}], ["size", "xx", 1],
     ["size", "eq", "a"], ["size"], "size", ["since", "x"], ["since", "n:a"], ["since", 1, "foo"], ["since", "c:1:1", "mtime"],
-    ["since"], "since", ["since", 0], ["since", -5], ["since", {}], ["since", {"clock": "c:1:1"}], ["since", {"clock": "x"}],
-    ["since", {}, "mtime"], ["since", None], ["since", True], ["type", "x"], ["type"], ["type", "ff"], "type", ["type", "f", "more"], ["suffix"], ["suffix", "c", "d"],
+    ["since"], "since", ["since", 0], ["since", -5], ["since", {}], ["since", {"clock": "c:1:1"}], ["since", None],
+    ["since", {"clock": "x"}], ["since", {}, "mtime"], ["since", True], ["type", "x"], ["type"], ["type", "ff"], "type",
+    ["type", "f", "more"], ["suffix"], ["suffix", "c", "d"],
     ["dirname"], ["dirname", "d", ["depth", "ge"]], ["dirname", "d", ["foo", "ge", 1]], ["dirname", 7], ["dirname", "d", 7],
     ["dirname", "d", ["depth", "ge", 1], 8], ["exists", "x"], ["true", "x"], ["not", ["frob"]],
 ]
@@ -39,7 +40,8 @@ QUERIES: List[object] = [
     {"fields": [7]}, {"fields": ["frob"]}, {"fields": []}, {"since": "x"}, {"since": "n:"}, {"since": 0, **FILES},
     {"since": -5, **FILES}, {"since": {}}, {"since": {"clock": "c:1:1"}}, {"since": {"clock": "n:a"}}, {"since": None},
     {"relative_root": "."}, {"relative_root": "d/.."}, {"relative_root": "/d"}, {"relative_root": "d//"},
-    {"relative_root": ".", "path": ["."]}, {"relative_root": "./d", "glob": ["*"]}, {"relative_root": "d", "glob": ["*"]}, 7, [], None, {"expression": ["name", "a" * 100_000]},
+    {"relative_root": ".", "path": ["."]}, {"relative_root": "./d", "glob": ["*"]},
+    {"relative_root": "d", "glob": ["*"]}, 7, [], None, {"expression": ["name", "a" * 100_000]},
 ]
 NAMED = {"name": "x", "command": ["true"]}
 COMMANDS: List[List[object]] = [

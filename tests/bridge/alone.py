@@ -35,7 +35,9 @@ def check_without_server(tally: built.Tally, room: Path) -> None:
         "version": VERSION, "capabilities": {"relative_root": True, "none": False},
         "error": "client required capability `none` is not supported by this server"}))
     same(tally, "the version", said(room, "version"), (0, {"version": VERSION}))
-    for name, words in (("watch-list", "command watch-list not available in this mode"), ("frob", "unknown command frob")):
+    for name, words in (
+        ("watch-list", "command watch-list not available in this mode"), ("frob", "unknown command frob"),
+    ):
         same(tally, f"{name} without a server", said(room, name), (1, {"version": VERSION, "error": words}))
     ended = run(room, "--no-spawn", "--no-local", "list-capabilities")
     same(tally, "nothing without a server", (ended.returncode, ended.stdout), (1, b""))

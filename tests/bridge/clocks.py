@@ -1,4 +1,5 @@
-"""Clock specs through the bridge: seconds, whose boundaries are those of Watchman, objects, and a cursor without a name."""
+"""Clock specs through the bridge: seconds, whose boundaries are those of Watchman, objects, and a cursor without a
+name."""
 
 import os
 from pathlib import Path

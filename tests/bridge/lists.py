@@ -48,7 +48,8 @@ def check_relative_roots(tally: built.Tally, room: Path) -> None:
         same(tally, "a directory that is not there", names_of(client, root, {"relative_root": "no"}), [])
         for directory in ("x", ".", "./d*r", "d*r/..", "/d*r", "d*r//[q]"):
             same(tally, f"{directory} as relative root", names_of(client, root, {"relative_root": directory}), [])
-        same(tally, "slashes at the end of one", names_of(client, root, {"relative_root": "d*r//", "suffix": "none"}), [])
+        query = {"relative_root": "d*r//", "expression": ["type", "d"], "path": [{"path": "", "depth": 0}]}
+        same(tally, "slashes at the end of one", names_of(client, root, query), ["[q]"])
     tally.check(f"{DRAWS} queries below a directory", not wrong, wrong[:5])
 
 

@@ -145,7 +145,8 @@ def check_the_quick_command_in_bser(tally: built.Tally, sockname: str, quick: Ca
         for words in ([f"--output-encoding={name}"], ["--output-encoding", name]):
             found = bser.loads(quick(*words, "get-sockname"), value_encoding="utf-8")
             same(tally, f"{' '.join(words)} get-sockname", found, reply)
-            same(tally, f"{' '.join(words)}: the version of BSER", quick(*words, "get-sockname")[:2], bytes([0, version]))
+            head = quick(*words, "get-sockname")[:2]
+            same(tally, f"{' '.join(words)}: the version of BSER", head, bytes([0, version]))
 
 
 def wait_until(is_right: Callable[[], bool]) -> None:

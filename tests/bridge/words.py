@@ -99,7 +99,8 @@ def errors_of_triggers(root: str) -> List[Tuple[List[object], str]]:
     return [
         (["trigger"], "wrong number of arguments"),
         (["trigger", root], "not enough arguments"),
-        (["trigger", f"{root}/no"], f"unable to resolve root {root}/no: realpath({root}/no) -> No such file or directory"),
+        (["trigger", f"{root}/no"],
+         f"unable to resolve root {root}/no: realpath({root}/no) -> No such file or directory"),
         (["trigger", root, "t", "*.c"], "no command was specified"),
         (["trigger", root, "t", "--", 123], "failed to parse query: rule @ position 4 is not a string value"),
         (["trigger", root, {}], "invalid or missing name"),

@@ -1,5 +1,5 @@
-"""The adapters: what ./install --adapters puts below a prefix, and the packages for npm and pip that ./package --adapters
-makes."""
+"""The adapters: what ./install --adapters puts below a prefix, and the packages for npm and pip that
+./package --adapters makes."""
 
 import base64
 import hashlib
@@ -137,10 +137,12 @@ def version_in(package: Path) -> str:
 
 
 def head_of(command: List[str], home: Path, at: Path = Path("/"), **variables: str) -> bytes:
-    """The first line of what a command prints in a directory, for somebody with this home and no settings for Python."""
+    """The first line that a command prints in a directory, for somebody with this home and no settings for Python."""
     environment = {name: value for name, value in os.environ.items() if not name.startswith("PYTHON")}
     environment.update(HOME=str(home), **variables)
-    ended = subprocess.run(command, cwd=at, env=environment, stdout=subprocess.PIPE, stderr=subprocess.PIPE, timeout=PATIENCE)
+    ended = subprocess.run(
+        command, cwd=at, env=environment, stdout=subprocess.PIPE, stderr=subprocess.PIPE, timeout=PATIENCE
+    )
     return ended.stdout.partition(b"\n")[0] or ended.stderr
 
 
@@ -196,18 +198,21 @@ def check_wheel(tally: built.Tally, path: Path, room: Path) -> None:
     record = names[-1]
     lines = data.pop(record).decode().splitlines()
     same(tally, "the record", lines, [line_of(name, data[name]) for name in names[:-1]] + [f"{record},,"])
-    expected = {name.replace(PYTHON_PLACE, "wqd_watchdog") for name in expected_files() if name.startswith(PYTHON_PLACE)}
+    modules = [name for name in expected_files() if name.startswith(PYTHON_PLACE)]
+    expected = {name.replace(PYTHON_PLACE, "wqd_watchdog") for name in modules}
     same(tally, "files that the wheel has not", expected - set(names), set())
     pip = [sys.executable, "-m", "pip"]
     if subprocess.run([*pip, "--version"], stdout=subprocess.DEVNULL, stderr=subprocess.DEVNULL).returncode != 0:
         print("left out: what pip makes of the wheel, since it is not installed")
         return
     words = ["install", "--no-index", "--no-deps", "--no-cache-dir", "--disable-pip-version-check", "--target"]
-    ended = subprocess.run([*pip, *words, str(room / "target"), str(path)], stdout=subprocess.PIPE, stderr=subprocess.STDOUT)
+    command = [*pip, *words, str(room / "target"), str(path)]
+    ended = subprocess.run(command, stdout=subprocess.PIPE, stderr=subprocess.STDOUT)
     same(tally, "pip", (ended.returncode, b"Successfully installed" in ended.stdout), (0, True))
     by_pip = {"PYTHONPATH": str(room / "target")}
     same(tally, "the module by pip", head_of([sys.executable, "-m", "wqd_watchdog", "--help"], room, **by_pip), HELP)
-    same(tally, "the command by pip", head_of([str(room / "target" / "bin" / "wqd-watchdog"), "--help"], room, **by_pip), HELP)
+    launcher = str(room / "target" / "bin" / "wqd-watchdog")
+    same(tally, "the command by pip", head_of([launcher, "--help"], room, **by_pip), HELP)
 
 
 def line_of(name: str, data: bytes) -> str:
