@@ -43,7 +43,9 @@ class History:
         self.steps: List[str] = []
         self.faults: List[Fault] = []
         self.ever: Set[Tuple[str, bool]] = set(picture_of(self.root)[0].items())
-        self.followers = [Follower(name, make(), self.root) for name, make in observers.items()]
+        # An observer that begins without a server would start one.
+        with served.lock:
+            self.followers = [Follower(name, make(), self.root) for name, make in observers.items()]
 
     def run(self) -> List[Fault]:
         try:

@@ -20,6 +20,7 @@ class Connection:
 
     def __init__(self, sockname: str) -> None:
         self.client = Client(sockname)
+        self.process = self.client.peer().process
         self.boxes: "Dict[str, queue.Queue[Value]]" = {}
         self.replies: "queue.Queue[Value]" = queue.Queue()
         self.is_lost = False

@@ -2,6 +2,7 @@
 
 import os
 import queue
+import time
 from typing import Any, Iterable, Optional
 
 from watchdog.events import DirCreatedEvent, DirDeletedEvent
@@ -17,6 +18,8 @@ from .trouble import Lost, Unserved, say
 # In seconds: a list waits so long for another one, since an editor saves a file in several steps, and at most so long
 # for all; and how often a server is looked for.
 SETTLE, MOST_SETTLE, SEARCH = 0.15, 1.0, 0.2
+# The shortest pause between two scans for a watch.
+SHORTEST = 0.05
 # So often a server may end while a watch begins.
 ATTEMPTS = 3
 WAKE: Value = {"wake": True}
@@ -33,6 +36,8 @@ class WqdEmitter(EventEmitter):
         # Whether the tree has to begin anew, and the last reason why it could not.
         self.is_lost = False
         self.reason = ""
+        # How many seconds the last scan for this watch took.
+        self.took = 0.0
 
     def on_thread_start(self) -> None:
         """Takes the first picture. An error of the directory is raised as polling raises it."""
@@ -61,7 +66,7 @@ class WqdEmitter(EventEmitter):
             if self.is_lost:
                 self.begin_again(self.tree)
                 return
-            if self.takes(self.tree, timeout):
+            if self.waits(self.tree, timeout):
                 self.settle(self.tree)
             if self.should_keep_running():
                 self.tree.look()
@@ -71,6 +76,17 @@ class WqdEmitter(EventEmitter):
             self.tell(self.tree.changes.taken())
         except Gone:
             self.end()
+
+    def waits(self, tree: Tree, timeout: float) -> bool:
+        """Whether a list comes in time. If the file system is slow, the server scans for this watch again and again, with
+        pauses as long as its scans."""
+        if not tree.latency.is_slow():
+            return self.takes(tree, timeout)
+        if not self.takes(tree, min(timeout, max(self.took, SHORTEST))):
+            began = time.monotonic()
+            tree.scan()
+            self.took = time.monotonic() - began
+        return tree.changes.has_some()
 
     def takes(self, tree: Tree, seconds: float) -> bool:
         """Whether a list comes in time."""
@@ -109,7 +125,10 @@ class WqdEmitter(EventEmitter):
             self.stopped_event.wait(self.timeout)
             return
         except OSError:
-            raise Gone from None
+            if not os.path.exists(self.watch.path):
+                raise Gone from None
+            self.stopped_event.wait(SEARCH)
+            return
         self.tree, self.is_lost, self.reason = tree, False, ""
         before.close()
         if not self.should_keep_running():

@@ -59,8 +59,7 @@ class Server:
                 connection = Connection(self.sockname)
             except OSError as error:
                 raise Unserved(f"{error.filename or self.sockname}: {error.strerror or error}") from None
-            process = connection.client.peer().process
-            self.notes, self.run = Notes(self.sockname, process), run_of(process)
+            self.notes, self.run = Notes(self.sockname, connection.process), run_of(connection.process)
             self.connections, self.lost_since = [connection], None
             self.subscriptions.clear()
             self.open.clear()
@@ -152,8 +151,8 @@ class Server:
 
     # Subscriptions.
 
-    def subscribe(self, root: str, query: Value, box: "queue.Queue[Value]") -> Tuple[str, List[Value]]:
-        """Subscribes to a root, and gives the name of the subscription and the files that match now."""
+    def subscribe(self, root: str, query: Value, box: "queue.Queue[Value]") -> Tuple[str, Value]:
+        """Subscribes to a root, and gives the name of the subscription and its first list: the files that match now."""
         with self.lock:
             self.count += 1
             name = f"watchdog {self.count}"
@@ -162,7 +161,15 @@ class Server:
             if "error" in found:
                 raise Unserved(sentence(root, found["error"]))
             self.subscriptions[name] = Subscription(connection, root)
-            return name, found["files"]
+            return name, found
+
+    def query(self, name: str, query: Value) -> Value:
+        """Asks the root of a subscription, after a scan. Others may ask meanwhile."""
+        with self.lock:
+            subscription = self.subscriptions.get(name)
+        if subscription is None:
+            raise Lost
+        return subscription.connection.ask("query", subscription.root, query)
 
     def unsubscribe(self, names: List[str]) -> None:
         """Ends subscriptions, and gives the roots back that no other one needs."""

@@ -6,6 +6,7 @@ import queue
 from typing import Dict, Iterator, List, NamedTuple, Optional, Set, Tuple
 
 from .connection import Value
+from .latency import LOOKS, Latency
 from .roots import lies_in, real_directory
 from .rows import Changes, Row, row_of
 from .server import Server
@@ -48,6 +49,8 @@ class Branch:
         self.below = os.path.relpath(real, root) if real != root else ""
         self.rows: Dict[str, Row] = {}
         self.links: Set[str] = set()
+        # The moment up to which its changes were taken.
+        self.clock = ""
 
     def path(self, name: str) -> str:
         return os.path.join(self.front, name)
@@ -61,6 +64,13 @@ class Branch:
         if is_recursive:
             return {"fields": FIELDS, **({"expression": ["dirname", self.below]} if self.below else {})}
         return {"fields": FIELDS, "expression": ["dirname", self.below, ["depth", "eq", 0]]}
+
+    def is_later(self, clock: str) -> bool:
+        return tick_of(clock) > tick_of(self.clock)
+
+
+def tick_of(clock: str) -> int:
+    return int(clock.rsplit(":", 1)[1])
 
 
 class Tree:
@@ -84,6 +94,11 @@ class Tree:
             self.close()
             raise
         self.changes.taken()
+        self.latency = Latency(self.paths)
+        self.latency.look(LOOKS)
+
+    def paths(self) -> Iterator[str]:
+        return (path for path, _ in self.rows())
 
     def rows(self) -> Iterator[Tuple[str, Row]]:
         """All files, with their paths."""
@@ -102,9 +117,10 @@ class Tree:
         real = real_directory(front)
         root = self.server.root_of(real)
         branch = Branch(front, real, root, above)
-        name, files = self.server.subscribe(root, branch.query(self.is_recursive), self.box)
+        name, first = self.server.subscribe(root, branch.query(self.is_recursive), self.box)
         self.branches[name], self.names[front] = branch, name
-        for file in files:
+        branch.clock = first["clock"]
+        for file in first["files"]:
             self.take_file(branch, file)
 
     def drop(self, front: str) -> None:
@@ -126,8 +142,26 @@ class Tree:
             return
         if value.get("canceled"):
             raise Lost
-        for file in value["files"]:
-            self.take_file(branch, file)
+        self.take_changes(branch, value)
+
+    def take_changes(self, branch: Branch, value: Value) -> None:
+        """Takes what changed since the clock of a branch. A list that was overtaken by a query says nothing new."""
+        if branch.is_later(value["clock"]):
+            branch.clock = value["clock"]
+            for file in value["files"]:
+                self.take_file(branch, file)
+
+    def scan(self) -> None:
+        """Has the server scan, and takes what changed. Many threads scan for who waits, and one otherwise."""
+        for name in list(self.branches):
+            branch = self.branches.get(name)
+            if branch is None:
+                continue
+            found = self.server.query(name, {**branch.query(self.is_recursive), "since": branch.clock})
+            if found.get("is_fresh_instance"):
+                raise Lost
+            if "error" not in found:
+                self.take_changes(branch, found)
 
     def take_file(self, branch: Branch, file: Value) -> None:
         name = branch.name_of(file["name"])
@@ -160,6 +194,7 @@ class Tree:
             raise Replaced
         self.changes.note(self.path, self.top.row, top.row)
         self.top = top
+        self.latency.look()
         for name in list(self.branches):
             branch = self.branches.get(name)
             for link in sorted(branch.links) if branch else ():
