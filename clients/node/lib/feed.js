@@ -3,6 +3,7 @@
 // root that goes and comes back.
 
 const fs = require('fs');
+const { Haste } = require('./haste');
 const hub = require('./hub');
 const { staysBelow } = require('./names');
 
@@ -31,6 +32,7 @@ class Feed {
     this.listed = 0;
     this.waiting = [];
     this.work = Promise.resolve();
+    this.haste = new Haste(this);
     this.session = hub.acquire(keeps);
     this.session.lists.set(this.name, this);
     this.isBegun = false;
@@ -49,6 +51,7 @@ class Feed {
   close() {
     this.isClosed = true;
     clearTimeout(this.timer);
+    this.haste.end();
     this.session.removeListener('up', this.onUp);
     this.session.removeListener('fault', this.onFault);
     this.session.lists.delete(this.name);
@@ -84,9 +87,18 @@ class Feed {
   }
 
   async watched() {
-    const reply = await this.session.watch(this.root);
+    let isNew = false;
+    const reply = await this.haste.scan(async () => {
+      const found = await this.session.watch(this.root);
+      ({ isNew } = found);
+      return found;
+    });
     // What is watched already may have been scanned long ago.
-    if (reply.error || reply.isNew) return reply;
+    return reply.error || isNew ? reply : this.haste.scan(() => this.scanned());
+  }
+
+  /** Has the server scan the root now. */
+  scanned() {
     return this.session.ask('clock', this.root, { sync_timeout: PATIENCE });
   }
 

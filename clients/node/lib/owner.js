@@ -6,6 +6,8 @@ const path = require('path');
 
 // In /proc/net/unix: a socket that accepts connections.
 const ACCEPTS = '00010000';
+// Of a tick of the system, in milliseconds.
+const TICK = 10;
 
 /**
  * @param {string} sockname
@@ -51,4 +53,14 @@ function runOf(process) {
   }
 }
 
-module.exports = { runAt, runOf };
+/** The processor's time that a process has taken, in milliseconds; not a number if it cannot be seen. */
+function processorTime(run) {
+  try {
+    const words = fs.readFileSync(`/proc/${run.split(':')[0]}/stat`, 'utf8').split(')').pop().trim().split(/\s+/);
+    return (Number(words[11]) + Number(words[12])) * TICK;
+  } catch {
+    return NaN;
+  }
+}
+
+module.exports = { processorTime, runAt, runOf };
