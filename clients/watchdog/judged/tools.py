@@ -84,12 +84,14 @@ def free_port() -> int:
 
 
 def make_project(project: Path, sources: int) -> Path:
-    """A project of mkdocs with three pages, which also watches sources, as those from which pages are made. Gives one of
-    them."""
+    """A project of mkdocs with three pages and a small theme, which also watches sources, as those from which pages are
+    made. Gives one of them."""
     (project / "docs").mkdir(parents=True)
     for name in ("index", "one", "two"):
         (project / "docs" / f"{name}.md").write_text(f"# {name}\n")
-    (project / "mkdocs.yml").write_text("site_name: tried\nwatch: [src]\n")
+    (project / "theme").mkdir()
+    (project / "theme" / "main.html").write_text("<html><body>{{ page.content }}</body></html>")
+    (project / "mkdocs.yml").write_text("site_name: tried\ntheme: {name: null, custom_dir: theme}\nwatch: [src]\n")
     for number in range(sources):
         directory = project / "src" / f"d{number // 20}"
         directory.mkdir(parents=True, exist_ok=True)

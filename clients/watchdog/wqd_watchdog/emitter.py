@@ -119,6 +119,7 @@ class WqdEmitter(EventEmitter):
                 return
             tree = self.new_tree()
         except Lost:
+            self.stopped_event.wait(SEARCH)
             return
         except Unserved as reason:
             self.tell_once(str(reason))

@@ -57,6 +57,9 @@ class Server:
                 if not is_listened_on(self.sockname):
                     start_server(self.sockname)
                 connection = Connection(self.sockname)
+            except (ConnectionRefusedError, FileNotFoundError):
+                # It ended since it was looked for.
+                raise Lost from None
             except OSError as error:
                 raise Unserved(f"{error.filename or self.sockname}: {error.strerror or error}") from None
             self.notes, self.run = Notes(self.sockname, connection.process), run_of(connection.process)
