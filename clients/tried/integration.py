@@ -9,6 +9,7 @@ JSON object with the outcome of each test. PART runs the modules alone that have
 import importlib
 import json
 import os
+import shutil
 import signal
 import subprocess
 import sys
@@ -39,9 +40,9 @@ def main(source: str, kind: str, results: str, part: str = "") -> None:
     os.environ["WATCHMAN_EMPTY_ENV_VAR"] = ""
     import TempDir
     import WatchmanInstance
-    TempDir.get_temp_dir(False)
+    room = TempDir.get_temp_dir(False).get_dir()
     if kind == "bridge":
-        put_command_on_path()
+        put_command_on_path(room)
         WatchmanInstance._Instance.start = start
         WatchmanInstance._Instance.stop = stop
     shared = WatchmanInstance.Instance({"watcher": "auto"})
@@ -54,12 +55,13 @@ def main(source: str, kind: str, results: str, part: str = "") -> None:
             run_module(name, found)
     Path(results).write_text(json.dumps(found, indent=1))
     shared.stop()
+    shutil.rmtree(room, ignore_errors=True)
     os._exit(0)  # threads of the tests may go on
 
 
-def put_command_on_path() -> None:
+def put_command_on_path(room: str) -> None:
     """The command of the tests over the command line is that of the repository."""
-    front = tempfile.mkdtemp()
+    front = tempfile.mkdtemp(dir=room)
     os.symlink(CLIENTS / "watchman", os.path.join(front, "watchman"))
     os.environ["PATH"] = front + os.pathsep + os.environ["PATH"]
 
