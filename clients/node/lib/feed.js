@@ -10,6 +10,8 @@ const { staysBelow } = require('./names');
 const FIELDS = ['name', 'exists', 'type', 'size', 'mtime_ms'];
 // How soon a root that went is noticed, in milliseconds: the server keeps the last view of one.
 const LOOK = 500;
+// After so many looks a root that the server refused is tried again.
+const LOOKS = 10;
 const PATIENCE = 600_000;
 // The server says these of itself, and not of a root.
 const OF_SERVER = /^(ended|E17|E60)/;
@@ -27,6 +29,8 @@ class Feed {
     this.rows = new Map();
     this.places = new Set();
     this.isGone = false;
+    this.isRefused = false;
+    this.looks = 0;
     this.turn = 0;
     this.asked = 0;
     this.listed = 0;
@@ -81,6 +85,7 @@ class Feed {
       this.leave();
       this.settle(Infinity);
     } else if (!OF_SERVER.test(reply.error)) {
+      this.isRefused = true;
       this.fail(new Error(`wqd does not watch ${this.root}: ${reply.error}`));
       this.settle(Infinity);
     }
@@ -176,9 +181,15 @@ class Feed {
       if (this.isClosed) return;
       const isGone = Boolean(fault) && (fault.code === 'ENOENT' || fault.code === 'ENOTDIR');
       if (isGone) this.leave();
-      else if (this.isGone && this.session.isUp()) this.comeBack();
+      else if (this.session.isUp() && (this.isGone || this.isTriedAgain())) this.comeBack();
       this.timer = setTimeout(() => this.look(), LOOK).unref();
     });
+  }
+
+  /** Whether it is time to try a root again that the server refused: a place may be free. */
+  isTriedAgain() {
+    this.looks = (this.looks + 1) % LOOKS;
+    return this.isRefused && this.looks === 0;
   }
 
   leave() {
@@ -189,6 +200,7 @@ class Feed {
 
   comeBack() {
     this.isGone = false;
+    this.isRefused = false;
     this.begin();
   }
 }

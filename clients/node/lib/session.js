@@ -26,6 +26,7 @@ class Session extends EventEmitter {
     this.keepers = 0;
     this.pause = FIRST_PAUSE;
     this.failures = 0;
+    this.isReaching = false;
     this.timer = null;
     this.connectedAt = 0;
     this.notes = null;
@@ -114,6 +115,8 @@ class Session extends EventEmitter {
   }
 
   async reach() {
+    if (this.isReaching || this.connection) return;
+    this.isReaching = true;
     try {
       this.begin(await this.connected());
     } catch (fault) {
@@ -121,6 +124,8 @@ class Session extends EventEmitter {
       // A server that is started just now may be ended by somebody else.
       if (this.users > 0 && this.failures >= TOLD_FAILURES) this.emit('fault', fault);
       this.later();
+    } finally {
+      this.isReaching = false;
     }
   }
 

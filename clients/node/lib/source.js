@@ -22,7 +22,7 @@ class Source {
   covers(directory) {
     if (!this.rootOf(directory)) return false;
     try {
-      return fs.realpathSync(directory) === directory;
+      return fs.realpathSync(directory) === directory && fs.statSync(directory).isDirectory();
     } catch {
       return false;
     }
