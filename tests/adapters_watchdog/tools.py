@@ -1,6 +1,7 @@
 """Real tools of Debian, served by the adapter: each builds once for each save."""
 
 import os
+import subprocess
 from pathlib import Path
 from typing import Callable, List, Sequence
 
@@ -14,9 +15,9 @@ from judged.tools import served as by_server
 from serving import served
 
 SILENCE = 0.7
-# Of the slow file system: how many files there are, how much longer a call takes in microseconds, and in how many seconds
-# a save is noticed. Their scan by one thread takes longer.
-SOURCES, DELAY, NOTICED = 800, 2_000, 2.0
+# Of the slow file system: how many files there are, how much longer a call of the server and one of the tool takes in
+# microseconds, and in how many seconds a save is noticed. Their scan by one thread takes longer.
+SOURCES, OF_SERVER, OF_TOOL, NOTICED = 800, 4_000, 300, 3.0
 
 
 def has(command: str) -> bool:
@@ -33,6 +34,29 @@ def saves(path: Path) -> List[Callable[[], object]]:
         lambda: (aside.write_text("# by a rename\n"), aside.replace(path)),
         lambda: (path.rename(path.with_name("kept~")), path.write_text("# beside what it was\n")),
     ]
+
+
+CHILD = """import subprocess, sys
+code = "import watchdog.observers as o, watchdog.observers.polling as p; print(o.Observer.__name__, p.PollingObserver.__name__)"
+for words in ([], ["-I"]):
+    subprocess.run([sys.executable, *words, "-c", code])
+print("hidden" in sys.argv, sys.path[0])
+"""
+HIDDEN = "import sys; print('a sitecustomize of others', any('children' in each for each in sys.path), flush=True)\n"
+
+
+def check_children(tally: built.Tally, room: Path) -> None:
+    """A Python that the tool starts has the observer too, unless it is isolated; and its own sitecustomize."""
+    others = room / "others"
+    others.mkdir()
+    (others / "sitecustomize.py").write_text(HIDDEN)
+    (room / "tool.py").write_text(CHILD)
+    environment = {**os.environ, "PYTHONPATH": str(others)}
+    command = [*by_server(str(room / "tool.py")), "hidden"]
+    ended = subprocess.run(command, env=environment, stdout=subprocess.PIPE)
+    same(tally, "processes that a tool starts", ended.stdout.decode().splitlines(), [
+        "a sitecustomize of others False", "a sitecustomize of others False", "WqdObserver WqdObserver",
+        "InotifyObserver PollingObserver", f"True {room}"])
 
 
 def check_mkdocs(tally: built.Tally, room: Path) -> None:
@@ -79,9 +103,9 @@ def check_a_slow_file_system(tally: built.Tally, room: Path) -> None:
         return
     source = make_project(room / "project", SOURCES)
     os.environ.update(WQD_SOCK=str(room / "socket"), XDG_STATE_HOME=str(room))
-    server = Served(str(room / "socket"), delayed(DELAY))
+    server = Served(str(room / "socket"), delayed(OF_SERVER))
     try:
-        check_slow_saves(tally, [*delayed(DELAY), *by_server(MKDOCS), *mkdocs_words()], source)
+        check_slow_saves(tally, [*delayed(OF_TOOL), *by_server(MKDOCS), *mkdocs_words()], source)
     finally:
         server.kill()
         del os.environ["WQD_SOCK"], os.environ["XDG_STATE_HOME"]

@@ -5,6 +5,7 @@ import runpy
 import sys
 from typing import List
 
+from .replacing import put_in_place, put_in_place_of_children
 from .scripts import is_this_python, python_of, script_of
 from .trouble import Unserved, say
 
@@ -44,6 +45,7 @@ def main(words: List[str]) -> int:
 
 def run_module(words: List[str]) -> None:
     put_in_place()
+    put_in_place_of_children()
     sys.argv = words
     put_first(os.getcwd())
     runpy.run_module(words[0], run_name="__main__", alter_sys=True)
@@ -55,6 +57,7 @@ def run_script(script: str, words: List[str], is_here: bool) -> None:
         package = os.path.dirname(os.path.abspath(__file__))
         os.execv(python[0], [*python, package, HERE, script, *words])
     put_in_place()
+    put_in_place_of_children()
     sys.argv = [script, *words]
     put_first(os.path.dirname(os.path.realpath(script)))
     runpy.run_path(script, run_name="__main__")
@@ -68,15 +71,3 @@ def put_first(directory: str) -> None:
 
 def is_isolated() -> bool:
     return bool(sys.flags.isolated or getattr(sys.flags, "safe_path", False))
-
-
-def put_in_place() -> None:
-    """Whoever imports an observer of watchdog from now on gets this one."""
-    try:
-        import watchdog.observers
-        import watchdog.observers.polling
-    except ImportError:
-        raise Unserved(f"the Python {sys.executable} has no module watchdog") from None
-    from .observer import WqdObserver
-    setattr(watchdog.observers.polling, "PollingObserver", WqdObserver)
-    setattr(watchdog.observers, "Observer", WqdObserver)

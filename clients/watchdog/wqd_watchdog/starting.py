@@ -27,7 +27,7 @@ def start_server(sockname: str) -> None:
 def command() -> str:
     """The command wqd: that of the clone, the one on the PATH, or the one that is installed with this package, which is
     in lib/wqd/python below the same prefix."""
-    clone, prefix = PACKAGE.parents[2], PACKAGE.parents[3]
+    clone, prefix = above(3), above(4)
     if (clone / OF_CLONE).is_file():
         return str(clone / "wqd")
     installed = prefix / "bin" / "wqd"
@@ -35,6 +35,11 @@ def command() -> str:
     if found is None:
         raise Unserved("no server listens, and the command wqd is not on the PATH")
     return found
+
+
+def above(count: int) -> Path:
+    """The directory so many above the package, or the root of the system."""
+    return Path(os.path.normpath(PACKAGE.joinpath(*[".."] * count)))
 
 
 def environment() -> Dict[str, str]:
