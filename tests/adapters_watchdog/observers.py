@@ -20,7 +20,7 @@ from wqd_watchdog import WqdObserver
 from wqd_watchdog.wqclient.kept import STOPS, keep, run_of
 
 TIMEOUT = 0.1
-HISTORIES = "8"
+HISTORIES = "6"
 # How long an event is waited for that should not come.
 SILENCE = 0.5
 

@@ -17,7 +17,7 @@ from serving import served
 SILENCE = 0.7
 # Of the slow file system: how many files there are, how much longer a call of the server and one of the tool takes in
 # microseconds, and in how many seconds a save is noticed. Their scan by one thread takes longer.
-SOURCES, OF_SERVER, OF_TOOL, NOTICED = 800, 4_000, 300, 3.0
+SOURCES, OF_SERVER, OF_TOOL, NOTICED = 2_000, 2_000, 300, 3.0
 
 
 def has(command: str) -> bool:
