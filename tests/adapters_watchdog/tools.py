@@ -1,12 +1,13 @@
 """Real tools of Debian, served by the adapter: each builds once for each save."""
 
 import os
+import signal
 import subprocess
 from pathlib import Path
 from typing import Callable, List, Sequence
 
 import built
-from client import same
+from client import PATIENCE, Server, same
 from judged.served import Served
 from judged.tools import (
     DETECTED, MKDOCS, READY, REBUILT, STRACE, WATCHMEDO, Tool, delayed, is_there, make_project, mkdocs_words,
@@ -76,6 +77,15 @@ def check_mkdocs(tally: built.Tally, room: Path) -> None:
             tool.waits_for(REBUILT, number)
             tool.rests(SILENCE)
             same(tally, f"builds after save {number}", tool.said.count(REBUILT), number)
+        check_an_end(tally, running, tool)
+
+
+def check_an_end(tally: built.Tally, running: Server, tool: Tool) -> None:
+    """A tool that ends by an interrupt gives its roots back."""
+    tool.process.send_signal(signal.SIGINT)
+    tool.process.wait(PATIENCE)
+    with running.client() as client:
+        same(tally, "roots after the end", client.ask("watch-list")["roots"], [])
 
 
 def check_watchmedo(tally: built.Tally, room: Path) -> None:
@@ -95,6 +105,7 @@ def check_watchmedo(tally: built.Tally, room: Path) -> None:
             tool.waits_for("ran modified ./a", number)
         same(tally, "commands", tool.rests(SILENCE).count("ran"), 0)
         same(tally, "all commands", tool.said.count("ran"), 3)
+        check_an_end(tally, running, tool)
 
 
 def check_a_slow_file_system(tally: built.Tally, room: Path) -> None:

@@ -1,5 +1,6 @@
 """The observer, which takes the place of watchdog's `PollingObserver`."""
 
+import atexit
 import os
 from typing import Any
 
@@ -18,6 +19,8 @@ class WqdObserver(BaseObserver):
     def __init__(self, timeout: float = DEFAULT_OBSERVER_TIMEOUT, **given: Any) -> None:
         super().__init__(self.new_emitter, timeout=timeout, **given)
         self.server = Server()
+        # Some tools end without stopping it.
+        atexit.register(self.server.close)
 
     def new_emitter(self, event_queue: Any, watch: Any, timeout: float = DEFAULT_EMITTER_TIMEOUT,
                     **given: Any) -> EventEmitter:
@@ -35,3 +38,4 @@ class WqdObserver(BaseObserver):
     def on_thread_stop(self) -> None:
         super().on_thread_stop()
         self.server.close()
+        atexit.unregister(self.server.close)

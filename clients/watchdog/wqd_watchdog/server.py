@@ -188,7 +188,9 @@ class Server:
                     self.give_back(root)
 
     def close(self) -> None:
+        """Ends all watches, and gives the roots back."""
         with self.lock:
+            self.unsubscribe(list(self.subscriptions))
             for each in self.connections:
                 each.close()
             for lock in filter(None, self.open.values()):
