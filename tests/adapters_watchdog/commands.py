@@ -16,7 +16,8 @@ PACKAGE = built.TOP / "clients" / "watchdog" / "wqd_watchdog"
 
 def check_first_lines(tally: built.Tally, room: Path) -> None:
     for head, expected in (
-        ("#!/usr/bin/python3\nimport x", ["/usr/bin/python3"]), ("#! /usr/bin/python3 -sE\n", ["/usr/bin/python3", "-sE"]),
+        ("#!/usr/bin/python3\nimport x", ["/usr/bin/python3"]),
+        ("#! /usr/bin/python3 -sE\n", ["/usr/bin/python3", "-sE"]),
         ("#!/usr/bin/env python3\n", ["python3"]), ("#!/usr/bin/env -S python3 -I\n", ["python3", "-I"]),
         ("import x\n", None), ("", None),
         ("#!/bin/sh\n'''exec' \"/a b/python3\" \"$0\" \"$@\"\n' '''\n", ["/a b/python3"]),

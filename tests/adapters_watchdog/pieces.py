@@ -1,5 +1,6 @@
 """The parts of the adapter that ask no server."""
 
+import json
 from pathlib import Path
 from typing import Iterator
 
@@ -7,7 +8,7 @@ import built
 from client import same
 from wqd_watchdog.latency import LOOKS, Latency
 from wqd_watchdog.roots import nearest, outermost, sentence
-from wqd_watchdog.rows import Change, Changes, Row, difference
+from wqd_watchdog.rows import Change, Changes, File, Row, difference, file_of
 
 A, B, D = Row(False, 1, 1000), Row(False, 2, 1000), Row(True, 4096, 1000)
 
@@ -23,6 +24,8 @@ def check_changes(tally: built.Tally, room: Path) -> None:
     same(tally, "each once", changes.taken(), [Change("a", A, B), Change("b", None, B)])
     same(tally, "taken once", changes.taken(), [])
     found = difference({"a": A, "b": A, "c": A}, {"a": A, "b": D, "e": B})
+    listed = json.loads('{"files":[{"exists":true,"mtime_ms":7,"name":"a","size":1,"type":"f"}]}', object_hook=file_of)
+    same(tally, "a file of a list", listed, {"files": [File("a", True, "f", 1, 7)]})
     same(tally, "a difference", found, [Change("b", A, D), Change("c", A, None), Change("e", None, B)])
 
 

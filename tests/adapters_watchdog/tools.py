@@ -38,11 +38,14 @@ def saves(path: Path) -> List[Callable[[], object]]:
 
 
 CHILD = """import subprocess, sys
-code = "import watchdog.observers as o, watchdog.observers.polling as p; print(o.Observer.__name__, p.PollingObserver.__name__)"
+code = "import watchdog.observers as o, watchdog.observers.polling as p; print(o.Observer, p.PollingObserver)"
 for words in ([], ["-I"]):
     subprocess.run([sys.executable, *words, "-c", code])
 print("hidden" in sys.argv, sys.path[0])
 """
+WQD, INOTIFY, POLLING = (f"<class '{name}'>" for name in (
+    "wqd_watchdog.observer.WqdObserver", "watchdog.observers.inotify.InotifyObserver",
+    "watchdog.observers.polling.PollingObserver"))
 HIDDEN = "import sys; print('a sitecustomize of others', any('children' in each for each in sys.path), flush=True)\n"
 
 
@@ -56,8 +59,8 @@ def check_children(tally: built.Tally, room: Path) -> None:
     command = [*by_server(str(room / "tool.py")), "hidden"]
     ended = subprocess.run(command, env=environment, stdout=subprocess.PIPE)
     same(tally, "processes that a tool starts", ended.stdout.decode().splitlines(), [
-        "a sitecustomize of others False", "a sitecustomize of others False", "WqdObserver WqdObserver",
-        "InotifyObserver PollingObserver", f"True {room}"])
+        "a sitecustomize of others False", "a sitecustomize of others False", f"{WQD} {WQD}",
+        f"{INOTIFY} {POLLING}", f"True {room}"])
 
 
 def check_mkdocs(tally: built.Tally, room: Path) -> None:

@@ -107,7 +107,8 @@ def check_links(tally: built.Tally, room: Path) -> None:
         (outside / "f").write_text("longer")
         (room / "none").touch()
         tree.look()
-        same(tally, "where links lead", [each for each in changes_of(tree, 2) if "/" not in each], ["~ file", "+ nowhere"])
+        found = [each for each in changes_of(tree, 2) if "/" not in each]
+        same(tally, "where links lead", found, ["~ file", "+ nowhere"])
         (root / "directory").unlink()
         found = [each for each in changes_of(tree, 5) if each != "~ directory/f"]
         same(tally, "a link that goes", found, [f"- {name}" for name in sorted(linked)])

@@ -1,1 +1,2 @@
-"""What clients/watchdog/compare and the gate try: drawn histories of a tree, which several observers of watchdog follow."""
+"""Drawn histories of a tree, which several observers of watchdog follow, and real tools: for clients/watchdog/compare,
+clients/watchdog/delayed and tests/adapters_watchdog."""

@@ -25,8 +25,8 @@ class Drawn:
     def step(self) -> str:
         """Makes one change, and says which."""
         changes: List[Callable[[], str]] = [
-            self.create, self.create, self.write, self.write, self.save, self.rename, self.delete, self.make_directories,
-            self.rename_directory, self.delete_directory, self.link, self.change_outside,
+            self.create, self.create, self.write, self.write, self.save, self.rename, self.delete,
+            self.make_directories, self.rename_directory, self.delete_directory, self.link, self.change_outside,
         ]
         done = ""
         while not done:

@@ -1,5 +1,5 @@
-"""Judges observers over one history: each change has an event, no event is of a file that never was, and what the events
-say at the end is the tree."""
+"""Judges observers over one history: each change has an event, no event is of a file that never was, and the events
+lead to the tree."""
 
 import os
 import random
@@ -18,6 +18,7 @@ from .served import Served
 PATIENCE, LOOK, SILENCE = 10.0, 0.02, 0.4
 STEPS = 5
 RESTARTS, BURSTS = 0.1, 0.25
+Found = Tuple[Picture, Dict[str, Tuple[int, int]]]
 # The one that is judged strictly; another one may say that a file came twice.
 OWN = "wqd"
 # The kernel says nothing of what is behind a link.
@@ -120,7 +121,7 @@ class History:
         return {path: kind for path, kind in picture.items() if not is_behind_a_link(path, str(self.root))}
 
 
-def changed(before: Tuple[Picture, Dict[str, Tuple[int, int]]], after: Tuple[Picture, Dict[str, Tuple[int, int]]]) -> Set[str]:
+def changed(before: Found, after: Found) -> Set[str]:
     """The paths that came, went, or have another size or time; of a directory the time says nothing that its files do
     not."""
     came_or_went = {path for path, _ in before[0].items() ^ after[0].items()}

@@ -1,11 +1,13 @@
-"""A connection to the server. A thread reads its lines: replies go to who asked, and lists to the box of their watch."""
+"""A connection to the server. A thread reads its lines: replies go to who asked, and lists to their watch."""
 
 import contextlib
+import json
 import queue
 import socket
 import threading
 from typing import Any, Dict, Optional
 
+from .rows import file_of
 from .trouble import Lost
 from .wqclient.client import Client, json_of
 from .wqclient.lines import Ended
@@ -31,7 +33,7 @@ class Connection:
     def read(self) -> None:
         with contextlib.suppress(Ended, OSError, ValueError):
             while True:
-                self.take(self.client.value())
+                self.take(json.loads(self.client.line(), object_hook=file_of))
         self.is_lost = True
         self.replies.put(GONE)
         for box in list(self.boxes.values()):

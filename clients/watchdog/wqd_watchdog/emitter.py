@@ -78,8 +78,8 @@ class WqdEmitter(EventEmitter):
             self.end()
 
     def waits(self, tree: Tree, timeout: float) -> bool:
-        """Whether a list comes in time. If the file system is slow, the server scans for this watch again and again, with
-        pauses as long as its scans."""
+        """Whether a list comes in time. If the file system is slow, the server scans for this watch again and again,
+        with pauses as long as its scans."""
         if not tree.latency.is_slow():
             return self.takes(tree, timeout)
         if not self.takes(tree, min(timeout, max(self.took, SHORTEST))):
@@ -111,8 +111,8 @@ class WqdEmitter(EventEmitter):
             self.queue_event(event)
 
     def begin_again(self, before: Tree) -> None:
-        """Takes a new picture after the server ended, or the directory was replaced, and tells what differs from the one
-        before."""
+        """Takes a new picture after the server ended, or the directory was replaced, and tells what differs from the
+        one before."""
         try:
             if not self.server.reach_again():
                 self.stopped_event.wait(SEARCH)

@@ -11,8 +11,8 @@ from .rows import Change, Row
 
 
 def events_of(changes: List[Change]) -> Iterator[FileSystemEvent]:
-    """First what went, the deepest first; then what was written; then what came, the outermost first. The changes are in
-    the order of their paths. A file in the place of a directory went and came."""
+    """First what went, the deepest first; then what was written; then what came, the outermost first. The changes are
+    in the order of their paths. A file in the place of a directory went and came."""
     for path, before, now in reversed(changes):
         if before and not is_alike(before, now):
             yield DirDeletedEvent(path) if before.is_directory else FileDeletedEvent(path)

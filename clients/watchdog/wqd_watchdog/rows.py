@@ -1,7 +1,7 @@
 """What is known of files, and which of it differs from what a tool has heard."""
 
 import os
-from typing import Dict, List, NamedTuple, Optional, Tuple
+from typing import Any, Dict, List, NamedTuple, Optional, Tuple
 
 
 class Row(NamedTuple):
@@ -14,6 +14,27 @@ class Row(NamedTuple):
 
 def row_of(found: os.stat_result) -> Row:
     return Row(found.st_mode & 0o170000 == 0o040000, found.st_size, found.st_mtime_ns // 1_000_000)
+
+
+class File(NamedTuple):
+    """A file of a list of the server."""
+
+    name: str
+    exists: bool
+    type: str
+    size: int
+    time: int
+
+
+# The fields that the server is asked for.
+FIELDS = ["exists", "mtime_ms", "name", "size", "type"]
+
+
+def file_of(value: Dict[str, Any]) -> Any:
+    """A file in place of its object as soon as that was read, since a list may have a million. Another object stays."""
+    if "mtime_ms" not in value:
+        return value
+    return File(value["name"], value["exists"], value["type"], value["size"], value["mtime_ms"])
 
 
 class Change(NamedTuple):

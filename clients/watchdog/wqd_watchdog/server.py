@@ -72,8 +72,8 @@ class Server:
         return bool(self.connections)
 
     def reach_again(self) -> bool:
-        """Whether a server is there after one that ended. If nobody else starts one, this does, unless the one before was
-        stopped on purpose."""
+        """Whether a server is there after one that ended. If nobody else starts one, this does, unless the one before
+        was stopped on purpose."""
         with self.lock:
             if self.has_connection():
                 return True

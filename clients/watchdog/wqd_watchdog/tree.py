@@ -8,11 +8,10 @@ from typing import Dict, Iterator, List, NamedTuple, Optional, Set, Tuple
 from .connection import Value
 from .latency import LOOKS, Latency
 from .roots import lies_in, real_directory
-from .rows import Changes, Row, row_of
+from .rows import FIELDS, Changes, File, Row, row_of
 from .server import Server
 from .trouble import Lost, Unserved, say
 
-FIELDS = ["name", "exists", "type", "size", "mtime_ms"]
 LINK, DIRECTORY = "l", "d"
 # At most this number of linked directories is followed below one watch.
 MOST_LINKED = 48
@@ -163,16 +162,16 @@ class Tree:
             if "error" not in found:
                 self.take_changes(branch, found)
 
-    def take_file(self, branch: Branch, file: Value) -> None:
-        name = branch.name_of(file["name"])
-        if file["exists"] and file["type"] == LINK:
+    def take_file(self, branch: Branch, file: File) -> None:
+        name = branch.name_of(file.name)
+        if file.exists and file.type == LINK:
             branch.links.add(name)
             self.look_at_link(branch, name)
             return
         if name in branch.links:
             branch.links.remove(name)
             self.drop(branch.path(name))
-        there = Row(file["type"] == DIRECTORY, file["size"], file["mtime_ms"]) if file["exists"] else None
+        there = Row(file.type == DIRECTORY, file.size, file.time) if file.exists else None
         self.set_row(branch, name, there)
 
     def set_row(self, branch: Branch, name: str, row: Optional[Row]) -> None:

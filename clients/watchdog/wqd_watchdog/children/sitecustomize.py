@@ -1,6 +1,6 @@
-"""Python reads this at the start of each process that a served tool starts, such as that of werkzeug's reloader: there this
-directory is on PYTHONPATH. It reads the sitecustomize that it hides, and replaces watchdog's observers when they are
-imported."""
+"""Python reads this at the start of each process that a served tool starts, such as that of werkzeug's reloader: there
+this directory is on PYTHONPATH. It reads the sitecustomize that it hides, and replaces watchdog's observers when they
+are imported."""
 
 import os
 import sys
