@@ -2,13 +2,12 @@
 
 import io
 import os
-import py_compile
 import subprocess
 import sys
 import tempfile
 import zipfile
 from pathlib import Path
-from typing import List, NamedTuple
+from typing import Dict, List, NamedTuple
 
 import completion
 import manual
@@ -43,6 +42,12 @@ try:
     sys.exit(main(sys.argv[1:], os.path.dirname(os.path.realpath(sys.argv[0]))))
 except KeyboardInterrupt:
     sys.exit(130)
+"""
+COMPILE = """import sys
+from py_compile import PycInvalidationMode, compile
+words = iter(sys.argv[1:])
+for module, made, shown in zip(words, words, words):
+    compile(module, made, shown, doraise=True, invalidation_mode=PycInvalidationMode.UNCHECKED_HASH)
 """
 # The modules that the command watchman and its bridge are made of.
 BRIDGE_PACKAGES = ["bridge", "wqclient"]
@@ -124,23 +129,24 @@ def archive(packages: List[str], main: str) -> bytes:
     Python compiled from it, and a Python of another version takes the module itself."""
     written = io.BytesIO(b"#!/usr/bin/env -S python3 -I\n")
     written.seek(0, io.SEEK_END)
+    modules = {f"{module.parent.name}/{module.name}": module
+               for package in packages for module in sorted((TOP / "clients" / package).glob("*.py"))}
     with zipfile.ZipFile(written, "a") as found:
-        for package in packages:
-            for module in sorted((TOP / "clients" / package).glob("*.py")):
-                path = f"{package}/{module.name}"
-                found.writestr(zipfile.ZipInfo(path), module.read_bytes())
-                found.writestr(zipfile.ZipInfo(f"{path}c"), compiled(module, path))
+        for path, data in compiled(modules).items():
+            found.writestr(zipfile.ZipInfo(path), modules[path].read_bytes())
+            found.writestr(zipfile.ZipInfo(f"{path}c"), data)
         found.writestr(zipfile.ZipInfo("__main__.py"), main)
     return written.getvalue()
 
 
-def compiled(module: Path, shown: str) -> bytes:
-    """What Python compiles from a module. Errors name it by the path that is shown."""
+def compiled(modules: Dict[str, Path]) -> Dict[str, bytes]:
+    """What Python compiles from each module. Errors name it by its key. A Python that has done nothing else does so, since
+    the bytes depend on the texts that it has read before."""
     with tempfile.TemporaryDirectory() as room:
-        made = os.path.join(room, "made")
-        mode = py_compile.PycInvalidationMode.UNCHECKED_HASH
-        py_compile.compile(str(module), made, shown, doraise=True, invalidation_mode=mode)
-        return Path(made).read_bytes()
+        made = {shown: os.path.join(room, str(number)) for number, shown in enumerate(modules)}
+        words = [word for shown, module in modules.items() for word in (str(module), made[shown], shown)]
+        subprocess.run([sys.executable, "-I", "-S", "-c", COMPILE, *words], check=True)
+        return {shown: Path(path).read_bytes() for shown, path in made.items()}
 
 
 def server_manual() -> str:

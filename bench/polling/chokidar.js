@@ -1,7 +1,8 @@
-// chokidar.js ROOT MS: watches a tree by polling, and prints `ready` and then the path of each file that changed.
+// chokidar.js ROOT MS [PACKAGE]: watches a tree by polling, and prints `ready` and then the path of each file that changed.
+// PACKAGE is one with chokidar's API in its place.
 
-const chokidar = require("chokidar");
-const [root, interval] = process.argv.slice(2);
+const [root, interval, library] = process.argv.slice(2);
+const chokidar = require(library || "chokidar");
 const settings = { usePolling: true, interval: Number(interval), ignoreInitial: true };
 const watcher = chokidar.watch(root, settings);
 watcher.on("ready", () => process.stdout.write("ready\n"));

@@ -2,6 +2,7 @@
 
 from typing import Callable, Dict, List
 
+from bridge.clocks import BAD, CURSOR
 from bridge.expressions import BARE, DEEPEST, GROUPS, TERMS, Term
 from bridge.faults import Refused
 
@@ -10,7 +11,6 @@ SCOPES = ("basename", "wholename")
 KINDS = "bcdfplsD"
 OF_CLOCKS = ("oclock", "cclock")
 OF_SECONDS = ("mtime", "ctime")
-CURSOR = "n:"
 
 
 def unparsed(words: str) -> Refused:
@@ -133,8 +133,10 @@ def check_since(_: str, words: object) -> None:
     if not 2 <= len(words) <= 3:
         raise unparsed('"since" term has invalid number of parameters')
     spec = words[1]
-    if isinstance(spec, bool) or not isinstance(spec, (str, int)):
+    if spec is None:
         raise unparsed('invalid clockspec for "since" term')
+    if isinstance(spec, bool) or not isinstance(spec, (str, int, dict)):
+        raise Refused(BAD)
     if isinstance(spec, str) and spec.startswith(CURSOR):
         raise unparsed('named cursors are not allowed in "since" terms')
     if len(words) == 2:

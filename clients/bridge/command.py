@@ -5,7 +5,8 @@ import os
 import sys
 from typing import Dict, List, NamedTuple, Optional
 
-from bridge.sockets import server_of, sockname_by_default
+from bridge.given import Given, fault_of, read_command, with_absolute_root
+from bridge.sockets import server_behind, sockname_by_default
 from bridge.version import VERSION
 from wqclient.harmless import harmless_json, harmless_lines
 from wqclient.lines import Ended, Lines
@@ -17,7 +18,7 @@ USAGE = """usage: watchman [OPTION..] COMMAND [ARGUMENT..]
   -h, --help              prints this
   -v, --version           prints the version
   -U, --sockname=PATH     where the bridge listens
-  -j, --json-command      reads one command as JSON from standard input
+  -j, --json-command      reads one command from standard input, as JSON or BSER
   -p, --persistent        stays, and prints what comes by itself
       --no-pretty         prints each reply on one line
       --output-encoding=json|bser|bser-v2
@@ -40,13 +41,7 @@ OPTIONS = {
 }
 NOT_BUILT = ("--foreground", "--inetd")
 ENCODINGS = {"json": 0, "bser": 1, "bser-v1": 1, "bser-v2": 2}
-# These are answered without a server, if none may be started.
-LOCAL = ("version", "get-sockname")
-# The first argument of these is a root.
-OF_A_ROOT = (
-    "clock", "debug-get-subscriptions", "debug-recrawl", "find", "get-config", "query", "since", "subscribe", "trigger",
-    "trigger-del", "trigger-list", "unsubscribe", "watch", "watch-del", "watch-project",
-)
+WRONG_USAGE = 64
 
 
 class Unwritten(Exception):
@@ -72,7 +67,7 @@ def main(arguments: List[str], home: str) -> None:
         sys.exit(harmless_lines(end.code) if isinstance(end.code, str) else end.code)
     except Unwritten as fault:
         if not isinstance(fault.__cause__, BrokenPipeError):
-            print(f"watchman: standard output: {fault}", file=sys.stderr)
+            print(f"watchman: standard output: {fault}", file=sys.stderr, flush=True)
         os._exit(1)  # nothing is to be written at the end either
 
 
@@ -91,9 +86,15 @@ def words_of(arguments: List[str]) -> Words:
             take_letters(words, word[1:], left)
         else:
             words.command.append(word)
-    if words.options.get("--output-encoding", "json") not in ENCODINGS:
-        sys.exit("watchman: the output encodings are json, bser and bser-v2")
+    for option in ("--server-encoding", "--output-encoding"):
+        check_encoding(words.options.get(option, "json"))
     return words
+
+
+def check_encoding(name: str) -> None:
+    if name not in ENCODINGS:
+        print(harmless_lines(f"watchman: Invalid encoding '{name}', use one of json, bser or bser-v2"), file=sys.stderr)
+        sys.exit(WRONG_USAGE)
 
 
 def take_letters(words: Words, letters: str, left: List[str]) -> None:
@@ -128,8 +129,15 @@ def run(words: Words, home: str) -> None:
     if "--version" in options:
         print(VERSION)
         return
-    command = with_absolute_root(command_of(words))
-    printer = Printer(options.get("--output-encoding", "json"), "--no-pretty" not in options)
+    given = command_of(words)
+    version = ENCODINGS[options["--output-encoding"]] if "--output-encoding" in options else given.version
+    printer = Printer(version, "--no-pretty" not in options)
+    fault = fault_of(given.command)
+    if fault is not None:
+        printer.print({"version": VERSION, "error": fault, "cli_validated": True})
+        sys.exit(1)
+    assert isinstance(given.command, list)
+    command = with_absolute_root(given.command)
     sockname = os.path.abspath(options["--sockname"]) if "--sockname" in options else sockname_by_default()
     if "--no-spawn" not in options:
         start(sockname, home)
@@ -144,36 +152,20 @@ def run(words: Words, home: str) -> None:
 
 def start(sockname: str, home: str) -> None:
     """Starts what does not run. Scripts call this command again and again, so it reads what it seldom needs only then."""
-    if not is_listened_on(sockname) or not is_listened_on(server_of(sockname)):
+    if not is_listened_on(sockname) or not is_listened_on(server_behind(sockname)):
         from bridge.starting import Start
         Start(sockname, home).start()
 
 
-def command_of(words: Words) -> object:
+def command_of(words: Words) -> Given:
     if "--json-command" in words.options:
-        try:
-            return json.loads(sys.stdin.buffer.read().decode("utf-8"))
-        except (ValueError, RecursionError) as error:
-            sys.exit(f"failed to parse command from stdin: {error}")
+        return read_command()
     if not words.command:
         sys.exit(f"watchman: there is no command\n{USAGE}")
-    return list(words.command)
+    return Given(list(words.command))
 
 
-def with_absolute_root(command: object) -> object:
-    """The command with a root that does not depend on the directory in which the user is, as Watchman's own command sends it."""
-    if not isinstance(command, list) or len(command) < 2 or command[0] not in OF_A_ROOT:
-        return command
-    root = command[1]
-    if not isinstance(root, str) or not root or os.path.isabs(root):
-        return command
-    try:
-        return [command[0], os.path.realpath(root), *command[2:]]
-    except ValueError:
-        return command  # no path: the bridge says so
-
-
-def ask(command: object, sockname: str, printer: "Printer", stays: bool) -> None:
+def ask(command: List[object], sockname: str, printer: "Printer", stays: bool) -> None:
     """Prints the reply to a command; and if it stays, what comes later too."""
     try:
         with Lines(sockname) as lines:
@@ -187,17 +179,16 @@ def ask(command: object, sockname: str, printer: "Printer", stays: bool) -> None
         sys.exit("watchman: the bridge has ended" if stays else "watchman: the command was not answered")
 
 
-def without_server(command: object, sockname: str, printer: "Printer", is_remote: bool) -> None:
-    name = command[0] if isinstance(command, list) and command else None
+def without_server(command: List[object], sockname: str, printer: "Printer", is_remote: bool) -> None:
+    """Answers what depends on no server, if none may be started."""
     if is_remote:
         fail(sockname, "nobody listens there")
-    if name == "version":
-        printer.print({"version": VERSION})
-    elif name == "get-sockname":
-        printer.print({"version": VERSION, "sockname": sockname})
-    else:
-        printer.print({"version": VERSION, "error": f"command {name} not available in this mode"})
+    from bridge.alone import answer_alone, refusal_of
+    reply = answer_alone(command, sockname)
+    if reply is None:
+        printer.print({"version": VERSION, "error": refusal_of(command)})
         sys.exit(1)
+    printer.print({"version": VERSION, **reply})
 
 
 def fail(sockname: str, reason: str) -> None:
@@ -205,10 +196,10 @@ def fail(sockname: str, reason: str) -> None:
 
 
 class Printer:
-    """Prints replies in an encoding."""
+    """Prints replies in a version of BSER, or in JSON, which is 0."""
 
-    def __init__(self, encoding: str, is_pretty: bool) -> None:
-        self.version = ENCODINGS[encoding]
+    def __init__(self, version: int, is_pretty: bool) -> None:
+        self.version = version
         self.indent = 4 if is_pretty else None
 
     def print(self, reply: Dict[str, object]) -> None:

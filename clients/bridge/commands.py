@@ -9,7 +9,7 @@ from bridge.encodings import JSON
 from bridge.faults import Refused
 from bridge.listing import Listed, Listing
 from bridge.places import resolved
-from bridge.queries import asking_of, directory_of
+from bridge.queries import asking_of, directory_of, is_plain
 from bridge.session import Reply, Session
 from bridge.settling import settle
 
@@ -60,8 +60,7 @@ def clock(session: Session, command: Command) -> Reply:
     timeout = wishes.get("sync_timeout", 0) if isinstance(wishes, dict) else None
     if isinstance(timeout, bool) or not isinstance(timeout, int):
         raise Refused("malformated argument list for 'clock'")
-    root = resolved(command[1])
-    return {**session.ask(["clock", root, {"sync_timeout": timeout}]), **session.bridge.recrawls.keys(root)}
+    return session.ask(["clock", resolved(command[1]), {"sync_timeout": timeout}])
 
 
 def query(session: Session, command: Command) -> Reply:
@@ -72,31 +71,38 @@ def listed(session: Session, root: str, wishes: object) -> Listed:
     bridge = session.bridge
     asking = asking_of(root, wishes, session.encoding == JSON, bridge.configurations.of(root).terms())
     assert isinstance(wishes, dict)
-    check_directory(root, wishes)
+    check_directory(session, root, wishes)
     settle(wishes, lambda: str(session.ask(["clock", root, {"sync_timeout": 1}])["clock"]))
     found = session.ask_for_list(["query", root, asking.query], asking.lister)
     found.more.update(bridge.recrawls.keys(root))
     return found
 
 
-def check_directory(root: str, wishes: Dict[str, object]) -> None:
-    """Watchman looks for the directory of a query with globs, and only of one."""
-    directory = os.path.join(root, directory_of(wishes))
-    if "glob" in wishes and "relative_root" in wishes and not os.path.isdir(directory):
-        raise Refused(f"query failed: glob_generator could not resolve {directory}, check your relative_root parameter!")
+def check_directory(session: Session, root: str, wishes: Dict[str, object]) -> None:
+    """Watchman looks for the directory of a query with globs, and only of one. It may be gone, but was there once."""
+    below = directory_of(wishes)
+    if "glob" not in wishes or not below or is_plain(below) and os.path.isdir(os.path.join(root, below)):
+        return
+    expression = ["allof", ["type", "d"], ["name", below, "wholename"]]
+    query = {"since": 0, "expression": expression, "fields": ["name"], "sync_timeout": 0}
+    if not session.ask(["query", root, query])["files"]:
+        words = f"glob_generator could not resolve {root}/{below}, check your relative_root parameter!"
+        raise Refused(f"query failed: {words}")
 
 
 def find(session: Session, command: Command) -> Reply:
-    reply = listed(session, resolved(command[1]), old_forms.query_of(command[2:]))
+    """A list without two keys that the one of `query` has."""
+    reply = listed(session, resolved(command[1]), old_forms.query_of(command, 2))
     assert isinstance(reply, Listing)
     del reply.value["is_fresh_instance"]
+    reply.more.pop("warning", None)
     return reply
 
 
 def since(session: Session, command: Command) -> Reply:
     if not isinstance(command[2], str):
         raise Refused("expected argument 2 to be a valid clockspec")
-    return listed(session, resolved(command[1]), old_forms.query_of(command[3:], command[2]))
+    return listed(session, resolved(command[1]), old_forms.query_of(command, 3, command[2]))
 
 
 def shutdown_server(session: Session, _: Command) -> Reply:
@@ -113,7 +119,7 @@ def passed(session: Session, command: Command) -> Reply:
 MANY = 1_000_000
 # The words with which Watchman refuses a wrong number of arguments.
 FOR, TO = "wrong number of arguments for '{}'", "wrong number of arguments to '{}'"
-BARE, FEW, FEW_BARE = "wrong number of arguments", "not enough arguments for '{}'", "not enough arguments"
+BARE, FEW = "wrong number of arguments", "not enough arguments for '{}'"
 Handler = Callable[[Session, Command], Reply]
 
 
@@ -148,7 +154,7 @@ COMMANDS: Dict[str, Known] = {
     "state-enter": Known(notifying.state_enter, 1, MANY, BARE),
     "state-leave": Known(notifying.state_leave, 1, MANY, BARE),
     "subscribe": Known(subscribing.subscribe, 3, 3, "wrong number of arguments for subscribe"),
-    "trigger": Known(triggering.trigger, 2, MANY, FEW_BARE),
+    "trigger": Known(triggering.trigger, 1, MANY, BARE),
     "trigger-del": Known(triggering.trigger_del, 2, 2, BARE),
     "trigger-list": Known(triggering.trigger_list, 1, MANY, BARE),
     "unsubscribe": Known(subscribing.unsubscribe, 1, MANY, BARE),

@@ -2,6 +2,7 @@
 
 from typing import Callable, Dict, List, NamedTuple
 
+from bridge.clocks import said_clock, second_of
 from bridge.faults import Refused
 
 Term = object
@@ -60,10 +61,21 @@ def said_at(term: Term, place: Place, depth: int = 0) -> Term:
         return name  # Watchman takes words after it, which say nothing
     if name in OF_ONE_WORD:
         return [name, *rest[:1]]
+    if name == "since" and rest:
+        return said_since(rest)
     if not rest or name not in SAID:
         return term
     head = name if place.has_case else WITHOUT_CASE.get(name, name)
     return [head, *SAID[name](rest, place)]
+
+
+def said_since(rest: List[object]) -> Term:
+    """Of a second the term tells what changed in it too, and the server's term only what changed after it. No file is
+    older than the second 0."""
+    second = second_of(rest[0])
+    if second is None:
+        return ["since", said_clock(rest[0]), *rest[1:]]
+    return ["since", second - 1, *rest[1:]] if second > 0 else "true"
 
 
 def said_name(rest: List[object], place: Place) -> List[object]:

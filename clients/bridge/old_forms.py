@@ -16,20 +16,21 @@ END = "--"
 class Rules:
     """Patterns on a line: those that files have to fit, and after -X those that they may not fit."""
 
-    def __init__(self, words: List[object]) -> None:
+    def __init__(self, command: List[object], start: int) -> None:
         self.included: List[object] = []
         self.excluded: List[object] = []
-        # How many of the words belong to the rules; the two dashes at their end count.
-        self.length = len(words)
-        self.read(words)
-
-    def read(self, words: List[object]) -> None:
-        group, is_negated = self.included, False
-        for place, word in enumerate(words):
+        # Where the words after the rules begin: the two dashes at the end of the rules belong to these.
+        self.end = len(command)
+        for place, word in enumerate(command[start:], start):
             if not isinstance(word, str):
-                raise Refused(f"rule @ position {place} is not a string value")
+                raise Refused(f"failed to parse query: rule @ position {place} is not a string value")
+        self.read([str(word) for word in command[start:]], start)
+
+    def read(self, words: List[str], start: int) -> None:
+        group, is_negated = self.included, False
+        for place, word in enumerate(words, start):
             if word == END:
-                self.length = place + 1
+                self.end = place + 1
                 return
             if word in REGULAR_EXPRESSIONS:
                 raise Refused("failed to parse query: unknown expression term 'pcre'")
@@ -53,10 +54,10 @@ class Rules:
         return None
 
 
-def query_of(words: List[object], since: Optional[object] = None) -> Dict[str, object]:
-    """The query of `find` and `since` with these patterns."""
+def query_of(command: List[object], start: int, since: Optional[object] = None) -> Dict[str, object]:
+    """The query of `find` and `since`, whose patterns start at a place of the command."""
     query: Dict[str, object] = {"fields": FIELDS}
-    expression = Rules(words).expression()
+    expression = Rules(command, start).expression()
     if expression is not None:
         query["expression"] = expression
     if since is not None:
@@ -64,16 +65,13 @@ def query_of(words: List[object], since: Optional[object] = None) -> Dict[str, o
     return query
 
 
-def trigger_of(words: List[object]) -> Dict[str, object]:
-    """The object of a trigger: its name, patterns, two dashes and the command."""
-    rules = Rules(words[1:])
-    command = words[1 + rules.length:]
-    if not command:
+def trigger_of(command: List[object]) -> Dict[str, object]:
+    """The object of a trigger: its name, patterns, two dashes and the words that it runs."""
+    rules = Rules(command, 3)
+    words = command[rules.end:]
+    if not words:
         raise Refused("no command was specified")
-    for place, word in enumerate(command):
-        if not isinstance(word, str):
-            raise Refused(f"expected argument {place} to be a string")
-    trigger: Dict[str, object] = {"name": words[0], "command": command, "append_files": True, "stdin": INPUT}
+    trigger: Dict[str, object] = {"name": command[2], "command": words, "append_files": True, "stdin": INPUT}
     expression = rules.expression()
     if expression is not None:
         trigger["expression"] = expression

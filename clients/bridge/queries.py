@@ -3,6 +3,7 @@
 from typing import Dict, List, NamedTuple, Sequence
 
 from bridge.checking import check_term, unparsed
+from bridge.clocks import said_clock
 from bridge.expressions import Place, Term, all_of, any_of, below, of_globs, said_at
 from bridge.fields import BY_DEFAULT, Lister, fields_of
 
@@ -40,6 +41,8 @@ def asking_of(
     asked["fields"] = fields.asked
     if asked.get("suffix") == []:
         del asked["suffix"]  # in Watchman an empty list is no generator
+    if "since" in asked:
+        asked["since"] = said_clock(asked["since"])
     if "path" in asked:
         take_paths(asked, place)
     terms = [*below(place), *terms_of_globs(query, asked, place), *terms_of_expression(query, place)]
@@ -50,7 +53,7 @@ def asking_of(
     if terms:
         asked["expression"] = all_of(terms)
     if place.directory and not any(key in asked for key in ("since", *GENERATORS)) and "glob" not in query:
-        asked["path"] = [place.directory]
+        asked["path"] = [place.directory] if is_plain(place.directory) else []
     return Asking(asked, Lister(fields, root, place.directory))
 
 
@@ -66,13 +69,16 @@ def asking_of_subscription(root: str, query: object, left_out: Sequence[Term] = 
 
 
 def directory_of(query: Query) -> str:
+    """The `relative_root` of a query, without slashes at its end."""
     value = query.get("relative_root", "")
     if not isinstance(value, str):
         raise unparsed("'relative_root' must be a string")
-    directory = value.rstrip("/")
-    if directory.startswith("/") or any(step in NO_STEPS for step in directory.split("/") if directory):
-        raise unparsed(f"relative_root '{value}' is no path below the root")
-    return directory
+    return value.rstrip("/")
+
+
+def is_plain(path: str) -> bool:
+    """Whether a path below a root can lead to a file. As in Watchman, `.` and `..` in it lead nowhere."""
+    return not any(step in NO_STEPS for step in path.split("/"))
 
 
 def check_values(query: Query) -> None:
@@ -85,6 +91,8 @@ def check_values(query: Query) -> None:
         if isinstance(time, bool) or not isinstance(time, int) or time < 0:
             raise unparsed(f"{key} must be an integer value >= 0")
     directory_of(query)
+    if query.get("since", "") is None:
+        raise unparsed("invalid value for 'since'")
     for key in ("path", "glob"):
         if not isinstance(query.get(key, []), list):
             raise unparsed(f"'{key}' must be an array")
@@ -120,7 +128,7 @@ def take_paths(asked: Query, place: Place) -> None:
 
 def leads_somewhere(entry: object) -> bool:
     path = str(entry["path"] if isinstance(entry, dict) else entry).rstrip("/")
-    return not path or not any(step in NO_STEPS for step in path.split("/"))
+    return not path or is_plain(path)
 
 
 def path_at(entry: object, place: Place) -> object:

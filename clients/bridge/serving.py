@@ -20,11 +20,10 @@ from bridge.held import MOST_CLIENTS, Held
 from bridge.keeper import Keeper
 from bridge.notices import Mailboxes
 from bridge.recrawls import Recrawls
-from bridge.running import Running
+from bridge.running import Running, opened_lock
 from bridge.session import Session
 from bridge.states import States
 from bridge.symlinks import Follower
-from wqclient.files import opened_as_own
 from wqclient.harmless import harmless
 from wqclient.lines import SUPERUSER, peer_of
 from wqclient.sockets import is_listened_on
@@ -83,7 +82,7 @@ class Serving:
         for number in (signal.SIGTERM, signal.SIGINT, signal.SIGHUP):
             signal.signal(number, lambda *_: self.end())
         lock = locked(self.sockname)
-        self.running = Running(lock)
+        self.running = Running(lock, self.server)
         listener = listening(self.sockname)
         own = os.stat(self.sockname)
         say(f"listening on {self.sockname}")
@@ -135,7 +134,7 @@ class Serving:
 
 def locked(sockname: str) -> IO[str]:
     """The lock of the socket, which is held as long as the bridge runs, so that no other takes its name."""
-    file = open(f"{sockname}.lock", "w", opener=opened_as_own)
+    file = opened_lock(sockname, "w")
     try:
         fcntl.flock(file, fcntl.LOCK_EX | fcntl.LOCK_NB)
     except BlockingIOError:

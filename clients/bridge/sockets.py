@@ -3,6 +3,7 @@
 import os
 import sys
 
+from bridge.running import asked_server
 from wqclient.sockets import is_own_directory, own_room
 
 ROOM = "wqd-watchman-{}"
@@ -25,3 +26,8 @@ def server_of(sockname: str) -> str:
     """The socket of the server for a bridge: beside it, unless the variable WQD_SOCK names a server that runs."""
     given = os.environ.get("WQD_SOCK")
     return os.path.abspath(given) if given else f"{sockname}.wqd"
+
+
+def server_behind(sockname: str) -> str:
+    """The socket of the server that a bridge asks, which listens at this socket."""
+    return asked_server(sockname) or server_of(sockname)

@@ -6,7 +6,7 @@ import subprocess
 import sys
 from typing import Dict
 
-from bridge.sockets import server_of
+from bridge.sockets import server_behind, server_of
 from wqclient.sockets import is_listened_on
 from wqclient.starting import Unstarted, alone, begin, serve_words
 
@@ -19,23 +19,29 @@ class Start:
     def __init__(self, sockname: str, home: str) -> None:
         self.sockname = sockname
         self.home = home
-        self.given = os.environ.get("WQD_SOCK")
         self.server = server_of(sockname)
 
     def start(self) -> None:
+        """A bridge that runs already says which server it asks. That may be one that was started without this
+        command."""
         try:
             with alone(self.sockname):
-                if not is_listened_on(self.server):
-                    self.start_server()
-                if not is_listened_on(self.sockname):
+                has_bridge = is_listened_on(self.sockname)
+                asked = server_behind(self.sockname) if has_bridge else self.server
+                if not is_listened_on(asked):
+                    self.start_server(asked)
+                if not has_bridge:
                     words = [sys.executable, "-I", "-B", BRIDGE, "--server", self.server, "--sockname", self.sockname]
                     begin(words, self.sockname, self.environment())
         except Unstarted as reason:
             sys.exit(f"watchman: {reason}")
 
-    def start_server(self) -> None:
-        if self.given:
-            sys.exit(f"watchman: nobody listens on {self.given}, which the variable WQD_SOCK names")
+    def start_server(self, asked: str) -> None:
+        """Starts a server at the socket that is the command's own. Whoever named another one has to start it."""
+        if asked != self.server:
+            sys.exit(f"watchman: nobody listens on {asked}, which the bridge at {self.sockname} asks")
+        if os.environ.get("WQD_SOCK"):
+            sys.exit(f"watchman: nobody listens on {asked}, which the variable WQD_SOCK names")
         values = {"--share": os.environ.get("WQD_SHARE"), "--interval": os.environ.get("WQD_INTERVAL")}
         given = [word for option, value in values.items() if value for word in (option, value)]
         begin([self.program(), *serve_words(self.server, given)], self.server, self.environment())

@@ -2,6 +2,7 @@
 
 from typing import Dict, List
 
+from bridge.clocks import CURSOR
 from bridge.faults import Refused
 from bridge.places import resolved, resolved_if_there
 from bridge.queries import Asking, asking_of_subscription
@@ -10,7 +11,6 @@ from bridge.subscriptions import DROP, Policy, Subscription
 from bridge.watching import watch_if_needed
 
 Command = List[object]
-CURSOR = "n:"
 
 
 def name_in(command: Command) -> str:

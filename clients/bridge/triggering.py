@@ -13,7 +13,9 @@ Command = List[object]
 
 def trigger(session: Session, command: Command) -> Reply:
     root = resolved(command[1])
-    given = definition_of(command[2:])
+    if len(command) < 3:
+        raise Refused("not enough arguments")
+    given = definition_of(command)
     found = registered(given, session.bridge.sockname, session.bridge.configurations.of(root).terms())
     watch_if_needed(session, root)
     if given in listed(session, root):

@@ -21,13 +21,13 @@ LONGEST = 120_000
 STYLES = ("/dev/null", "NAME_PER_LINE")
 
 
-def definition_of(words: List[object]) -> Definition:
+def definition_of(command: List[object]) -> Definition:
     """The trigger that a command has, as an object or in the old form."""
-    given = old_forms.trigger_of(words) if isinstance(words[0], str) else words[0]
+    given = old_forms.trigger_of(command) if isinstance(command[2], str) else command[2]
     if not isinstance(given, dict) or not isinstance(given.get("name"), str):
         raise Refused("invalid or missing name")
-    command = given.get("command")
-    if not isinstance(command, list) or not command or not all(isinstance(word, str) for word in command):
+    words = given.get("command")
+    if not isinstance(words, list) or not words or not all(isinstance(word, str) for word in words):
         raise Refused("invalid command array")
     check_input(given)
     for key in ("stdout", "stderr"):

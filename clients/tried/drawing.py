@@ -40,6 +40,12 @@ class Tree:
             else:
                 self.put(path)
 
+    def second(self) -> int:
+        """The second in which a file of the tree changed, or one beside it."""
+        files = [path for path in self.root.rglob("*") if path.is_symlink() or path.is_file()]
+        changed = int(self.draw.choice(sorted(files)).lstat().st_mtime) if files else 0
+        return changed + self.draw.choice([-1, 0, 0, 1])
+
     def put(self, path: Path) -> None:
         """A file, or now and then a link, comes whole to its place."""
         if self.draw.random() < 0.1:
@@ -52,8 +58,9 @@ class Tree:
 class Queries:
     """Draws queries whose answers are the same by the rules of both servers."""
 
-    def __init__(self, draw: random.Random) -> None:
+    def __init__(self, draw: random.Random, tree: Tree) -> None:
         self.draw = draw
+        self.tree = tree
 
     def query(self) -> Dict[str, object]:
         draw = self.draw
@@ -95,7 +102,9 @@ class Queries:
             [f"{i}name", draw.choice([name, whole, [name, whole, "main.c"]]), *scope],
             [f"{i}match", *self.pattern(scope)],
             [f"{i}dirname", draw.choice(["src", "src/deep", "SRC", "", "none"]), *draw.choice([[], [["depth", "ge", 1]]])],
-            ["since", draw.choice([0, 1_000_000_000, 4_000_000_000]), "mtime"],
+            ["since", draw.choice([0, -1, 1_000_000_000, 4_000_000_000]), "mtime"],
+            # Watchman has the times of directories as they were when a file last came.
+            ["allof", ["not", ["type", "d"]], ["since", self.tree.second(), "mtime"]],
         ])
 
     def pattern(self, scope: List[str]) -> List[object]:

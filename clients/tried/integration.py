@@ -9,6 +9,7 @@ JSON object with the outcome of each test. PART runs the modules alone that have
 import importlib
 import json
 import os
+import shutil
 import signal
 import subprocess
 import sys
@@ -24,8 +25,10 @@ sys.path.append("/usr/lib/python3/dist-packages")
 CLIENTS = Path(__file__).resolve().parent.parent
 # A test that takes longer has failed, in seconds.
 PATIENCE = 60
+# These are of no encoding, and left out without PHP.
+IN_PHP = "test_php"
 # These need other programs, another file system or a user's terminal.
-LEFT_OUT = ("test_eden", "test_php", "test_nodejs", "test_cppclient", "test_scm", "test_site_spawn", "test_age")
+LEFT_OUT = ("test_eden", "test_nodejs", "test_cppclient", "test_scm", "test_site_spawn", "test_age")
 INTERVAL = "50"
 Found = Dict[str, List[str]]
 
@@ -37,9 +40,9 @@ def main(source: str, kind: str, results: str, part: str = "") -> None:
     os.environ["WATCHMAN_EMPTY_ENV_VAR"] = ""
     import TempDir
     import WatchmanInstance
-    TempDir.get_temp_dir(False)
+    room = TempDir.get_temp_dir(False).get_dir()
     if kind == "bridge":
-        put_command_on_path()
+        put_command_on_path(room)
         WatchmanInstance._Instance.start = start
         WatchmanInstance._Instance.stop = stop
     shared = WatchmanInstance.Instance({"watcher": "auto"})
@@ -52,12 +55,13 @@ def main(source: str, kind: str, results: str, part: str = "") -> None:
             run_module(name, found)
     Path(results).write_text(json.dumps(found, indent=1))
     shared.stop()
+    shutil.rmtree(room, ignore_errors=True)
     os._exit(0)  # threads of the tests may go on
 
 
-def put_command_on_path() -> None:
+def put_command_on_path(room: str) -> None:
     """The command of the tests over the command line is that of the repository."""
-    front = tempfile.mkdtemp()
+    front = tempfile.mkdtemp(dir=room)
     os.symlink(CLIENTS / "watchman", os.path.join(front, "watchman"))
     os.environ["PATH"] = front + os.pathsep + os.environ["PATH"]
 
@@ -102,8 +106,9 @@ def run_module(name: str, found: Found) -> None:
         return
     for case in unittest.defaultTestLoader.loadTestsFromModule(module):
         for test in case:
-            if hasattr(test, "setConfiguration"):
-                key = f"{name}.{type(test).__name__}.{test._testMethodName}"
+            if hasattr(test, "setConfiguration") or name == IN_PHP:
+                method = type(test).__name__ if name == IN_PHP else test._testMethodName
+                key = f"{name}.{type(test).__name__}.{method}"
                 found[key] = outcome_of(test)
                 print(found[key][0], key, flush=True)
 

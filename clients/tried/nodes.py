@@ -3,7 +3,7 @@
 import re
 
 from tried.gits import commit, git
-from tried.room import HERE, Outcome, Room, Running, outcome
+from tried.room import HERE, Outcome, Room, Running, outcome, unreaped
 
 COLOURS = re.compile(r"\x1b\[[0-9;]*[A-Za-z]")
 # How often a change is made until sane tells it.
@@ -30,7 +30,13 @@ def try_sane(room: Room) -> Outcome:
 
 
 def try_sane_restarts(room: Room) -> Outcome:
-    """Changes before and after the server ends, the server is killed, and the bridge is killed."""
+    """Changes before and after the server ends, the server is killed, and the bridge is killed, both as if nobody
+    looked at processes that have ended."""
+    with unreaped():
+        return ends_under_sane(room)
+
+
+def ends_under_sane(room: Room) -> Outcome:
     (room.project / ".git").mkdir()
     room.put("a.js")
     sane = room.begin(["node", str(HERE / "with_sane_restarts.js"), str(room.project)], "sane")
@@ -41,8 +47,8 @@ def try_sane_restarts(room: Room) -> Outcome:
             found.append(is_told(room, sane, f"b{number}.js"))
     finally:
         sane.end()
-    return outcome("a new file before the server ends, after it, after it was killed, and after the bridge was killed", found,
-                   [True] * 5)
+    return outcome("a new file before the server ends, after it, after it was killed, and after the bridge was killed, "
+                   "though no first process reaps", found, [True] * 5)
 
 
 def is_told(room: Room, sane: Running, name: str) -> bool:

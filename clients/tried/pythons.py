@@ -4,7 +4,8 @@ import json
 import time
 
 from tried.packages import PYTHON
-from tried.room import Outcome, Room, outcome
+from tried.room import Outcome, Room, outcome, unreaped
+from wqclient.lines import Lines
 
 OWN = "/usr/bin/watchman"
 # How long nothing may happen, so that it counts as not happening.
@@ -32,6 +33,24 @@ def try_own_command(room: Room) -> Outcome:
     ]
     expected = [root, [root], ["a.c", "d/b.c"], ["a.c"], ["d/b.c"], "4.9.0", "4.9.0", "unknown command frob", True]
     return outcome("watch, query, find, since; BSER 1, BSER 2 and JSON", found, expected)
+
+
+def try_killed_server(room: Room) -> Outcome:
+    """The command names no bridge of a dead server, also while that server is still in the system's table."""
+    def answers() -> list:
+        """The socket is asked as clients do: by the command, and then by itself."""
+        words = json.loads(room.run(["watchman", "--output-encoding=json", "--no-pretty", "get-sockname"]).stdout)
+        with Lines(words["sockname"]) as lines:
+            lines.send_bytes(b'["watch-list"]\n')
+            return json.loads(lines.line()).get("roots")
+
+    with unreaped():
+        found = [answers()]
+        for kill in (room.kill_server, room.kill_bridge):
+            kill()
+            found.append(answers())
+    return outcome("get-sockname and a question after the server or the bridge was killed, though no first process "
+                   "reaps", found, [[], [], []])
 
 
 def try_pywatchman(room: Room) -> Outcome:

@@ -1,5 +1,7 @@
 """A directory for one client: a project, a PATH on which `watchman` is that of wqd, and a server of its own."""
 
+import contextlib
+import ctypes
 import json
 import os
 import signal
@@ -7,7 +9,7 @@ import subprocess
 import sys
 import time
 from pathlib import Path
-from typing import Callable, Dict, List, NamedTuple, Optional
+from typing import Callable, Dict, Iterator, List, NamedTuple, Optional
 
 from tried.packages import PYTHON, Packages
 
@@ -18,6 +20,8 @@ PATIENCE = 60.0
 PAUSE = 0.05
 # A place of a session that is over may still be taken.
 ATTEMPTS = 100
+# By linux/prctl.h.
+SET_CHILD_SUBREAPER = 36
 
 
 class Outcome(NamedTuple):
@@ -109,11 +113,11 @@ class Room:
         self.run(["watchman", "--no-spawn", "shutdown-server"])
 
     def kill_server(self) -> None:
-        os.kill(int(str(self.watchman("get-pid")["pid"])), signal.SIGKILL)
+        kill(int(str(self.watchman("get-pid")["pid"])))
 
     def kill_bridge(self) -> None:
         """The number of the bridge is the first word of its lock."""
-        os.kill(int(Path(f"{self.sockname()}.lock").read_text().split()[0]), signal.SIGKILL)
+        kill(int(Path(f"{self.sockname()}.lock").read_text().split()[0]))
 
     def sockname(self) -> str:
         return str(self.watchman("get-sockname")["sockname"])
@@ -129,6 +133,31 @@ class Room:
         aside.write_text(text)
         aside.rename(path)
         return path
+
+
+def kill(process: int) -> None:
+    """Kills a process, and waits until it has ended; it may stay in the system's table after that."""
+    os.kill(process, signal.SIGKILL)
+    end = time.monotonic() + PATIENCE
+    while time.monotonic() < end:
+        try:
+            if ") Z " in Path(f"/proc/{process}/stat").read_text():
+                return
+        except OSError:
+            return
+        time.sleep(PAUSE / 10)
+
+
+@contextlib.contextmanager
+def unreaped() -> Iterator[None]:
+    """Processes that clients leave behind come to this one meanwhile, which does not look at them: those that end stay in
+    the system's table, as in a container whose first process does not look either."""
+    system = ctypes.CDLL(None)
+    system.prctl(SET_CHILD_SUBREAPER, 1)
+    try:
+        yield
+    finally:
+        system.prctl(SET_CHILD_SUBREAPER, 0)
 
 
 def outcome(done: str, found: object, expected: object) -> Outcome:

@@ -1,6 +1,7 @@
 """Words of Watchman that the bridge keeps: each is said to both, and the answers are compared."""
 
 import json
+import os
 import re
 import shutil
 import time
@@ -16,13 +17,17 @@ QUIET = 0.7
 OWN = ("version", "wqd", "watcher", "capabilities", "clock", "since")
 ROOT = "ROOT"
 
+# Directories change by other rules.
+FILES = {"expression": ["not", ["type", "d"]]}
 # Expressions that are refused, or that Watchman takes with more words than they need.
 TERMS: List[object] = [
     ["allof"], ["anyof"], ["not"], ["not", "exists", "exists"], "not", "allof", "foo", ["foo"], 7, [], {}, None, [7], ["name", 7],
     ["name", "a", "x"], ["name", "a", "wholename", "z"], ["iname", ["a", 7]], "name", ["match", 7], ["match", "a", "foo"],
     ["imatch"], ["match", "*", "basename", {"frob": 1}], ["match", "*", "basename", {"includedotfiles": 3}], ["size", "xx", 1],
     ["size", "eq", "a"], ["size"], "size", ["since", "x"], ["since", "n:a"], ["since", 1, "foo"], ["since", "c:1:1", "mtime"],
-    ["since"], "since", ["type", "x"], ["type"], ["type", "ff"], "type", ["type", "f", "more"], ["suffix"], ["suffix", "c", "d"],
+    ["since"], "since", ["since", 0], ["since", -5], ["since", {}], ["since", {"clock": "c:1:1"}], ["since", None],
+    ["since", {"clock": "x"}], ["since", {}, "mtime"], ["since", True], ["type", "x"], ["type"], ["type", "ff"], "type",
+    ["type", "f", "more"], ["suffix"], ["suffix", "c", "d"],
     ["dirname"], ["dirname", "d", ["depth", "ge"]], ["dirname", "d", ["foo", "ge", 1]], ["dirname", 7], ["dirname", "d", 7],
     ["dirname", "d", ["depth", "ge", 1], 8], ["exists", "x"], ["true", "x"], ["not", ["frob"]],
 ]
@@ -32,7 +37,11 @@ QUERIES: List[object] = [
     {"glob": []}, {"glob": 7}, {"glob": [7]}, {"glob": ["x"], "relative_root": "none"}, {"glob": ["*.c"], "glob_noescape": True},
     {"glob": ["x"], "glob_includedotfiles": 7}, {"sync_timeout": -1}, {"sync_timeout": "a"}, {"dedup_results": 7},
     {"empty_on_fresh_instance": 7}, {"case_sensitive": 7}, {"relative_root": 7}, {"lock_timeout": "x"}, {"fields": 7},
-    {"fields": [7]}, {"fields": ["frob"]}, {"fields": []}, {"since": "x"}, 7, [], None, {"expression": ["name", "a" * 100_000]},
+    {"fields": [7]}, {"fields": ["frob"]}, {"fields": []}, {"since": "x"}, {"since": "n:"}, {"since": 0, **FILES},
+    {"since": -5, **FILES}, {"since": {}}, {"since": {"clock": "c:1:1"}}, {"since": {"clock": "n:a"}}, {"since": None},
+    {"relative_root": "."}, {"relative_root": "d/.."}, {"relative_root": "/d"}, {"relative_root": "d//"},
+    {"relative_root": ".", "path": ["."]}, {"relative_root": "./d", "glob": ["*"]},
+    {"relative_root": "d", "glob": ["*"]}, 7, [], None, {"expression": ["name", "a" * 100_000]},
 ]
 NAMED = {"name": "x", "command": ["true"]}
 COMMANDS: List[List[object]] = [
@@ -41,6 +50,7 @@ COMMANDS: List[List[object]] = [
     ["query", ROOT], ["find"], ["since"], ["since", ROOT], ["since", ROOT, "x"], ["since", ROOT, 7], ["subscribe", ROOT],
     ["subscribe", ROOT, 7, {}], ["subscribe", ROOT, "a", 7], ["subscribe", ROOT, "a", {"defer": 7}],
     ["subscribe", ROOT, "a", {"drop": 7}], ["unsubscribe", ROOT], ["unsubscribe", ROOT, 7], ["unsubscribe", ROOT, "nope"],
+    ["trigger"], ["trigger", ROOT, "t", "*.c", "--", 123], ["find", ROOT, "*", 7],
     ["trigger", ROOT], ["trigger", ROOT, "t"], ["trigger", ROOT, {}], ["trigger", ROOT, {"name": "x"}],
     *(["trigger", ROOT, {**NAMED, **keys}] for keys in (
         {"stdin": 7}, {"stdin": "foo"}, {"stdout": "foo"}, {"stderr": "foo"}, {"max_files_stdin": -1}, {"expression": ["frob"]})),
@@ -198,7 +208,24 @@ def subscription_from_a_cursor(peer: Peer, root: Path) -> object:
 def recrawl(peer: Peer, root: Path) -> object:
     found = [plain(peer.ask("debug-recrawl", str(root)), str(root))]
     warning = str(peer.ask("query", str(root), {"fields": ["name"]}).get("warning"))
-    return [*found, warning.replace(str(root), ROOT)]
+    commands = (["clock", ROOT], ["find", ROOT], ["since", ROOT, "c:0:0"], ["watch", ROOT], ["watch-project", ROOT])
+    warned = [command[0] for command in commands if "warning" in peer.ask(*at_root(list(command), root))]
+    return [*found, warning.replace(str(root), ROOT), warned]
+
+
+def globs_below_what_has_gone(peer: Peer, root: Path) -> object:
+    shutil.rmtree(root / "d")
+    return [answer_to_query({"glob": ["*"], "relative_root": name})(peer, root) for name in ("d", "d/e", "none")]
+
+
+def seconds(peer: Peer, root: Path) -> object:
+    """The files of a second, of that before it, and of that after it, by the term."""
+    second = 1_700_000_000
+    for number, name in enumerate(("a.c", "d/b.c", "d/x.h"), second - 1):
+        os.utime(root / name, (number, number))
+    peer.ask("clock", str(root), {"sync_timeout": 60_000})
+    terms = [["since", number, "mtime"] for number in range(second - 2, second + 3)]
+    return [answer_to_query({"expression": ["allof", ["type", "f"], term]})(peer, root) for term in terms]
 
 
 def left_out(peer: Peer, root: Path) -> object:
@@ -243,7 +270,7 @@ WORDS = [
     *(Word(f"the command {json.dumps(command)}", answer_to(command)) for command in COMMANDS),
     *(Word(answer.__name__.replace("_", " "), answer) for answer in (
         deferring, dropping, flushing, source_control, generators_of_subscriptions, subscription_from_a_cursor, recrawl, left_out,
-        triggers, root_that_goes)),
+        globs_below_what_has_gone, seconds, triggers, root_that_goes)),
 ]
 
 

@@ -4,9 +4,10 @@ import argparse
 import time
 from typing import Any, Dict, Iterator, List
 
+from wqclient.root_notes import KEPT, MOMENT
+
 from .home import Home
 from .places import Places, directories_and_globs
-from .root_notes import KEPT, MOMENT
 from .server import Value, reached
 from .stored import query_of, require_no_other
 from .terminal import OF_KINDS, name_shown, show

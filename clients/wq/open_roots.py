@@ -1,8 +1,8 @@
 """The roots that a window has open: which others have them open too, and which are given back at its end."""
 
+from functools import partial
 from typing import IO, Dict, List, Optional
 
-from .root_notes import WINDOW
 from .server import MOST_AT_END, Server
 
 
@@ -19,13 +19,6 @@ class OpenRoots:
             if lock is None:
                 continue
             lock.close()
-            if server and server.notes.purpose(root) == WINDOW and not server.notes.has_window(root):
-                give_back(server, root)
+            if server:
+                server.notes.give_back(root, partial(server.ask_within, MOST_AT_END))
         self.locks = {}
-
-
-def give_back(server: Server, root: str) -> None:
-    """A trigger was registered by somebody who needs the root for longer."""
-    if server.ask_within(MOST_AT_END, "trigger-list", root).get("triggers") == []:
-        server.ask_within(MOST_AT_END, "watch-del", root)
-        server.notes.forget(root)

@@ -5,11 +5,12 @@ import os
 import sys
 from typing import Any, Callable, Dict, List, Optional, Set, Tuple
 
+from wqclient.root_notes import MOMENT, STAYS, WINDOW
+
 from .braces import all_expanded, has_braces
 from .globs import any_of, expression_of, glob_term, is_left_out
 from .ignored import Ignored, name_of
 from .open_roots import OpenRoots
-from .root_notes import MOMENT, STAYS, WINDOW
 from .roots import Place, front_of, is_directory, is_pattern, place_of, real_path, require_utf8
 from .server import Server, Value
 from .trouble import WrongWords

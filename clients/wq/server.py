@@ -8,11 +8,11 @@ from typing import Any, Dict, Iterator, List, Optional
 
 from wqclient.client import Client, json_of
 from wqclient.lines import Ended
+from wqclient.root_notes import MOMENT, STAYS, Notes
 from wqclient.sockets import default_sockname
 
 from . import unproved
 from .home import Home
-from .root_notes import MOMENT, STAYS, Notes
 from .terminal import Progress, say
 from .trouble import NOTHING, Trouble
 
@@ -172,12 +172,10 @@ class Server:
 
     def drops_one(self) -> bool:
         """Whether a root could be dropped: the one that was least lately asked of those that need not stay."""
-        for root in self.notes.droppable(self.roots()):
-            if self.look("trigger-list", root).get("triggers") == []:
-                self.unwatch(root)
-                say(f"{root} was asked about least lately, and is watched no longer: 16 roots may be", "yellow")
-                return True
-        return False
+        root = self.notes.drop_one(self.roots(), self.look)
+        if root is not None:
+            say(f"{root} was asked about least lately, and is watched no longer: 16 roots may be", "yellow")
+        return root is not None
 
     def give_back(self, root: str, is_hurried: bool = False) -> None:
         """Ends the watch of a root that was watched for a moment, unless another command needs it meanwhile."""

@@ -8,6 +8,7 @@ from typing import Callable, Dict, List, Optional, Sequence
 
 from wqclient.kept import STOPS, kept, log_of, run_of
 from wqclient.lines import Ended
+from wqclient.root_notes import WINDOW
 from wqclient.sockets import is_listened_on
 
 from .changes import FIELDS, File
@@ -16,7 +17,6 @@ from .ignored import is_wanted
 from .pace import seconds_between_scans, seconds_shown
 from .places import Places
 from .processes import is_of_unit, own_processor_seconds, words_of
-from .root_notes import WINDOW
 from .server import Server, Value, Went
 from .shadow import GITIGNORE, IGNORE
 from .silence import is_stopped, server_words, way_out

@@ -146,6 +146,9 @@ def check_recrawls(tally: built.Tally, room: Path) -> None:
             for fields in (["name"], ["name", "mode"]):
                 warning = client.ask("query", str(path), {"fields": fields}).get("warning", "")
                 same(tally, f"the warning of {path.name}", warning.startswith("Recrawled this watch 1 times"), is_warned)
+            same(tally, f"that of since {path.name}", "warning" in client.ask("since", str(path), "c:0:0"), is_warned)
+            for name in ("find", "clock"):
+                same(tally, f"none of {name} {path.name}", "warning" in client.ask(name, str(path)), False)
         client.ask("watch-del", str(root))
         client.ask("watch", str(root))
         same(tally, "a root that is watched anew", "warning" in client.ask("query", str(root), {}), False)

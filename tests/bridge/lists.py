@@ -4,6 +4,7 @@ import errno
 import hashlib
 import os
 import random
+import shutil
 from pathlib import Path
 from typing import Dict, List
 
@@ -45,7 +46,10 @@ def check_relative_roots(tally: built.Tally, room: Path) -> None:
             if found != expected:
                 wrong.append(f"{query}: {found} and not {expected}")
         same(tally, "a directory that is not there", names_of(client, root, {"relative_root": "no"}), [])
-        same(tally, "a file as relative root", names_of(client, root, {"relative_root": "x"}), [])
+        for directory in ("x", ".", "./d*r", "d*r/..", "/d*r", "d*r//[q]"):
+            same(tally, f"{directory} as relative root", names_of(client, root, {"relative_root": directory}), [])
+        query = {"relative_root": "d*r//", "expression": ["type", "d"], "path": [{"path": "", "depth": 0}]}
+        same(tally, "slashes at the end of one", names_of(client, root, query), ["[q]"])
     tally.check(f"{DRAWS} queries below a directory", not wrong, wrong[:5])
 
 
@@ -123,9 +127,13 @@ def check_globs_since(tally: built.Tally, root: Path, client: Client) -> None:
         ({"glob": ["c.c"], "relative_root": "d", "expression": ["suffix", "c"]}, [".new.c", "c.c", "new.c"]),
     ):
         same(tally, f"{query} since", names_of(client, root, {**query, "since": clock, "sync_timeout": 1000}), expected)
-    reply = client.ask("query", str(root), {"glob": ["*"], "relative_root": "no"})
-    same(tally, "glob below no directory", reply.get("error"),
-         f"query failed: glob_generator could not resolve {root}/no, check your relative_root parameter!")
+    for directory in ("no", "d/.", "a.c"):
+        reply = client.ask("query", str(root), {"glob": ["*"], "relative_root": directory})
+        same(tally, f"glob below {directory}", reply.get("error"),
+             f"query failed: glob_generator could not resolve {root}/{directory}, check your relative_root parameter!")
+    shutil.rmtree(root / "d")
+    query = {"glob": ["*"], "relative_root": "d", "sync_timeout": 1000}
+    same(tally, "glob below a directory that has gone", names_of(client, root, query), [])
 
 
 def check_long_lists(tally: built.Tally, room: Path) -> None:

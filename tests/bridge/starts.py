@@ -4,8 +4,9 @@ import json
 import os
 import subprocess
 import sys
+import time
 from pathlib import Path
-from typing import Dict, List
+from typing import Callable, Dict, List
 
 import built
 from bridged import COMMAND, PROGRAM, VERSION, Bridge, codec
@@ -122,14 +123,49 @@ def check_the_quick_command(tally: built.Tally, room: Path) -> None:
                       ["--output-encoding=json", "get-sockname"]):
             slow = said([sys.executable, str(COMMAND.parent / "bridge" / "watchman.py"), home, *words], os.environ["PATH"])
             same(tally, f"watchman {' '.join(words)}", (quick(*words), slow != b""), (slow, True))
-        bser = codec()
-        if bser is not None:
-            found = bser.loads(quick("--output-encoding=bser", "get-sockname"), value_encoding="utf-8")
-            same(tally, "the same in BSER", found, {"sockname": bridge.sockname, "version": VERSION})
-        for words in (["watch-list"], ["get-sockname", "more"], ["-j"], ["--output-encoding=bser-v2", "get-sockname"]):
+        check_the_quick_command_in_bser(tally, bridge.sockname, quick)
+        for words in (["watch-list"], ["get-sockname", "more"], ["-j"], ["--output-encoding=bser-v2", "version"],
+                      ["get-sockname", "--output-encoding"], ["--output-encoding", "frob", "get-sockname"]):
             same(tally, f"watchman {' '.join(words)} is left to Python", quick(*words), b"")
+        bridge.server.process.kill()
+        ended = Path(f"/proc/{bridge.server.process.pid}/stat")
+        wait_until(lambda: ") Z " in ended.read_text())
+        same(tally, "a server that was killed, and is not waited for", quick("get-sockname"), b"")
         bridge.server.kill()
         same(tally, "a server that was killed", quick("get-sockname"), b"")
+
+
+def check_the_quick_command_in_bser(tally: built.Tally, sockname: str, quick: Callable[..., bytes]) -> None:
+    """The bytes are those that the codec writes, if there is one."""
+    bser = codec()
+    if bser is None:
+        return
+    reply = {"sockname": sockname, "version": VERSION}
+    for version, name in ((1, "bser"), (2, "bser-v2")):
+        for words in ([f"--output-encoding={name}"], ["--output-encoding", name]):
+            found = bser.loads(quick(*words, "get-sockname"), value_encoding="utf-8")
+            same(tally, f"{' '.join(words)} get-sockname", found, reply)
+            head = quick(*words, "get-sockname")[:2]
+            same(tally, f"{' '.join(words)}: the version of BSER", head, bytes([0, version]))
+
+
+def wait_until(is_right: Callable[[], bool]) -> None:
+    end = time.monotonic() + PATIENCE
+    while not is_right() and time.monotonic() < end:
+        time.sleep(0.01)
+
+
+def check_a_bridge_by_hand(tally: built.Tally, room: Path) -> None:
+    """The command starts no server beside a bridge that asks another one, though no client came before it."""
+    with Bridge(room.resolve()) as bridge:
+        stray = Path(f"{bridge.sockname}.wqd")
+        for words in (["get-sockname"], ["version"]):
+            ended = run(room, *words, sockname=bridge.sockname)
+            same(tally, f"{words[0]} of a bridge by hand", (ended.returncode, stray.exists()), (0, False))
+        bridge.server.kill()
+        ended = run(room, "watch-list", sockname=bridge.sockname)
+        words = f"watchman: nobody listens on {bridge.server.sockname}, which the bridge at {bridge.sockname} asks\n"
+        same(tally, "its server has gone", (ended.returncode, ended.stderr.decode(), stray.exists()), (1, words, False))
 
 
 def check_a_command_that_stays(tally: built.Tally, room: Path) -> None:

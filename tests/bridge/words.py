@@ -51,7 +51,7 @@ def check_errors(tally: built.Tally, room: Path) -> None:
         for term, words in ERRORS_OF_TERMS:
             reply = client.ask("query", str(root), {"expression": term})
             same(tally, f"{term}", reply["error"], f"failed to parse query: {words}")
-        for query, words in (({"since": "x"}, "invalid clockspec"), ({"glob": [7]}, "expected json string object")):
+        for query, words in OTHER_ERRORS_OF_QUERIES:
             same(tally, f"{query}", client.ask("query", str(root), query)["error"], words)
         query = {"fields": ["name"], "expression": ["name", ["a", *["ü" * 7] * 40_000]]}
         client.send_bytes(json.dumps(["query", str(root), query], ensure_ascii=False).encode() + b"\n")
@@ -81,6 +81,7 @@ def errors_of_commands(root: str, other: str) -> List[Tuple[List[object], str]]:
         (["clock"], "wrong number of arguments to 'clock'"),
         (["clock", root, 7], "malformated argument list for 'clock'"),
         (["find"], "not enough arguments for 'find'"),
+        (["find", root, "*", 7], "failed to parse query: rule @ position 3 is not a string value"),
         (["since", root, 7], "expected argument 2 to be a valid clockspec"),
         (["watch-project", f"{root}/no"], f"resolve_projpath: path `{root}/no`: open: {root}/no: No such file or directory"),
         (["watch-project", 7], "second argument must be a string"),
@@ -96,8 +97,12 @@ def errors_of_commands(root: str, other: str) -> List[Tuple[List[object], str]]:
 def errors_of_triggers(root: str) -> List[Tuple[List[object], str]]:
     named = {"name": "t", "command": ["x"]}
     return [
+        (["trigger"], "wrong number of arguments"),
         (["trigger", root], "not enough arguments"),
+        (["trigger", f"{root}/no"],
+         f"unable to resolve root {root}/no: realpath({root}/no) -> No such file or directory"),
         (["trigger", root, "t", "*.c"], "no command was specified"),
+        (["trigger", root, "t", "--", 123], "failed to parse query: rule @ position 4 is not a string value"),
         (["trigger", root, {}], "invalid or missing name"),
         (["trigger", root, {"name": "t"}], "invalid command array"),
         (["trigger", root, {**named, "stdin": 7}], "invalid value for stdin"),
@@ -132,7 +137,9 @@ ERRORS_OF_QUERIES: List[Tuple[Dict[str, object], str]] = [
     ({"sync_timeout": "x"}, "sync_timeout must be an integer value >= 0"),
     ({"settle_period": -1}, "settle_period must be an integer value >= 0"),
     ({"dedup_results": 7}, "dedup_results must be a boolean"),
-    ({"relative_root": "../x"}, "relative_root '../x' is no path below the root"),
+    ({"relative_root": 7}, "'relative_root' must be a string"),
+    ({"since": None}, "invalid value for 'since'"),
+    ({"since": {"scm": {}}}, "wqd has no clocks that follow source control"),
     ({"path": 7}, "'path' must be an array"),
     ({"path": [{"path": "d"}]}, "expected object with 'path' and 'depth' properties"),
     ({"suffix": [7]}, "'suffix' must be a string or an array of strings"),
@@ -143,6 +150,15 @@ ERRORS_OF_QUERIES: List[Tuple[Dict[str, object], str]] = [
     ({"program": "p", "glob": ["*"]}, NO_PROGRAM),
     ({"program": "p", "expression": "true"}, "expression and program (E29)"),
     ({"program": "p"}, "no such program (E34)"),
+]
+# Queries, and all the words that refuse each.
+OTHER_ERRORS_OF_QUERIES: List[Tuple[Dict[str, object], str]] = [
+    ({"since": "x"}, "invalid clockspec"),
+    ({"since": {"clock": "n:a"}}, "invalid clockspec"),
+    ({"since": {"clock": 7}}, "invalid clockspec"),
+    ({"since": True}, "invalid clockspec"),
+    ({"expression": ["since", {"clock": "x"}]}, "invalid clockspec"),
+    ({"glob": [7]}, "expected json string object"),
 ]
 # Expressions, and the words that refuse each: those of Watchman.
 ERRORS_OF_TERMS: List[Tuple[object, str]] = [
@@ -163,6 +179,8 @@ ERRORS_OF_TERMS: List[Tuple[object, str]] = [
     (["size", "eq", "a"], "integer comparator operand must be an integer"),
     (["size"], "integer comparator must have 3 elements"),
     (["since", "n:a"], 'named cursors are not allowed in "since" terms'),
+    (["since", None], 'invalid clockspec for "since" term'),
+    (["since", {}, "mtime"], 'field "mtime" requires a timestamp value for comparison in "since" term'),
     (["since", 1, "foo"], 'invalid field name "foo" for "since" term'),
     (["since", "c:1:1", "mtime"], 'field "mtime" requires a timestamp value for comparison in "since" term'),
     (["suffix", [7]], 'must use ["suffix", "suffixstring"]'),

@@ -10,9 +10,9 @@ GENERATED = "<!-- docs/crates/generate writes what follows -->"
 MOST = {
     "README.md": 1450,
     "CONTRIBUTING.md": 1350,
-    "CHANGELOG.md": 1200,
+    "CHANGELOG.md": 1220,
     "docs/ARCHITECTURE.md": 2050,
-    "docs/CLIENTS.md": 2350,
+    "docs/CLIENTS.md": 2900,
     "docs/DECISIONS.md": 800,
     "crates/*/DECISIONS.md": 6550,
     "docs/PROGRAMS.md": 3250,

@@ -13,8 +13,9 @@ from client import PATIENCE, same
 
 # What runs in a clone alone, for those who work on it: there the first line does not matter.
 OF_A_CLONE = ("tests/", "bench/", "docs/", "edits/", "crates/")
-# A call of Python with a text or a module, as a script has it: both look into the current directory first without -I.
-WITH_TEXT = re.compile(r"\bpython3?(?: +-[A-Za-z]+)* +-[cm]\b")
+# A call of Python with a text or a module, as a script has it: both look into the current directory first without -I. That
+# of the adapter is a person's, for a tool that is not ours.
+WITH_TEXT = re.compile(r"\bpython3?(?: +-[A-Za-z]+)* +-[cm]\b(?! wqd_watchdog)")
 # A call of this Python for a script, from another one.
 OF_THIS_PYTHON = re.compile(r"\[sys\.executable, (?!\"-I\"|\*BEGIN)")
 MODULES = ("socket", "json", "struct", "stat", "argparse", "typing", "contextlib", "select", "subprocess", "pathlib", "re",
@@ -73,14 +74,15 @@ def check_planted_modules(tally: built.Tally, room: Path) -> None:
         taken = marker.read_text() if marker.exists() else ""
         return taken or ("77" if ended.returncode == 77 else "")
 
-    same(tally, "./install", call(built.TOP / "install", "--as-watchman", prefix), "")
+    same(tally, "./install", call(built.TOP / "install", "--as-watchman", "--adapters", prefix), "")
     for home in (built.TOP, prefix / "bin"):
         in_clients = home if home == prefix / "bin" else built.TOP / "clients"
         for words in ((home / "wq", "status"), (home / "wq", "--help"), (in_clients / "wqasm", "--help"),
                       (in_clients / "watchman", "--no-spawn", "watch-list"), (home / "wqd", "check", "nothing")):
             same(tally, " ".join(map(str, words)), call(*words), "")
     for words in ((built.TOP / "contrib/git-fsmonitor-hook", "2", ""), (built.TOP / "examples/client.py", "."),
-                  (built.TOP / "package", "--help"), (built.TOP / "contrib/completion.py", "bash")):
+                  (built.TOP / "package", "--help"), (built.TOP / "package", "--adapters", room / "out"),
+                  (built.TOP / "contrib/completion.py", "bash")):
         same(tally, " ".join(map(str, words)), call(*words), "")
     check_serve(tally, tree, marker, environment, prefix)
 

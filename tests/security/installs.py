@@ -33,7 +33,7 @@ def check_rights(tally: built.Tally, room: Path) -> None:
     """Whatever the umask is, nobody else may write to what is installed, and everybody may read it."""
     for umask in (0, 0o077):
         prefix = room / f"prefix{umask}"
-        same(tally, "./install", install(room, "--as-watchman", str(prefix), umask=umask).status, 0)
+        same(tally, "./install", install(room, "--as-watchman", "--adapters", str(prefix), umask=umask).status, 0)
         paths = [path for path in prefix.rglob("*")]
         wrong = [f"{path} {path.stat().st_mode:o}" for path in paths
                  if path.stat().st_mode & 0o777 != (0o755 if path.is_dir() or os.access(str(path), os.X_OK) else 0o644)]

@@ -1,18 +1,20 @@
-"""Notes of the roots that wq had a server watch: for what, when one was last asked about, and which of them a window
-has open. The server tells none of it."""
+"""Notes of the roots that wq and the adapters had a server watch: for what, when one was last asked about, and which of
+them a window has open. The server tells none of it."""
 
 import contextlib
 import fcntl
 import time
-from typing import IO, List, Optional
+from typing import IO, Any, Callable, Dict, List, Optional
 
-from wqclient.files import opened_as_own
-from wqclient.kept import LOOKS, ROOTS, WINDOWS, keep, kept, path_of, room, run_of
+from .files import opened_as_own
+from .kept import LOOKS, ROOTS, WINDOWS, keep, kept, path_of, room, run_of
 
 # The purposes of a watch, of which a later one wins: one query; a window; `find --keep`; `watch`, `since` and
 # triggers.
 MOMENT, WINDOW, KEPT, STAYS = "moment", "window", "kept", "stays"
 RANKS = ("", MOMENT, WINDOW, KEPT, STAYS)
+# Sends a command, and gives the reply; {} if none comes.
+Ask = Callable[..., Dict[str, Any]]
 
 
 class Notes:
@@ -60,6 +62,26 @@ class Notes:
         """The roots that need not stay and that no window has open, the least lately asked first."""
         found = [root for root in roots if self.purpose(root) in (KEPT, WINDOW) and not self.has_window(root)]
         return sorted(found, key=lambda root: kept(ROOTS, self.sockname, root).get("asked", 0))
+
+    def drop_one(self, roots: List[str], ask: Ask) -> Optional[str]:
+        """Ends the watch of the root that was least lately asked of those that need not stay, and gives its path;
+        nothing if each has to stay. A trigger was registered by somebody who needs its root."""
+        for root in self.droppable(roots):
+            if ask("trigger-list", root).get("triggers") == []:
+                self.end(root, ask)
+                return root
+        return None
+
+    def give_back(self, root: str, ask: Ask) -> None:
+        """Ends the watch of a root that was watched for windows alone, and that none has open, unless it has
+        triggers."""
+        if self.purpose(root) == WINDOW and not self.has_window(root):
+            if ask("trigger-list", root).get("triggers") == []:
+                self.end(root, ask)
+
+    def end(self, root: str, ask: Ask) -> None:
+        self.forget(root)
+        ask("watch-del", root)
 
     def opened(self, root: str) -> "Optional[IO[str]]":
         """A file that says that a window has a root open, until it is closed; nothing if that cannot be noted."""

@@ -1,0 +1,76 @@
+"""Python's watchdog: its own polling, and the observer that has wqd watch."""
+
+import os
+import subprocess
+import time
+from pathlib import Path
+from typing import List
+
+from polling.pollers import HERE, TOP, Missed, Poller, Printed, Watch
+from wq.processes import Facts
+from wqclient.sockets import is_listened_on
+from wqclient.starting import serve_words
+
+PYTHON = "/usr/bin/python3"
+PACKAGE = "the package python3-watchdog"
+SERVED = "`wqd_watchdog` and its server"
+
+
+class Observed(Printed):
+    """A program in Python with an observer."""
+
+    def __init__(self, kind: str, root: Path, seconds: str) -> None:
+        super().__init__([PYTHON, str(HERE / "observed.py"), kind, str(root), seconds])
+        self.wait_for("ready\n")
+
+
+class ObservedByServer(Observed):
+    """The same with the adapter, and the server that it asks: figures are of both together."""
+
+    def __init__(self, root: Path, room: Path, seconds: str) -> None:
+        sockname = str(room / "socket")
+        os.environ.update(WQD_SOCK=sockname, XDG_STATE_HOME=str(room))
+        program = os.environ.get("WQD") or str(TOP / "crates" / "wqd" / "out" / "wqd")
+        self.server = Server([program, *serve_words(sockname)], sockname)
+        super().__init__("wqd", root, seconds)
+
+    def facts(self) -> Facts:
+        own, served = super().facts(), self.server.facts()
+        return own._replace(memory=own.memory + served.memory,
+                            processor_seconds=own.processor_seconds + served.processor_seconds)
+
+    def end(self) -> None:
+        super().end()
+        self.server.end()
+
+
+class Server(Watch):
+    def __init__(self, command: List[str], sockname: str) -> None:
+        super().__init__(command)
+        while not is_listened_on(sockname):
+            if self.process.poll() is not None:
+                raise Missed("the server does not start")
+            time.sleep(0.01)
+
+
+def watchdogs() -> List[Poller]:
+    return [polling("1"), adapted("1")]
+
+
+def missing() -> bool:
+    """Whether the Python of the system has no watchdog."""
+    ended = subprocess.run([PYTHON, "-c", "import watchdog.observers"], stderr=subprocess.DEVNULL)
+    return ended.returncode != 0
+
+
+def polling(seconds: str) -> Poller:
+    def start(root: Path, room: Path) -> Watch:
+        return Observed("polling", root, seconds)
+    return Poller(f"watchdog, `PollingObserver`, {seconds} s", PACKAGE if missing() else None, start)
+
+
+def adapted(seconds: str) -> Poller:
+    def start(root: Path, room: Path) -> Watch:
+        return ObservedByServer(root, room, seconds)
+    return Poller(SERVED, PACKAGE if missing() else None, start)
+

@@ -1,0 +1,208 @@
+'use strict';
+// A feed: one subscription of a watched root, and the files of its lists. It lasts over restarts of the server, and over a
+// root that goes and comes back.
+
+const fs = require('fs');
+const { Haste } = require('./haste');
+const hub = require('./hub');
+const { staysBelow } = require('./names');
+
+const FIELDS = ['name', 'exists', 'type', 'size', 'mtime_ms'];
+// How soon a root that went is noticed, in milliseconds: the server keeps the last view of one.
+const LOOK = 500;
+// After so many looks a root that the server refused is tried again.
+const LOOKS = 10;
+const PATIENCE = 600_000;
+// The server says these of itself, and not of a root.
+const OF_SERVER = /^(ended|E17|E60)/;
+
+class Feed {
+  /**
+   * @param {string} root an absolute path without links
+   * @param {() => object} expression what the places of this feed need
+   * @param {(changes: object[], isThere: boolean) => Promise<void>} tell takes changes, one call after the other
+   * @param {(fault: Error) => void} fail takes the reason if the server does not watch the root
+   */
+  constructor(root, keeps, expression, tell, fail) {
+    Object.assign(this, { root, keeps, expression, tell, fail });
+    this.name = hub.newName();
+    this.rows = new Map();
+    this.places = new Set();
+    this.isGone = false;
+    this.isRefused = false;
+    this.looks = 0;
+    this.turn = 0;
+    this.asked = 0;
+    this.listed = 0;
+    this.waiting = [];
+    this.work = Promise.resolve();
+    this.haste = new Haste(this);
+    this.session = hub.acquire(keeps);
+    this.session.lists.set(this.name, this);
+    this.isBegun = false;
+    this.isClosed = false;
+    this.onUp = () => this.begin();
+    this.onFault = (fault) => {
+      this.fail(fault);
+      this.settle(Infinity);
+    };
+    this.session.on('up', this.onUp);
+    this.session.on('fault', this.onFault);
+    this.timer = setTimeout(() => this.look(), LOOK).unref();
+    if (this.session.isUp()) this.begin();
+  }
+
+  close() {
+    this.isClosed = true;
+    clearTimeout(this.timer);
+    this.haste.end();
+    this.session.removeListener('up', this.onUp);
+    this.session.removeListener('fault', this.onFault);
+    this.session.lists.delete(this.name);
+    for (const each of this.waiting.splice(0)) each.resolve(false);
+    this.session.ask('unsubscribe', this.root, this.name)
+      .then(() => this.session.giveBack(this.root))
+      .finally(() => hub.release(this.session, this.keeps));
+  }
+
+  /** Takes a place in, before the others: what several have is the newest one's to tell. */
+  join(place) {
+    this.places = new Set([place, ...this.places]);
+  }
+
+  /** Watches the root, as it is now, and subscribes. */
+  async begin() {
+    this.turn += 1;
+    const turn = this.turn;
+    this.isBegun = false;
+    this.asked = this.listed;
+    const reply = await this.watched();
+    if (this.isClosed || this.turn !== turn) return;
+    if (!reply.error) {
+      this.isBegun = true;
+      this.subscribe();
+    } else if (reply.error.startsWith('E11') && !fs.existsSync(this.root)) {
+      this.leave();
+      this.settle(Infinity);
+    } else if (!OF_SERVER.test(reply.error)) {
+      this.isRefused = true;
+      this.fail(new Error(`wqd does not watch ${this.root}: ${reply.error}`));
+      this.settle(Infinity);
+    }
+  }
+
+  async watched() {
+    let isNew = false;
+    const reply = await this.haste.scan(async () => {
+      const found = await this.session.watch(this.root);
+      ({ isNew } = found);
+      return found;
+    });
+    // What is watched already may have been scanned long ago.
+    return reply.error || isNew ? reply : this.haste.scan(() => this.scanned());
+  }
+
+  /** Has the server scan the root now. */
+  scanned() {
+    return this.session.ask('clock', this.root, { sync_timeout: PATIENCE });
+  }
+
+  /** Subscribes with the expression of now, after the places that are added in this moment. */
+  subscribe() {
+    if (this.isAsking || !this.isBegun || this.places.size === 0) return;
+    this.isAsking = true;
+    setImmediate(async () => {
+      this.isAsking = false;
+      if (this.isClosed || !this.isBegun) return;
+      this.asked += 1;
+      const reply = await this.session.ask('subscribe', this.root, this.name, { fields: FIELDS, expression: this.expression() });
+      if (!reply.error || OF_SERVER.test(reply.error)) return;
+      this.asked -= 1;
+      this.fail(new Error(`wqd does not tell changes below ${this.root}: ${reply.error}`));
+      this.settle(Infinity);
+    });
+  }
+
+  /** Resolves to true when a list that knows of all places of now was told, and to false if none comes yet. */
+  listedOnce() {
+    return new Promise((resolve) => {
+      this.waiting.push({ number: this.asked + 1, resolve });
+      this.subscribe();
+    });
+  }
+
+  settle(number) {
+    const done = this.waiting.filter((each) => each.number <= number);
+    this.waiting = this.waiting.filter((each) => each.number > number);
+    for (const each of done) this.work = this.work.then(() => each.resolve(number !== Infinity));
+  }
+
+  take(list) {
+    if (this.isClosed) return;
+    if (list.canceled) {
+      this.begin();
+      return;
+    }
+    const files = list.files.filter((file) => staysBelow(file.name));
+    if (list.is_fresh_instance) {
+      // Of a root that went the server has the last view.
+      this.takeAll(this.isGone ? [] : files);
+      this.listed += 1;
+      this.settle(this.listed);
+    } else if (!this.isGone) {
+      this.queue(files.map((file) => this.changed(file)));
+    }
+  }
+
+  /** Takes a list of all files: those that it does not have are gone. */
+  takeAll(files) {
+    const names = new Set(files.map((file) => file.name));
+    const gone = [...this.rows.keys()].filter((name) => !names.has(name)).map((name) => this.changed({ name, exists: false }));
+    this.queue([...gone, ...files.map((file) => this.changed(file))]);
+  }
+
+  /** Puts a file into the rows; gives its name and what it was and is. */
+  changed(file) {
+    const before = this.rows.get(file.name);
+    const after = file.exists ? { kind: file.type, size: file.size, mtimeMs: file.mtime_ms } : undefined;
+    if (after) this.rows.set(file.name, after);
+    else this.rows.delete(file.name);
+    return { name: file.name, before, after };
+  }
+
+  queue(changes) {
+    const isThere = !this.isGone;
+    this.work = this.work.then(() => (this.isClosed ? undefined : this.tell(changes, isThere)));
+  }
+
+  /** Looks whether the root is there. */
+  look() {
+    fs.stat(this.root, (fault) => {
+      if (this.isClosed) return;
+      const isGone = Boolean(fault) && (fault.code === 'ENOENT' || fault.code === 'ENOTDIR');
+      if (isGone) this.leave();
+      else if (this.session.isUp() && (this.isGone || this.isTriedAgain())) this.comeBack();
+      this.timer = setTimeout(() => this.look(), LOOK).unref();
+    });
+  }
+
+  /** Whether it is time to try a root again that the server refused: a place may be free. */
+  isTriedAgain() {
+    this.looks = (this.looks + 1) % LOOKS;
+    return this.isRefused && this.looks === 0;
+  }
+
+  leave() {
+    if (this.isGone) return;
+    this.isGone = true;
+    this.takeAll([]);
+  }
+
+  comeBack() {
+    this.isGone = false;
+    this.isRefused = false;
+    this.begin();
+  }
+}
+
+module.exports = { Feed };

@@ -1,0 +1,188 @@
+'use strict';
+// A session with the server, which outlives the server: it connects anew, and starts a server if none runs.
+
+const { EventEmitter } = require('events');
+const { connect } = require('./connection');
+const { Notes } = require('./notes');
+const { startServer, wasStopped } = require('./starting');
+
+const NOBODY_LISTENS = new Set(['ENOENT', 'ECONNREFUSED']);
+const FIRST_PAUSE = 50;
+const LONGEST_PAUSE = 2000;
+// So many failures one after the other are told.
+const TOLD_FAILURES = 2;
+const TOO_MANY = 'E13';
+
+/** Emits `up` when it is connected, `down` when the server went, and `fault` if it cannot connect. */
+class Session extends EventEmitter {
+  constructor(sockname) {
+    super();
+    this.setMaxListeners(0);
+    this.sockname = sockname;
+    this.connection = null;
+    this.replies = [];
+    this.lists = new Map();
+    this.users = 0;
+    this.keepers = 0;
+    this.pause = FIRST_PAUSE;
+    this.failures = 0;
+    this.isReaching = false;
+    this.timer = null;
+    this.connectedAt = 0;
+    this.notes = null;
+  }
+
+  /** Someone uses the session. One that keeps it keeps the process alive too. */
+  acquire(keeps) {
+    this.users += 1;
+    if (keeps) this.keepers += 1;
+    if (this.users === 1) this.reach();
+    this.keepAlive();
+  }
+
+  release(keeps) {
+    this.users -= 1;
+    if (keeps) this.keepers -= 1;
+    this.keepAlive();
+    if (this.users > 0) return;
+    clearTimeout(this.timer);
+    if (this.connection) this.connection.socket.end();
+  }
+
+  keepAlive() {
+    for (const handle of [this.connection && this.connection.socket, this.timer]) {
+      if (handle) this.keepers > 0 ? handle.ref() : handle.unref();
+    }
+  }
+
+  /** Resolves when it is connected, or could not be at once. */
+  whenTried() {
+    if (this.connection) return Promise.resolve();
+    return new Promise((resolve) => {
+      this.once('up', resolve);
+      this.once('fault', resolve);
+    });
+  }
+
+  isUp() {
+    return this.connection !== null;
+  }
+
+  /**
+   * Sends a command.
+   * @returns {Promise<object>} the reply, which may be an error; without a server it has the error `ended`
+   */
+  ask(...command) {
+    if (!this.connection) return Promise.resolve({ error: 'ended' });
+    return new Promise((resolve) => {
+      this.replies.push(resolve);
+      this.connection.send(command);
+    });
+  }
+
+  /**
+   * Has the server watch a root. If it watches as many as it may, one that nobody needs is given up.
+   * @returns {Promise<object>} the reply; `isNew` in it says whether the root was scanned just now
+   */
+  async watch(root) {
+    const { roots = [] } = await this.ask('watch-list');
+    let reply = await this.ask('watch', root);
+    if (reply.error && reply.error.startsWith(TOO_MANY)) {
+      for (const one of this.notes.droppable(roots)) {
+        if (!(await this.giveUp(one))) continue;
+        reply = await this.ask('watch', root);
+        if (!reply.error) break;
+      }
+    }
+    const isNew = !roots.includes(root);
+    if (!reply.error && isNew) this.notes.keep(root);
+    return { ...reply, isNew };
+  }
+
+  /** Ends the watch of a root, unless it has triggers: whether that was done. */
+  async giveUp(root) {
+    const { triggers } = await this.ask('trigger-list', root);
+    if (!triggers || triggers.length > 0) return false;
+    const reply = await this.ask('watch-del', root);
+    if (!reply.error) this.notes.forget(root);
+    return !reply.error;
+  }
+
+  /** Gives a root back that this process had watched, if no other feed and nobody else needs it. */
+  async giveBack(root) {
+    if ([...this.lists.values()].some((feed) => feed.root === root)) return;
+    if (this.connection && this.notes.isOwn(root)) await this.giveUp(root);
+  }
+
+  async reach() {
+    if (this.isReaching || this.connection) return;
+    this.isReaching = true;
+    try {
+      this.begin(await this.connected());
+    } catch (fault) {
+      this.failures += 1;
+      // A server that is started just now may be ended by somebody else.
+      if (this.users > 0 && this.failures >= TOLD_FAILURES) this.emit('fault', fault);
+      this.later();
+    } finally {
+      this.isReaching = false;
+    }
+  }
+
+  async connected() {
+    try {
+      return await connect(this.sockname);
+    } catch (fault) {
+      const isStopped = this.connectedAt && wasStopped(this.sockname, this.connectedAt);
+      if (!NOBODY_LISTENS.has(fault.code) || isStopped) throw fault;
+    }
+    await startServer(this.sockname);
+    return connect(this.sockname);
+  }
+
+  begin(connection) {
+    if (this.users === 0) {
+      connection.socket.destroy();
+      return;
+    }
+    this.connection = connection;
+    this.failures = 0;
+    this.notes = new Notes(this.sockname);
+    this.connectedAt = Date.now();
+    connection.on('value', (value) => this.take(value));
+    connection.on('end', () => this.ended(connection));
+    this.keepAlive();
+    this.emit('up');
+  }
+
+  take(value) {
+    this.pause = FIRST_PAUSE;
+    if (value.unilateral) {
+      const feed = this.lists.get(value.subscription);
+      if (feed) feed.take(value);
+      return;
+    }
+    const reply = this.replies.shift();
+    if (reply) reply(value);
+    // A server that has no place for one more client says so by itself.
+    else if (value.error) this.emit('fault', new Error(value.error));
+  }
+
+  ended(connection) {
+    if (this.connection !== connection) return;
+    this.connection = null;
+    for (const reply of this.replies.splice(0)) reply({ error: 'ended' });
+    this.emit('down');
+    this.later();
+  }
+
+  later() {
+    if (this.users === 0) return;
+    clearTimeout(this.timer);
+    this.timer = setTimeout(() => this.reach(), this.pause);
+    this.pause = Math.min(2 * this.pause, LONGEST_PAUSE);
+    this.keepAlive();
+  }
+}
+
+module.exports = { Session };

@@ -1,0 +1,111 @@
+'use strict';
+// Tells which names in a directory of the project changed. Tools that look at directories by themselves hear of them so.
+
+const fs = require('fs');
+const path = require('path');
+const { Feed } = require('./feed');
+const { nameBelow } = require('./names');
+const { directoryOfProject } = require('./roots');
+
+// With more directories of one root its whole list is asked for.
+const MOST_TERMS = 1000;
+
+class Source {
+  /** @param {string} project the directory in which the tool works; below it each first directory is a root */
+  constructor(project) {
+    this.project = fs.realpathSync(project);
+    this.feeds = new Map();
+    this.isTold = false;
+  }
+
+  /** Whether the server can tell of a directory: it lies below the project, and by no link. */
+  covers(directory) {
+    if (!this.rootOf(directory)) return false;
+    try {
+      return fs.realpathSync(directory) === directory && fs.statSync(directory).isDirectory();
+    } catch {
+      return false;
+    }
+  }
+
+  rootOf(directory) {
+    return directoryOfProject(path.join(directory, 'any'), this.project);
+  }
+
+  /**
+   * Tells changes in a directory.
+   * @param {string} directory one that is covered
+   * @param {object} listener `changed(name, comesOrGoes, isDirectory)`; `begun()` when the server tells changes from now on;
+   *   `went()` when the directory is gone; `failed()` if no server tells them
+   * @returns {() => void} ends that
+   */
+  join(directory, listener) {
+    const root = this.rootOf(directory);
+    const feed = this.feeds.get(root) || this.begin(root);
+    const place = { below: nameBelow(root, directory), listener, isBegun: false, isEnded: false };
+    feed.join(place);
+    feed.listedOnce().then((isListed) => {
+      if (place.isEnded) return;
+      place.isBegun = isListed;
+      if (isListed) listener.begun();
+      else listener.failed();
+    });
+    return () => this.leave(root, place);
+  }
+
+  leave(root, place) {
+    place.isEnded = true;
+    const feed = this.feeds.get(root);
+    if (!feed || !feed.places.delete(place) || feed.places.size > 0) return;
+    // A tool may leave a directory and join it at once.
+    setImmediate(() => {
+      if (feed.places.size > 0 || this.feeds.get(root) !== feed) return;
+      this.feeds.delete(root);
+      feed.close();
+    });
+  }
+
+  begin(root) {
+    const feed = new Feed(
+      root, true, () => expressionOf(feed), async (changes, isThere) => tell(feed, changes, isThere), (fault) => this.fail(feed, fault),
+    );
+    this.feeds.set(root, feed);
+    return feed;
+  }
+
+  fail(feed, fault) {
+    if (!this.isTold) process.emitWarning(`wqd-chokidar: ${fault.message}; the tool looks at files by itself`);
+    this.isTold = true;
+    for (const place of [...feed.places]) if (!place.isEnded && place.isBegun) place.listener.failed();
+  }
+}
+
+/** The files in the joined directories, and these directories. */
+function expressionOf(feed) {
+  const names = [...new Set([...feed.places].map((place) => place.below))];
+  if (names.length > MOST_TERMS) return 'true';
+  return ['anyof', ['name', names.filter((name) => name !== ''), 'wholename'], ...names.map((name) => ['dirname', name, ['depth', 'eq', 0]])];
+}
+
+function tell(feed, changes, isThere) {
+  const places = new Map();
+  for (const place of feed.places) {
+    if (!place.isBegun) continue;
+    if (!isThere) place.listener.went();
+    else places.set(place.below, [...(places.get(place.below) || []), place]);
+  }
+  for (const { name, before, after } of changes) {
+    if (!isOther(before, after)) continue;
+    const isDirectory = (after || before).kind === 'd';
+    const above = name.includes('/') ? name.slice(0, name.lastIndexOf('/')) : '';
+    for (const place of places.get(above) || []) place.listener.changed(path.posix.basename(name), !before || !after, isDirectory);
+    if (!after) for (const place of places.get(name) || []) place.listener.went();
+  }
+}
+
+function isOther(before, after) {
+  if (!before || !after) return Boolean(before || after);
+  return before.kind !== after.kind || before.size !== after.size || before.mtimeMs !== after.mtimeMs;
+}
+
+module.exports = { Source };

@@ -1,0 +1,68 @@
+'use strict';
+// Servers that end, and watches that others end.
+
+const { execFileSync } = require('child_process');
+const fs = require('fs');
+const path = require('path');
+const { HOME, Watched, ask, pause, put, room, same, scene, server, tree } = require('./scene');
+
+async function killed() {
+  const root = tree('killed', ['a', 'b', 'd/c']);
+  const watched = new Watched(root, {}, root);
+  await watched.ready;
+  await watched.sees('the first files', ['addDir .', 'add a', 'add b', 'addDir d', 'add d/c']);
+  server.kill();
+  put(path.join(root, 'a'), 'changed while no server runs');
+  fs.unlinkSync(path.join(root, 'b'));
+  put(path.join(root, 'd/new'));
+  await watched.sees('what changed meanwhile, once', ['change a', 'unlink b', 'add d/new']);
+  same('no error', watched.errors, []);
+  put(path.join(root, 'd/c'), 'longer');
+  await watched.sees('and later changes', ['change d/c']);
+  await watched.watcher.close();
+}
+
+async function deleted() {
+  const root = tree('deleted', ['a']);
+  const watched = new Watched(root, { ignoreInitial: true }, root);
+  await watched.ready;
+  await ask('watch-del', root);
+  put(path.join(root, 'b'));
+  await watched.sees('a watch that somebody ended', ['add b']);
+  await watched.watcher.close();
+}
+
+/** After `wq stop` only a person starts the server. */
+async function stopped() {
+  const wq = path.resolve(HOME, '..', '..', 'wq');
+  const root = tree('stopped', ['a']);
+  const watched = new Watched(root, { ignoreInitial: true }, root);
+  await watched.ready;
+  execFileSync(wq, ['stop'], { stdio: 'ignore' });
+  put(path.join(root, 'b'));
+  await pause(1500);
+  same('nobody starts it', server.process(), undefined);
+  same('it is told once', watched.errors.length, 1);
+  execFileSync(wq, ['start'], { stdio: 'ignore' });
+  await watched.sees('it goes on with the next one', ['add b']);
+  await watched.watcher.close();
+}
+
+/** A process that nothing keeps ends by itself, and one with a watcher does not. */
+async function processes() {
+  const root = tree('alive', ['a']);
+  const script = `const w = require(${JSON.stringify(HOME)}).watch(${JSON.stringify(root)}, { persistent: process.argv[1] === 'keeps' });
+w.on('ready', () => console.log('ready')); setTimeout(() => {}, 1500);`;
+  const run = (word) => {
+    try {
+      return execFileSync(process.execPath, ['-e', script, word], { timeout: 4000, encoding: 'utf8' });
+    } catch (fault) {
+      return fault.code || fault.signal;
+    }
+  };
+  same('persistent: false', run('lets'), 'ready\n');
+  same('persistent', run('keeps'), 'ETIMEDOUT');
+  same('a root of a process that was killed can be given up', fs.readdirSync(path.join(room, 'state', 'wq', 'roots')).length > 0, true);
+}
+
+scene(killed, deleted, stopped, processes);

@@ -1,0 +1,95 @@
+'use strict';
+// node --require wqd-chokidar/register: what a tool gets for chokidar, watchpack and fs.watchFile.
+
+const { spawn } = require('child_process');
+const fs = require('fs');
+const path = require('path');
+const { HOME, ask, pause, put, same, scene, server, tree } = require('./scene');
+
+const PATIENCE = 20_000;
+
+/** A tool that runs, and its lines. */
+class Tool {
+  constructor(root, script, words = ['--require', path.join(HOME, 'register')]) {
+    put(path.join(root, 'tool.js'), script);
+    this.lines = [];
+    this.child = spawn(process.execPath, [...words, 'tool.js'], { cwd: root, stdio: ['ignore', 'pipe', 'inherit'] });
+    this.child.stdout.on('data', (data) => this.lines.push(...String(data).trim().split('\n')));
+  }
+
+  async says(name, line) {
+    const end = Date.now() + PATIENCE;
+    while (!this.lines.includes(line) && Date.now() < end) await pause(20);
+    same(name, this.lines.includes(line) ? line : this.lines, line);
+    this.lines = [];
+  }
+
+  end() {
+    this.child.kill();
+    return new Promise((resolve) => { this.child.on('close', resolve); });
+  }
+}
+
+async function chokidar() {
+  const root = tree('tool', ['src/a.js']);
+  const tool = new Tool(root, `const w = require('chokidar').watch('src', { usePolling: true });
+w.on('all', (event, name) => console.log(event, name)); w.on('ready', () => console.log('ready'));`);
+  await tool.says('a tool that requires chokidar', 'ready');
+  put(path.join(root, 'src/a.js'), 'longer');
+  await tool.says('hears of changes', 'change src/a.js');
+  same('from the server', (await ask('watch-list')).roots, [path.join(root, 'src')]);
+  await tool.end();
+}
+
+/** The alias of a package: a directory named chokidar that leads to this one. */
+async function alias() {
+  const root = tree('alias', ['src/a.js', 'node_modules/']);
+  fs.symlinkSync(HOME, path.join(root, 'node_modules', 'chokidar'));
+  const tool = new Tool(root, "require('chokidar').watch('src').on('ready', () => console.log('ready'));", []);
+  await tool.says('an alias in node_modules', 'ready');
+  await tool.end();
+}
+
+async function watchFile() {
+  const root = tree('bundle', ['src/a.js', 'src/d/b.js', 'top.js']);
+  const tool = new Tool(root, `const fs = require('fs');
+for (const one of ['src/a.js', 'src/d', 'top.js']) fs.watchFile(one, { interval: 200 }, (now, before) => console.log(one, now.size !== before.size));
+setTimeout(() => console.log('begun'), 700);`);
+  await tool.says('a tool with fs.watchFile', 'begun');
+  put(path.join(root, 'src/a.js'), 'longer');
+  await tool.says('a file', 'src/a.js true');
+  put(path.join(root, 'src/d/new.js'));
+  await tool.says('a directory', 'src/d false');
+  put(path.join(root, 'top.js'), 'of another length');
+  await tool.says('a file of no root, by Node itself', 'top.js true');
+  await tool.end();
+}
+
+/** webpack's watchpack, if it is installed. */
+async function watchpack() {
+  try {
+    require.resolve('watchpack');
+  } catch {
+    process.stdout.write('left out: watchpack, since it is not installed\n');
+    return;
+  }
+  const root = tree('packed', ['src/a.js', 'src/d/b.js']);
+  const tool = new Tool(root, `const Watchpack = require('watchpack'), path = require('path');
+const w = new Watchpack({ aggregateTimeout: 20, poll: 60000 });
+w.watch({ files: [path.resolve('src/a.js')], directories: [path.resolve('src/d')], missing: [path.resolve('src/no.js')], startTime: Date.now() });
+w.on('aggregated', (changes, removals) => console.log([...changes, '-', ...removals].map((one) => path.relative('.', one)).join(' ').replace('..', '-')));
+setTimeout(() => console.log('begun'), 1000);`);
+  await tool.says('watchpack', 'begun');
+  put(path.join(root, 'src/a.js'), 'longer');
+  await tool.says('a file changes', 'src/a.js -');
+  put(path.join(root, 'src/d/e/new.js'));
+  await tool.says('a directory has more', 'src/d -');
+  put(path.join(root, 'src/no.js'));
+  await tool.says('a file comes that was missing', 'src/no.js -');
+  server.kill();
+  fs.unlinkSync(path.join(root, 'src/a.js'));
+  await tool.says('a file goes while no server runs', '- src/a.js');
+  await tool.end();
+}
+
+scene(chokidar, alias, watchFile, watchpack);

@@ -1,0 +1,57 @@
+"""The parts of the adapter that ask no server."""
+
+import json
+from pathlib import Path
+from typing import Iterator
+
+import built
+from client import same
+from wqd_watchdog.latency import LOOKS, Latency
+from wqd_watchdog.roots import nearest, outermost, sentence
+from wqd_watchdog.rows import Change, Changes, File, Row, difference, file_of
+
+A, B, D = Row(False, 1, 1000), Row(False, 2, 1000), Row(True, 4096, 1000)
+
+
+def check_changes(tally: built.Tally, room: Path) -> None:
+    """Of several changes of a file one is left, and none if it is as before."""
+    changes = Changes()
+    same(tally, "no change", [changes.has_some(), changes.taken()], [False, []])
+    for path, before, now in (("b", None, A), ("b", A, B), ("a", A, B), ("c", None, A), ("c", A, None), ("d", A, B),
+                              ("d", B, A)):
+        changes.note(path, before, now)
+    same(tally, "some change", changes.has_some(), True)
+    same(tally, "each once", changes.taken(), [Change("a", A, B), Change("b", None, B)])
+    same(tally, "taken once", changes.taken(), [])
+    found = difference({"a": A, "b": A, "c": A}, {"a": A, "b": D, "e": B})
+    listed = json.loads('{"files":[{"exists":true,"mtime_ms":7,"name":"a","size":1,"type":"f"}]}', object_hook=file_of)
+    same(tally, "a file of a list", listed, {"files": [File("a", True, "f", 1, 7)]})
+    same(tally, "a difference", found, [Change("b", A, D), Change("c", A, None), Change("e", None, B)])
+
+
+def check_roots(tally: built.Tally, room: Path) -> None:
+    for directory, roots, expected in (
+        ("/a/b", [], (None, "/a/b")), ("/a/b", ["/a"], ("/a", "/a")), ("/a/b", ["/a", "/a/b"], ("/a/b", "/a")),
+        ("/ab", ["/a"], (None, "/ab")), ("/a", ["/"], ("/", "/")), ("/a", ["/a/b"], (None, "/a")),
+    ):
+        same(tally, f"{directory} in {roots}", (nearest(directory, roots), outermost(directory, roots)), expected)
+    tally.check("no root is free", sentence("/a", "E13: too many roots").startswith("/a: 16 directories are watched"))
+    same(tally, "another error", sentence("/a", "E60: no memory"), "/a: E60: no memory")
+
+
+def check_latency(tally: built.Tally, room: Path) -> None:
+    """A file system is slow if some of the last looks took long."""
+    (room / "f").touch()
+
+    def paths() -> Iterator[str]:
+        return iter([str(room), str(room / "f"), str(room / "none")])
+    latency = Latency(paths)
+    same(tally, "nothing is known", latency.is_slow(), False)
+    latency.look(2 * LOOKS)
+    same(tally, "in memory", latency.is_slow(), False)
+    latency.seconds.extend([0.001] * (LOOKS // 4))
+    same(tally, "some looks are slow", latency.is_slow(), False)
+    latency.seconds.extend([0.001] * (LOOKS // 4))
+    same(tally, "more are", latency.is_slow(), True)
+    latency.look(2 * LOOKS)
+    same(tally, "quick again", latency.is_slow(), False)

@@ -1,0 +1,28 @@
+"""A server for the adapter, which finds it by the variables of its process."""
+
+import contextlib
+import os
+from pathlib import Path
+from typing import Iterator
+
+from client import Server
+
+
+@contextlib.contextmanager
+def served(room: Path, interval: int = 50) -> Iterator[Server]:
+    """A server, and this process with notes of its own and no other server to start."""
+    before = dict(os.environ)
+    (room / "state").mkdir(exist_ok=True)
+    os.environ.update(WQD_SOCK=str(room / "socket"), XDG_STATE_HOME=str(room / "state"))
+    try:
+        with Server(room, interval=interval, share=50) as server:
+            yield server
+    finally:
+        os.environ.clear()
+        os.environ.update(before)
+
+
+def restarted(room: Path, server: Server, interval: int = 50) -> Server:
+    """Another server at the socket of one that is killed."""
+    server.kill()
+    return Server(room, interval=interval, share=50)
