@@ -347,14 +347,22 @@ where
         Worked { time, threads }
     }
 
-    fn glance(&self, number: u64, reach: Reach) {
+    fn glance(&self, number: u64, reach: Reach) -> Worked {
+        let began = Instant::now(&self.rt);
         // If memory runs out for the text, there is no glance in this round.
-        let Some(root) = self.text(number) else {
-            return;
+        let threads = match self.text(number) {
+            Some(root) => {
+                if self.crawler.glance(&self.rt, &root, reach) == Ok(true) {
+                    self.rounds.fire(number, &*self.shelf);
+                    self.tell_of_starts();
+                }
+                self.crawler.made_by(&self.rt, &root)
+            }
+            None => 1,
         };
-        if self.crawler.glance(&self.rt, &root, reach) == Ok(true) {
-            self.rounds.fire(number, &*self.shelf);
-            self.tell_of_starts();
+        Worked {
+            time: time_since(&self.rt, began),
+            threads,
         }
     }
 

@@ -56,7 +56,7 @@ pub trait Host {
 
     /// Glances at the root of this number, looks so far, and then has a round of its triggers. It gives way to clients
     /// that wait for a crawl of the root. Nobody hears of a fault, since the next crawl meets it too.
-    fn glance(&self, number: u64, reach: Reach);
+    fn glance(&self, number: u64, reach: Reach) -> Worked;
 
     /// Has the walk of a round end before its time, since the server ends.
     fn end_walk(&self);

@@ -1,11 +1,10 @@
 //! The tasks of rounds: a crawl of a root, or a glance at it.
 
-use crate::host::{Host, Worked};
+use crate::host::Host;
 use crate::server::Server;
-use crate::timing::{Took, time_since};
+use crate::timing::Took;
 use crate::walks::Look;
-use std::sync::Wait;
-use std::time::{Clock, CpuClock, Instant};
+use std::time::CpuClock;
 
 /// A task of a round.
 #[derive(Clone, Copy, Drop)]
@@ -28,19 +27,13 @@ impl Task {
     /// Does the task, and returns how long it took.
     pub(crate) fn run<R, H>(&self, rt: &R, server: &Server<H>) -> Took
     where
-        R: Wait + Clock + CpuClock,
+        R: CpuClock,
         H: Host + Drop,
     {
-        let (began, before) = (Instant::now(rt), rt.thread_cpu_time());
+        let before = rt.thread_cpu_time();
         let worked = match self {
             Task::Crawl(number) => server.host.crawl(*number, &server.stop),
-            Task::Glance(look) => {
-                server.host.glance(look.number, look.reach);
-                Worked {
-                    time: time_since(rt, began),
-                    threads: 1,
-                }
-            }
+            Task::Glance(look) => server.host.glance(look.number, look.reach),
         };
         Took::new(worked, before, rt.thread_cpu_time())
     }

@@ -31,8 +31,10 @@ use crate::progress::Progress;
 use crate::rows::Rows;
 use crate::sweep::changed_directories;
 use crate::walk::Walk;
+use crate::walkers::Walkers;
 use std::alloc::{AllocError, Global};
 use std::str;
+use std::thread::Threads;
 use wq_crawl::{Listing, TreeFault};
 use wq_view::{Kind, Reach, Recent, Record, Seen, View};
 
@@ -54,14 +56,16 @@ struct Glance<'a, 'p> {
 
 /// The listing of a glance at the files below a root with this last view. It enters a directory if it is recent, if the
 /// view has no such directory that exists, or if its row is not as its record says. It looks at the row of each
-/// directory in one that it enters, and, if it looks so far, at the rows of all directories.
-pub(crate) fn glanced<D: Disk>(
+/// directory in one that it enters, and, if it looks so far, at the rows of all directories, by up to so many threads.
+pub(crate) fn glanced<'a, T: Threads, D: Disk + Sync>(
+    threads: &T,
+    walkers: Walkers,
     progress: &Progress<'_>,
     disk: &D,
     alloc: Global,
     root: &str,
-    last: &View,
-    recent: &Recent<'_>,
+    last: &'a View,
+    recent: &Recent<'a>,
 ) -> Result<Listing, TreeFault>
     ensures lawful { IfOk result (λ listing.
         IsTrue (list_all is_lawful_row (rows_listed last.now.records listing))) }
@@ -75,11 +79,18 @@ pub(crate) fn glanced<D: Disk>(
         (IsUnread (D.says disk.now) (D.has disk.now) (D.fails disk.now) root.now) }
 {
     let path = with_slash(alloc, root)?;
-    let rows = rows_seen(progress, disk, alloc, &path, last, recent)?;
+    let swept = match recent.reach() {
+        Reach::Recent => Vec::new(alloc),
+        Reach::Changed => {
+            changed_directories(threads, walkers, progress, disk, alloc, &path, last)?
+        }
+    };
+    let rows = rows_seen(progress, disk, alloc, &path, last, recent, swept)?;
     listing_of(alloc, last, rows)
 }
 
-/// The rows of a glance at the files below a root with this last view. The root's path ends in a slash.
+/// The rows of a glance at the files below a root with this last view. It enters the directories of these rising names
+/// too. The root's path ends in a slash.
 ///
 /// If the root is deleted meanwhile, the glance fails because the root cannot be read.
 fn rows_seen<'a, D: Disk>(
@@ -89,6 +100,7 @@ fn rows_seen<'a, D: Disk>(
     root: &str,
     last: &'a View,
     recent: &Recent<'a>,
+    swept: Vec<&'a [u8]>,
 ) -> Result<Rows<'a>, TreeFault>
     ensures whole { IfOk result (λ rows. piece_records rows.piece ≡ last.now.records) }
     ensures glance { IfOk result (λ rows.
@@ -98,10 +110,6 @@ fn rows_seen<'a, D: Disk>(
     ensures fault { IfErr result
         (IsRootFault (D.says disk.now) (D.has disk.now) (D.fails disk.now) root.now) }
 {
-    let swept = match recent.reach() {
-        Reach::Recent => Vec::new(alloc),
-        Reach::Changed => changed_directories(progress, disk, alloc, root, last)?,
-    };
     let (walk, top) = Walk::begin(disk, alloc, root, whole_piece(last), progress)?;
     let mut glance = Glance {
         walk,

@@ -1,7 +1,8 @@
 //! The directories of a view whose own rows are not as the disk says now: a file came, went or was renamed there. A glance
 //! looks into them. No contract speaks of which directories these are, since nothing that is proved of a glance rests on
 //! it.
-ghost use Rattle.std.specs.Prelude.{IfErr};
+ghost use Rattle.std.specs.Prelude.{◌≤◌, IfErr};
+ghost use Rattle.std.specs.Thread.{IsSync};
 ghost use Rattle.wq_walk.specs.Told.{IsFailure};
 
 use crate::disk::Disk;
@@ -10,13 +11,31 @@ use crate::path::TreePath;
 use crate::progress::Progress;
 use crate::stat::Stat;
 use crate::walk::stat_at;
+use crate::walkers::Walkers;
 use std::alloc::{AllocError, Global};
+use std::thread::{Threads, join};
 use wq_crawl::TreeFault;
 use wq_view::{MAX_NAME, Record, View};
 
+/// The least number of records for which a thread looks.
+const LEAST: usize = 256;
+
+/// A view, beside which threads look for directories that are not as the disk says.
+#[derive(Clone, Copy)]
+struct Sweep<'a, 'p, D: Disk> {
+    progress: &'p Progress<'p>,
+    disk: &'p D,
+    alloc: Global,
+    /// The path of the root, which ends in a slash.
+    root: &'p str,
+    last: &'a View,
+}
+
 /// The names of the directories of a view whose kind, size or time is not as the disk says, and of those above them,
-/// rising. Some come twice. The root's path ends in a slash.
-pub(crate) fn changed_directories<'a, D: Disk>(
+/// rising. Some come twice. Up to so many threads look. The root's path ends in a slash.
+pub(crate) fn changed_directories<'a, T: Threads, D: Disk + Sync>(
+    threads: &T,
+    walkers: Walkers,
     progress: &Progress<'_>,
     disk: &D,
     alloc: Global,
@@ -25,20 +44,77 @@ pub(crate) fn changed_directories<'a, D: Disk>(
 ) -> Result<Vec<&'a [u8]>, TreeFault>
     ensures fault { IfErr result (IsFailure (D.fails disk.now)) }
 {
-    let mut names = Vec::new(alloc);
-    let mut path = TreePath::new(alloc, root.len());
-    for known in last.records() {
-        if !is_directory(known) {
-            continue;
-        }
-        progress.keep_on()?;
-        path.set(root.as_bytes(), known.name.as_bytes())?;
-        if !is_as(known, stat_at(disk, &path)?) {
-            add_with_those_above(&mut names, known.name.as_bytes())?;
-        }
-    }
+    let sweep = Sweep {
+        progress,
+        disk,
+        alloc,
+        root,
+        last,
+    };
+    let count = walkers.count.min(last.len() / LEAST + 1);
+    let mut names = sweep.changed_by(threads, 0, last.len(), count)?;
     names.sort_unstable();
     Ok(names)
+}
+
+impl<'a, D: Disk + Sync> Sweep<'a, '_, D> {
+    /// The names of the directories among the records from one place to another that are not as the disk says, and of
+    /// those above them. So many threads look, this one among them.
+    #[cycle(threads)]
+    fn changed_by<T: Threads>(
+        &self,
+        threads: &T,
+        from: usize,
+        to: usize,
+        count: usize,
+    ) -> Result<Vec<&'a [u8]>, TreeFault>
+        ensures { IfErr result (IsFailure (D.fails self.now.disk.now)) }
+    {
+        if count <= 1 {
+            return self.changed(from, to);
+        }
+        let left = count - 1;
+        let cut = from.saturating_add(to.saturating_sub(from) / count);
+        let other = || -> Result<Vec<&[u8]>, TreeFault>
+            ensures { IfErr result (IsFailure (D.fails self.entry.now.disk.now)) }
+        { self.changed(from, cut) };
+        let this = || -> Result<Vec<&[u8]>, TreeFault>
+            requires { IsSync D.row × 1 ≤ left }
+            ensures { IfErr result (IsFailure (D.fails self.entry.now.disk.now)) }
+        { self.changed_by(threads, cut, to, left) };
+        let (others, mine) = join(threads, other, this);
+        let mut all = others?;
+        let mut rest = mine?;
+        all.append(&mut rest)?;
+        Ok(all)
+    }
+}
+
+impl<'a, D: Disk> Sweep<'a, '_, D> {
+    /// The names of the directories among the records from one place to another that are not as the disk says, and of
+    /// those above them.
+    fn changed(&self, from: usize, to: usize) -> Result<Vec<&'a [u8]>, TreeFault>
+        ensures { IfErr result (IsFailure (D.fails self.now.disk.now)) }
+    {
+        let mut names = Vec::new(self.alloc);
+        let mut path = TreePath::new(self.alloc, self.root.len());
+        let mut left = to.saturating_sub(from);
+        for known in self.last.records_from(from) {
+            if left == 0 {
+                break;
+            }
+            left -= 1;
+            if !is_directory(known) {
+                continue;
+            }
+            self.progress.keep_on()?;
+            path.set(self.root.as_bytes(), known.name.as_bytes())?;
+            if !is_as(known, stat_at(self.disk, &path)?) {
+                add_with_those_above(&mut names, known.name.as_bytes())?;
+            }
+        }
+        Ok(names)
+    }
 }
 
 /// Whether a file is as its record says.

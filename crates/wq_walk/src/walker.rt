@@ -205,8 +205,8 @@ impl<T: Threads + Clock + Drop, D: Disk + Sync + Drop> Walker<T, D> {
     }
 }
 
-impl<T: Threads + Drop, D: Disk + Drop> Walker<T, D> {
-    /// The listing of a glance at the files below a root with this last view, by one thread: a walk that need not enter a
+impl<T: Threads + Drop, D: Disk + Sync + Drop> Walker<T, D> {
+    /// The listing of a glance at the files below a root with this last view: a walk that need not enter a
     /// directory which the view has and which is not recent, but keeps what the view has below it. It may look at the rows of all
     /// directories first, and enters those that are not as the view has them. What the last listing
     /// left out stays as it was.
@@ -231,10 +231,14 @@ impl<T: Threads + Drop, D: Disk + Drop> Walker<T, D> {
         ensures rooted { IfOk result (λ _. IsRooted (D.says self.old.disk) root.now) }
         ensures part { self.new.is_whole ≡ false }
     {
-        self.made_by.store(1, Ordering::SeqCst);
+        let walkers = self.slow.walkers(root, 1);
+        self.made_by.store(walkers.count as u64, Ordering::SeqCst);
         let listed = {
             let progress = Progress::new(Way::Gives(&self.waiting));
-            glanced(&progress, &self.disk, self.alloc, root, last, recent)
+            let threads = &self.threads;
+            glanced(
+                threads, walkers, &progress, &self.disk, self.alloc, root, last, recent,
+            )
         };
         self.is_whole = false;
         self.failures = failures_after(self.failures, &listed);
