@@ -11,7 +11,7 @@ const OF_CHOKIDAR = /[/\\]chokidar[/\\](?:esm[/\\])?index\.c?js$/;
 const OF_WATCHPACK = /[/\\]watchpack[/\\]lib[/\\]/;
 const DIRECTORIES = /(?:^|[/\\])DirectoryWatcher(?:\.js)?$/;
 
-const source = new Source(process.cwd());
+const source = new Source('.');
 const classes = new Map();
 const load = Module._load;
 

@@ -13,7 +13,7 @@ const MOST_TERMS = 1000;
 class Source {
   /** @param {string} project the directory in which the tool works; below it each first directory is a root */
   constructor(project) {
-    this.project = fs.realpathSync(project);
+    this.project = realOf(project);
     this.feeds = new Map();
     this.isTold = false;
   }
@@ -29,7 +29,7 @@ class Source {
   }
 
   rootOf(directory) {
-    return directoryOfProject(path.join(directory, 'any'), this.project);
+    return this.project === '/' ? undefined : directoryOfProject(path.join(directory, 'any'), this.project);
   }
 
   /**
@@ -77,6 +77,15 @@ class Source {
     if (!this.isTold) process.emitWarning(`wqd-chokidar: ${fault.message}; the tool looks at files by itself`);
     this.isTold = true;
     for (const place of [...feed.places]) if (!place.isEnded && place.isBegun) place.listener.failed();
+  }
+}
+
+/** A directory without links. Without one nothing is covered. */
+function realOf(directory) {
+  try {
+    return fs.realpathSync(directory);
+  } catch {
+    return '/';
   }
 }
 
