@@ -41,6 +41,16 @@ w.on('all', (event, name) => console.log(event, name)); w.on('ready', () => cons
   await tool.end();
 }
 
+/** A module that imports the chokidar that is installed. */
+async function imported() {
+  const root = tree('imported', ['src/a.js']);
+  put(path.join(root, 'node_modules/chokidar/index.js'), "exports.watch = () => { throw new Error('the other one'); };");
+  put(path.join(root, 'tool.mjs'), "import { watch } from 'chokidar';\nwatch('src').on('ready', () => console.log('ready'));");
+  const tool = new Tool(root, "import('./tool.mjs');");
+  await tool.says('an import', 'ready');
+  await tool.end();
+}
+
 /** The alias of a package: a directory named chokidar that leads to this one. */
 async function alias() {
   const root = tree('alias', ['src/a.js', 'node_modules/']);
@@ -92,4 +102,4 @@ setTimeout(() => console.log('begun'), 1000);`);
   await tool.end();
 }
 
-scene(chokidar, alias, watchFile, watchpack);
+scene(chokidar, imported, alias, watchFile, watchpack);
