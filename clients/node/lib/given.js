@@ -30,7 +30,7 @@ class Given {
   async isCovered() {
     if (this.isGlob) return false;
     const above = await realPath(path.dirname(path.resolve(this.base)));
-    return Boolean(above) && this.watcher.coversFile(path.join(above, path.basename(this.base)));
+    return Boolean(above) && this.watcher.feeds.covers(path.join(above, path.basename(this.base)));
   }
 
   async place(isPoint) {
@@ -38,7 +38,7 @@ class Given {
     const real = isPoint ? path.join(await realPath(path.dirname(whole)) || '', path.basename(whole)) : await realPath(whole);
     if (!real || this.isEnded) return;
     const { depth } = this.watcher.options;
-    this.inner = await this.watcher.placeAt({
+    this.inner = await this.watcher.feeds.placeAt({
       shown: this.base, real, chain: [], isInitial: this.isInitial, isPoint, glob: this.isGlob ? this.matchers() : undefined,
       depth: depth === undefined ? Infinity : depth, text: this.isGlob ? this.text : undefined,
     });

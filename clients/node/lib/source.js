@@ -66,9 +66,11 @@ class Source {
   }
 
   begin(root) {
-    const feed = new Feed(
-      root, true, () => expressionOf(feed), async (changes, isThere) => tell(feed, changes, isThere), (fault) => this.fail(feed, fault),
-    );
+    const feed = new Feed(root, true, {
+      expression: () => expressionOf(feed),
+      tell: async (changes, isThere) => tell(feed, changes, isThere),
+      fail: (fault) => this.fail(feed, fault),
+    });
     this.feeds.set(root, feed);
     return feed;
   }
