@@ -1,6 +1,6 @@
 'use strict';
-// node --require wqd-chokidar/register TOOL: the tool's chokidar is this package, webpack's watchpack hears of changes from the
-// server, and so does what calls fs.watchFile.
+// node --require wqd-chokidar/register TOOL: the tool's chokidar is this package, webpack's watchpack hears of changes
+// from the server, and so does what calls fs.watchFile.
 
 const Module = require('module');
 const { Source } = require('./lib/source');

@@ -1,6 +1,6 @@
 'use strict';
-// A feed: one subscription of a watched root, and the files of its lists. It lasts over restarts of the server, and over a
-// root that goes and comes back.
+// A feed: one subscription of a watched root, and the files of its lists. It lasts over restarts of the server, and
+// over a root that goes and comes back.
 
 const fs = require('fs');
 const { Haste } = require('./haste');
@@ -21,8 +21,8 @@ class Feed {
   /**
    * @param {string} root an absolute path without links
    * @param {boolean} keeps whether it keeps the process alive
-   * @param {object} uses `expression()` is what the places of this feed need; `tell(changes, isThere)` takes changes, one call
-   *   after the other; `fail(fault)` takes the reason if the server does not watch the root
+   * @param {object} uses `expression()` is what the places of this feed need; `tell(changes, isThere)` takes changes,
+   *   one call after the other; `fail(fault)` takes the reason if the server does not watch the root
    */
   constructor(root, keeps, uses) {
     Object.assign(this, { root, keeps }, uses);
@@ -116,7 +116,8 @@ class Feed {
       this.isAsking = false;
       if (this.isClosed || !this.isBegun) return;
       this.asked += 1;
-      const reply = await this.session.ask('subscribe', this.root, this.name, { fields: FIELDS, expression: this.expression() });
+      const query = { fields: FIELDS, expression: this.expression() };
+      const reply = await this.session.ask('subscribe', this.root, this.name, query);
       if (!reply.error || OF_SERVER.test(reply.error)) return;
       this.asked -= 1;
       this.fail(new Error(`wqd does not tell changes below ${this.root}: ${reply.error}`));

@@ -35,12 +35,15 @@ class Given {
 
   async place(isPoint) {
     const whole = path.resolve(this.base);
-    const real = isPoint ? path.join(await realPath(path.dirname(whole)) || '', path.basename(whole)) : await realPath(whole);
+    const above = isPoint && await realPath(path.dirname(whole));
+    const real = above ? path.join(above, path.basename(whole)) : await realPath(whole);
     if (!real || this.isEnded) return;
     const { depth } = this.watcher.options;
     this.inner = await this.watcher.feeds.placeAt({
-      shown: this.base, real, chain: [], isInitial: this.isInitial, isPoint, glob: this.isGlob ? this.matchers() : undefined,
-      depth: depth === undefined ? Infinity : depth, text: this.isGlob ? this.text : undefined,
+      shown: this.base, real, chain: [], isInitial: this.isInitial, isPoint,
+      depth: depth === undefined ? Infinity : depth,
+      glob: this.isGlob ? this.matchers() : undefined,
+      text: this.isGlob ? this.text : undefined,
     });
     if (this.isEnded) this.inner.end(false);
     else await this.inner.begin();

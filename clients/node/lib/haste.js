@@ -1,7 +1,7 @@
 'use strict';
-// On a tree whose every answer comes late, as over a network, the server's own rounds take seconds, since one thread makes
-// them. A scan for a client is made by many threads, so a feed asks for one after the other there. A tree in memory is left
-// to the rounds, whose share of a processor somebody chose.
+// On a tree whose every answer comes late, as over a network, the server's own rounds take seconds, since one thread
+// makes them. A scan for a client is made by many threads, so a feed asks for one after the other. A tree in memory
+// is left to the rounds, whose share of a processor somebody chose.
 
 const fs = require('fs');
 const path = require('path');
@@ -60,8 +60,8 @@ class Haste {
 /** Whether most of the first files of a directory take long to answer. */
 function isLate(directory) {
   try {
-    const names = fs.readdirSync(directory).slice(0, LOOKS - 1);
-    const times = [directory, ...names.map((name) => path.join(directory, name))].map(timeOf).sort((one, other) => one - other);
+    const names = ['', ...fs.readdirSync(directory).slice(0, LOOKS - 1)];
+    const times = names.map((name) => timeOf(path.join(directory, name))).sort((one, other) => one - other);
     return times[Math.floor(times.length / 2)] > LATE;
   } catch {
     return false;

@@ -1,6 +1,6 @@
 'use strict';
-// Notes of the roots that tools had the server watch, in the form of `wq`. So a root that nobody needs can be given up when
-// 16 are watched, by `wq`, by other adapters and by this package.
+// Notes of the roots that tools had the server watch, in the form of `wq`. So a root that nobody needs can be given up
+// when 16 are watched, by `wq`, by other adapters and by this package.
 
 const crypto = require('crypto');
 const fs = require('fs');
@@ -76,7 +76,7 @@ class Notes {
   isOpen(root) {
     try {
       const { ino } = fs.lstatSync(this.pathOf('windows', root));
-      return fs.readFileSync('/proc/locks', 'utf8').split('\n').some((line) => line.split(/\s+/).some((word) => word.endsWith(`:${ino}`)));
+      return fs.readFileSync('/proc/locks', 'utf8').split(/\s+/).some((word) => word.endsWith(`:${ino}`));
     } catch {
       return false;
     }

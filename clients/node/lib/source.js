@@ -1,5 +1,5 @@
 'use strict';
-// Tells which names in a directory of the project changed. Tools that look at directories by themselves hear of them so.
+// Tells which names in a directory of the project changed, for tools that look at directories by themselves.
 
 const fs = require('fs');
 const path = require('path');
@@ -35,8 +35,8 @@ class Source {
   /**
    * Tells changes in a directory.
    * @param {string} directory one that is covered
-   * @param {object} listener `changed(name, comesOrGoes, isDirectory)`; `begun()` when the server tells changes from now on;
-   *   `went()` when the directory is gone; `failed()` if no server tells them
+   * @param {object} listener `changed(name, comesOrGoes, isDirectory)`; `begun()` when the server tells changes from
+   *   now on; `went()` when the directory is gone; `failed()` if no server tells them
    * @returns {() => void} ends that
    */
   join(directory, listener) {
@@ -95,7 +95,8 @@ function realOf(directory) {
 function expressionOf(feed) {
   const names = [...new Set([...feed.places].map((place) => place.below))];
   if (names.length > MOST_TERMS) return 'true';
-  return ['anyof', ['name', names.filter((name) => name !== ''), 'wholename'], ...names.map((name) => ['dirname', name, ['depth', 'eq', 0]])];
+  const inside = names.map((name) => ['dirname', name, ['depth', 'eq', 0]]);
+  return ['anyof', ['name', names.filter((name) => name !== ''), 'wholename'], ...inside];
 }
 
 function tell(feed, changes, isThere) {
@@ -109,7 +110,9 @@ function tell(feed, changes, isThere) {
     if (!isOther(before, after)) continue;
     const isDirectory = (after || before).kind === 'd';
     const above = name.includes('/') ? name.slice(0, name.lastIndexOf('/')) : '';
-    for (const place of places.get(above) || []) place.listener.changed(path.posix.basename(name), !before || !after, isDirectory);
+    for (const { listener } of places.get(above) || []) {
+      listener.changed(path.basename(name), !before || !after, isDirectory);
+    }
     if (!after) for (const place of places.get(name) || []) place.listener.went();
   }
 }
