@@ -6,7 +6,7 @@ const crypto = require('crypto');
 const fs = require('fs');
 const path = require('path');
 const { runAt, runOf } = require('./owner');
-const { notesDirectory } = require('./sockname');
+const { mayKeepNotes, notesDirectory } = require('./sockname');
 
 // `wq` has these words for a root that is needed while a window is open, and for one that was asked about some times.
 const WINDOW = 'window';
@@ -47,7 +47,7 @@ class Notes {
   }
 
   write(root, note) {
-    if (!this.run) return;
+    if (!this.run || !mayKeepNotes()) return;
     const file = this.pathOf('roots', root);
     try {
       fs.mkdirSync(path.dirname(file), { recursive: true, mode: 0o700 });
