@@ -1,26 +1,32 @@
 'use strict';
-// node --require wqd-chokidar/register TOOL: the tool's `require('chokidar')` is this package, webpack's watchpack hears of
-// changes from the server, and so does what calls fs.watchFile.
+// node --require wqd-chokidar/register TOOL: the tool's chokidar is this package, webpack's watchpack hears of changes
+// from the server, and so does what calls fs.watchFile.
 
 const Module = require('module');
 const { Source } = require('./lib/source');
 const { served } = require('./lib/watchpack');
 const { patchWatchFile } = require('./lib/watchfile');
 
-const OF_CHOKIDAR = /[/\\]chokidar[/\\](?:esm[/\\])?index\.c?js$/;
-const OF_WATCHPACK = /[/\\]watchpack[/\\]lib[/\\]/;
-const DIRECTORIES = /(?:^|[/\\])DirectoryWatcher(?:\.js)?$/;
+const OF_CHOKIDAR = /[/\\]chokidar[/\\]index\.js$/;
+const DIRECTORIES = /[/\\]watchpack[/\\]lib[/\\]DirectoryWatcher\.js$/;
 
-const source = new Source(process.cwd());
-const classes = new Map();
+const source = new Source('.');
 const load = Module._load;
+const compile = Module._extensions['.js'];
 
-Module._load = function answered(request, parent, isMain) {
-  if (request === 'chokidar' || OF_CHOKIDAR.test(request)) return require('.');
-  const found = load.call(this, request, parent, isMain);
-  if (!DIRECTORIES.test(request) || !parent || !OF_WATCHPACK.test(parent.filename || '')) return found;
-  if (!classes.has(found)) classes.set(found, Object.assign(served(found, source), found));
-  return classes.get(found);
+/** A tool that requires chokidar gets this package, also if there is no other. */
+Module._load = function loaded(request, ...rest) {
+  return request === 'chokidar' ? require('.') : load.call(this, request, ...rest);
+};
+
+/** Modules that import chokidar, and those that name its file, come by here. */
+Module._extensions['.js'] = function compiled(module, filename) {
+  if (OF_CHOKIDAR.test(filename)) {
+    module.exports = require('.');
+    return;
+  }
+  compile(module, filename);
+  if (DIRECTORIES.test(filename)) module.exports = Object.assign(served(module.exports, source), module.exports);
 };
 
 patchWatchFile(source);

@@ -23,7 +23,9 @@ async function directories() {
   same('what is above comes first', came, ['addDir new', 'addDir new/deep', 'add new/deep/c.txt']);
   fs.renameSync(path.join(root, 'new'), path.join(root, 'old'));
   const moved = await watched.sees('a directory that moves', [
-    'unlink new/deep/c.txt', 'unlinkDir new/deep', 'unlinkDir new', 'addDir old', 'addDir old/deep', 'add old/deep/c.txt']);
+    'unlink new/deep/c.txt', 'unlinkDir new/deep', 'unlinkDir new',
+    'addDir old', 'addDir old/deep', 'add old/deep/c.txt',
+  ]);
   same('what is below goes first', moved.slice(0, 3), ['unlink new/deep/c.txt', 'unlinkDir new/deep', 'unlinkDir new']);
   fs.renameSync(path.join(root, 'old/deep/c.txt'), path.join(root, 'a.txt'));
   await watched.sees('a save by a rename', ['unlink old/deep/c.txt', 'change a.txt']);
@@ -32,7 +34,9 @@ async function directories() {
   put(path.join(root, 'd'));
   await watched.sees('a file in the place of a directory', ['unlink d/b.txt', 'unlinkDir d', 'add d']);
   same('what is watched', watched.watcher.getWatched(), {
-    [path.dirname(root)]: ['events'], [root]: ['a.txt', 'd', 'old'], [path.join(root, 'old')]: ['deep'], [path.join(root, 'old/deep')]: [] });
+    [path.dirname(root)]: ['events'], [root]: ['a.txt', 'd', 'old'],
+    [path.join(root, 'old')]: ['deep'], [path.join(root, 'old/deep')]: [],
+  });
   same('no error', watched.errors, []);
   const ended = watched.watcher.close();
   same('close gives a promise', ended instanceof Promise && watched.watcher.close() === ended, true);

@@ -15,7 +15,9 @@ async function followed() {
   const watched = new Watched(root, {}, root);
   await watched.ready;
   await watched.sees('links are followed, but not around', [
-    'addDir .', 'add a.txt', 'addDir d', 'add d/b.txt', 'addDir far', 'add far/o.txt', 'addDir far/e', 'add far/e/p.txt', 'add near.txt']);
+    'addDir .', 'add a.txt', 'addDir d', 'add d/b.txt', 'addDir far', 'add far/o.txt', 'addDir far/e',
+    'add far/e/p.txt', 'add near.txt',
+  ]);
   put(path.join(outside, 'e/p.txt'), 'longer');
   put(path.join(root, 'a.txt'), 'longer');
   await watched.sees('changes behind links', ['change far/e/p.txt', 'change a.txt', 'change near.txt']);
@@ -23,7 +25,8 @@ async function followed() {
   await watched.sees('a link that leads somewhere now', ['add nowhere', 'add broken']);
   fs.unlinkSync(path.join(root, 'far'));
   fs.unlinkSync(path.join(root, 'near.txt'));
-  await watched.sees('links that go', ['unlink far/o.txt', 'unlink far/e/p.txt', 'unlinkDir far/e', 'unlinkDir far', 'unlink near.txt']);
+  await watched.sees('links that go', [
+    'unlink far/o.txt', 'unlink far/e/p.txt', 'unlinkDir far/e', 'unlinkDir far', 'unlink near.txt']);
   fs.symlinkSync(path.join(outside, 'e'), path.join(root, 'far'));
   await watched.sees('a link that leads elsewhere', ['addDir far', 'add far/p.txt']);
   await watched.watcher.close();

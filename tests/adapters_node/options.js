@@ -6,8 +6,13 @@ const path = require('path');
 const { Watched, chokidar, pause, put, same, scene, tree } = require('./scene');
 
 const FILES = ['a.js', 'b.css', 'node_modules/m/i.js', 'src/c.js', 'src/deep/d.js', '.git/HEAD'];
-const DIRECTORIES = ['addDir .', 'addDir node_modules', 'addDir node_modules/m', 'addDir src', 'addDir src/deep', 'addDir .git'];
-const SOURCES = ['addDir .', 'add a.js', 'add b.css', 'addDir src', 'add src/c.js', 'addDir src/deep', 'add src/deep/d.js'];
+const DIRECTORIES = [
+  'addDir .', 'addDir node_modules', 'addDir node_modules/m', 'addDir src', 'addDir src/deep', 'addDir .git',
+];
+const SOURCES = [
+  'addDir .', 'add a.js', 'add b.css', 'addDir src', 'add src/c.js', 'addDir src/deep', 'add src/deep/d.js',
+];
+const isOfGit = (one, stats) => Boolean(stats) && one.endsWith('.git') && stats.isDirectory();
 
 async function ignored() {
   const root = tree('ignored', FILES);
@@ -16,7 +21,7 @@ async function ignored() {
     ['globs of a name', ['**/node_modules', '**/.git'], SOURCES],
     ['an expression', /node_modules|[/]\.git/, SOURCES],
     ['a plain word as an expression, and a path', [/node_modules/, path.join(root, '.git')], SOURCES],
-    ['functions', [(one) => one.includes('node_modules'), (one, stats) => Boolean(stats) && one.endsWith('.git') && stats.isDirectory()], SOURCES],
+    ['functions', [(one) => one.includes('node_modules'), isOfGit], SOURCES],
     ['all files of a kind', '**/*.js', ['add b.css', ...DIRECTORIES, 'add .git/HEAD']],
     ['but not these', ['**/*.js', '!**/c.js'], ['add b.css', ...DIRECTORIES, 'add .git/HEAD', 'add src/c.js']],
     ['the directory itself', root, []],
@@ -26,8 +31,7 @@ async function ignored() {
     await watched.sees(`ignored: ${title}`, expected);
     put(path.join(root, 'node_modules/m/i.js'), String(Date.now() + title.length));
     put(path.join(root, 'b.css'), `${Date.now()}${title}`);
-    const changes = ['change b.css', ...(expected.includes('add node_modules/m/i.js') ? ['change node_modules/m/i.js'] : [])];
-    await watched.sees(`ignored: ${title}, changes`, title === 'the directory itself' ? [] : changes);
+    await watched.sees(`ignored: ${title}, changes`, expected.length > 0 ? ['change b.css'] : []);
     await watched.watcher.close();
   }
 }
@@ -91,14 +95,18 @@ async function stats() {
   for (const alwaysStat of [false, true]) {
     const found = [];
     const watcher = chokidar.watch(root, { alwaysStat });
-    watcher.on('add', (name, is) => found.push([is.isFile(), is.size, is.mtime instanceof Date, is.ino === fs.statSync(name).ino]));
+    watcher.on('add', (name, is) => {
+      found.push([is.isFile(), is.size, is.mtime instanceof Date, is.ino === fs.statSync(name).ino]);
+    });
     watcher.on('addDir', (name, is) => found.push([is.isDirectory()]));
     await new Promise((resolve) => { watcher.on('ready', () => setTimeout(resolve, 100)); });
     same(`stats, alwaysStat ${alwaysStat}`, found, [[true], [true, 5, true, alwaysStat]]);
     await watcher.close();
   }
   const { options } = chokidar.watch([], { usePolling: true, interval: 7 });
-  same('options can be read', [options.usePolling, options.interval, options.persistent, options.atomic], [true, 7, true, false]);
+  const { usePolling, interval, persistent, atomic: isAtomic } = options;
+  same('options can be read', { usePolling, interval, persistent, isAtomic },
+    { usePolling: true, interval: 7, persistent: true, isAtomic: false });
 }
 
 scene(ignored, depthAndInitial, atomic, awaitWriteFinish, stats);

@@ -1,5 +1,5 @@
 'use strict';
-// Paths as tools give them: files, files that are not there, lists, globs, from a working directory, and taken out again.
+// Paths as tools give them: files, also absent ones, lists, globs, from a working directory, and taken out again.
 
 const fs = require('fs');
 const path = require('path');
@@ -41,16 +41,19 @@ async function directoriesThatComeLater() {
   await watched.watcher.close();
 }
 
+const SRC = ['addDir src', 'add src/a.js', 'add src/b.css'];
+const LIB = ['addDir lib', 'add lib/c.js'];
+
 async function names() {
   const root = tree('names', ['src/a.js', 'src/b.css', 'lib/c.js']);
   process.chdir(root);
   for (const [title, paths, options, expected] of [
-    ['a relative directory', './src/', {}, ['addDir src', 'add src/a.js', 'add src/b.css']],
+    ['a relative directory', './src/', {}, SRC],
     ['the directory itself', '.', { depth: 0 }, ['addDir .', 'addDir src', 'addDir lib']],
     ['a glob', 'src/*.js', {}, ['add src/a.js']],
-    ['a list, with one twice', [['src', 'src'], 'lib'], {}, ['addDir src', 'add src/a.js', 'add src/b.css', 'addDir lib', 'add lib/c.js']],
-    ['one in the other', ['.', 'src'], {}, ['addDir .', 'addDir src', 'add src/a.js', 'add src/b.css', 'addDir lib', 'add lib/c.js']],
-    ['cwd', ['src', 'lib/*.js'], { cwd: root }, ['addDir src', 'add src/a.js', 'add src/b.css', 'add lib/c.js']],
+    ['a list, with one twice', [['src', 'src'], 'lib'], {}, [...SRC, ...LIB]],
+    ['one in the other', ['.', 'src'], {}, ['addDir .', ...SRC, ...LIB]],
+    ['cwd', ['src', 'lib/*.js'], { cwd: root }, [...SRC, 'add lib/c.js']],
     ['what is left out by !', ['src', '!**/*.css'], {}, ['addDir src', 'add src/a.js']],
     ['no globbing', 'src/*.js', { disableGlobbing: true }, []],
   ]) {

@@ -51,7 +51,8 @@ async function stopped() {
 /** A process that nothing keeps ends by itself, and one with a watcher does not. */
 async function processes() {
   const root = tree('alive', ['a']);
-  const script = `const w = require(${JSON.stringify(HOME)}).watch(${JSON.stringify(root)}, { persistent: process.argv[1] === 'keeps' });
+  const script = `const { watch } = require(${JSON.stringify(HOME)});
+const w = watch(${JSON.stringify(root)}, { persistent: process.argv[1] === 'keeps' });
 w.on('ready', () => console.log('ready')); setTimeout(() => {}, 1500);`;
   const run = (word) => {
     try {
@@ -62,7 +63,8 @@ w.on('ready', () => console.log('ready')); setTimeout(() => {}, 1500);`;
   };
   same('persistent: false', run('lets'), 'ready\n');
   same('persistent', run('keeps'), 'ETIMEDOUT');
-  same('a root of a process that was killed can be given up', fs.readdirSync(path.join(room, 'state', 'wq', 'roots')).length > 0, true);
+  const notes = fs.readdirSync(path.join(room, 'state', 'wq', 'roots'));
+  same('a root of a process that was killed can be given up', notes.length > 0, true);
 }
 
 scene(killed, deleted, stopped, processes);

@@ -14,7 +14,7 @@ class Tool {
     put(path.join(root, 'tool.js'), script);
     this.lines = [];
     this.child = spawn(process.execPath, [...words, 'tool.js'], { cwd: root, stdio: ['ignore', 'pipe', 'inherit'] });
-    this.child.stdout.on('data', (data) => this.lines.push(...String(data).trim().split('\n')));
+    this.child.stdout.on('data', (data) => this.lines.push(...String(data).split("\n")));
   }
 
   async says(name, line) {
@@ -41,6 +41,18 @@ w.on('all', (event, name) => console.log(event, name)); w.on('ready', () => cons
   await tool.end();
 }
 
+/** A module that imports the chokidar that is installed. */
+async function imported() {
+  const root = tree('imported', ['src/a.js']);
+  const other = path.join(root, 'node_modules/chokidar/index.js');
+  put(other, "exports.watch = () => { throw new Error('the other one'); };");
+  put(path.join(root, 'tool.mjs'), `import { watch } from 'chokidar';
+watch('src').on('ready', () => console.log('ready'));`);
+  const tool = new Tool(root, "import('./tool.mjs');");
+  await tool.says('an import', 'ready');
+  await tool.end();
+}
+
 /** The alias of a package: a directory named chokidar that leads to this one. */
 async function alias() {
   const root = tree('alias', ['src/a.js', 'node_modules/']);
@@ -53,7 +65,9 @@ async function alias() {
 async function watchFile() {
   const root = tree('bundle', ['src/a.js', 'src/d/b.js', 'top.js']);
   const tool = new Tool(root, `const fs = require('fs');
-for (const one of ['src/a.js', 'src/d', 'top.js']) fs.watchFile(one, { interval: 200 }, (now, before) => console.log(one, now.size !== before.size));
+for (const one of ['src/a.js', 'src/d', 'top.js']) {
+  fs.watchFile(one, { interval: 200 }, (now, before) => console.log(one, now.size !== before.size));
+}
 setTimeout(() => console.log('begun'), 700);`);
   await tool.says('a tool with fs.watchFile', 'begun');
   put(path.join(root, 'src/a.js'), 'longer');
@@ -76,20 +90,22 @@ async function watchpack() {
   const root = tree('packed', ['src/a.js', 'src/d/b.js']);
   const tool = new Tool(root, `const Watchpack = require('watchpack'), path = require('path');
 const w = new Watchpack({ aggregateTimeout: 20, poll: 60000 });
-w.watch({ files: [path.resolve('src/a.js')], directories: [path.resolve('src/d')], missing: [path.resolve('src/no.js')], startTime: Date.now() });
-w.on('aggregated', (changes, removals) => console.log([...changes, '-', ...removals].map((one) => path.relative('.', one)).join(' ').replace('..', '-')));
+const [file, directory, no] = ['src/a.js', 'src/d', 'src/no.js'].map((one) => path.resolve(one));
+const names = (found) => [...found].map((one) => path.relative('.', one)).join(' ');
+w.watch({ files: [file], directories: [directory], missing: [no], startTime: Date.now() });
+w.on('aggregated', (changes, removals) => console.log('changed ' + names(changes) + ', gone ' + names(removals)));
 setTimeout(() => console.log('begun'), 1000);`);
   await tool.says('watchpack', 'begun');
   put(path.join(root, 'src/a.js'), 'longer');
-  await tool.says('a file changes', 'src/a.js -');
+  await tool.says('a file changes', 'changed src/a.js, gone ');
   put(path.join(root, 'src/d/e/new.js'));
-  await tool.says('a directory has more', 'src/d -');
+  await tool.says('a directory has more', 'changed src/d, gone ');
   put(path.join(root, 'src/no.js'));
-  await tool.says('a file comes that was missing', 'src/no.js -');
+  await tool.says('a file comes that was missing', 'changed src/no.js, gone ');
   server.kill();
   fs.unlinkSync(path.join(root, 'src/a.js'));
-  await tool.says('a file goes while no server runs', '- src/a.js');
+  await tool.says('a file goes while no server runs', 'changed , gone src/a.js');
   await tool.end();
 }
 
-scene(chokidar, alias, watchFile, watchpack);
+scene(chokidar, imported, alias, watchFile, watchpack);

@@ -183,7 +183,7 @@ def check_overtaken_lists(tally: built.Tally, room: Path) -> None:
         tree.scan()
         same(tally, "by scans", marks(tree.changes.taken(), str(root)), ["~ a", "+ new"])
         tree.take(tree.box.get(timeout=PATIENCE))
-        same(tally, "by the list", tree.changes.has_some(), False)
+        same(tally, "by the list", tree.changes.taken(), [])
         tree.close()
         server.close()
 

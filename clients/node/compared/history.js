@@ -51,7 +51,7 @@ class History {
     return path.join(this.root, this.pick(DIRECTORIES));
   }
 
-  /** A file gets other content. No two have one length: nobody who polls sees that a file took the place of its like. */
+  /** A file gets other content. No two have one length: who polls does not see a file in the place of its like. */
   write(file) {
     this.writes += 1;
     fs.writeFileSync(file, 'x'.repeat(this.writes));
@@ -65,18 +65,29 @@ class History {
     this.written.set(to, Date.now());
   }
 
+  /** As an editor does: a file beside it takes its place. */
+  save(file) {
+    this.write(`${file}~`);
+    fs.renameSync(`${file}~`, file);
+    this.written.set(file, Date.now());
+  }
+
+  burst(directory) {
+    for (let number = 0; number < BURST; number += 1) this.write(path.join(directory, `n${number}.js`));
+  }
+
   change() {
     const kinds = {
       write: () => this.write(this.file()),
       append: () => { const file = this.file(); fs.accessSync(file); this.write(file); },
-      save: () => { const file = this.file(); this.write(`${file}~`); fs.renameSync(`${file}~`, file); this.written.set(file, Date.now()); },
+      save: () => this.save(this.file()),
       rename: () => this.rename(this.file(), this.file()),
       remove: () => fs.unlinkSync(this.file()),
       again: () => { const file = this.file(); fs.unlinkSync(file); this.write(file); },
       mkdir: () => fs.mkdirSync(this.directory()),
       rmdir: () => fs.rmSync(this.directory(), { recursive: true }),
       move: () => fs.renameSync(this.directory(), this.directory()),
-      burst: () => { const at = this.directory(); for (let i = 0; i < BURST; i += 1) this.write(path.join(at, `n${i}.js`)); },
+      burst: () => this.burst(this.directory()),
       link: () => fs.symlinkSync(path.join(this.root, 'one.js'), path.join(this.directory(), 'link.js')),
       enter: () => fs.symlinkSync(path.join(this.outside, 'x'), path.join(this.directory(), 'far')),
       unlink: () => fs.unlinkSync(path.join(this.directory(), this.pick(['far', 'link.js']))),

@@ -13,7 +13,10 @@ const KINDS = [
   { title: 'by polling, as it is', options: { usePolling: true }, wants: everything },
   { title: 'cwd', paths: () => '.', options: (root) => ({ cwd: root }), wants: everything },
   { title: 'ignored: a glob', options: { ignored: '**/*.txt' }, wants: (name) => !name.endsWith('.txt') },
-  { title: 'ignored: a directory', options: (root) => ({ ignored: [path.join(root, 'b')] }), wants: (name) => steps(name)[0] !== 'b' },
+  {
+    title: 'ignored: a directory', options: (root) => ({ ignored: [path.join(root, 'b')] }),
+    wants: (name) => steps(name)[0] !== 'b',
+  },
   { title: 'ignored: an expression', options: { ignored: /[/]c($|[/])/ }, wants: (name) => !steps(name).includes('c') },
   {
     title: 'ignored: a function', options: { ignored: (one, stats) => Boolean(stats) && stats.isFile() && !isJs(one) },
@@ -23,7 +26,10 @@ const KINDS = [
   { title: 'a glob', paths: (root) => `${root}/**/*.js`, wants: (name, isDirectory) => !isDirectory && isJs(name) },
   { title: 'no followSymlinks', options: { followSymlinks: false }, wants: everything, follows: false },
   { title: 'alwaysStat', options: { alwaysStat: true }, wants: everything },
-  { title: 'awaitWriteFinish', options: { awaitWriteFinish: { stabilityThreshold: 150, pollInterval: 30 } }, wants: everything },
+  {
+    title: 'awaitWriteFinish', options: { awaitWriteFinish: { stabilityThreshold: 150, pollInterval: 30 } },
+    wants: everything,
+  },
   { title: 'atomic', options: { usePolling: true, atomic: true }, wants: everything },
   { title: 'ignoreInitial', options: { ignoreInitial: true }, wants: everything },
 ];

@@ -24,8 +24,10 @@ class Picture {
   take(event, name) {
     this.last.set(name, Date.now());
     const isThere = this.files.has(name);
-    if (!this.history.existed.has(name) && !this.existsNow(name)) this.faults.push(`${event} of ${name}, which was never there`);
-    if (event.startsWith('unlink') || event === 'change' ? !isThere : isThere) this.faults.push(`${event} of ${name} twice`);
+    const wasThere = this.history.existed.has(name) || this.existsNow(name);
+    if (!wasThere) this.faults.push(`${event} of ${name}, which was never there`);
+    const needsIt = event.startsWith('unlink') || event === 'change';
+    if (needsIt !== isThere) this.faults.push(`${event} of ${name} twice`);
     if (event.startsWith('unlink')) this.files.delete(name);
     else if (event !== 'change') this.files.set(name, event === 'addDir' ? 'directory' : 'file');
   }
@@ -43,15 +45,20 @@ class Picture {
   /** What should be told of the tree as it is. */
   wanted() {
     const all = walked(this.history.root, this.kind.follows !== false);
-    return new Map([...all].filter(([name, is]) => (name === '' ? this.kind.wants('', true) : this.kind.wants(name, is === 'directory'))));
+    return new Map([...all].filter(([name, is]) => this.kind.wants(name, is === 'directory')));
   }
 
   /** How the picture differs from the tree. */
   differences() {
     const wanted = this.wanted();
     const found = [];
-    for (const [name, is] of wanted) if (this.files.get(name) !== is) found.push(`${name || '.'} is a ${is}, and was told as ${this.files.get(name)}`);
-    for (const name of this.files.keys()) if (!wanted.has(name)) found.push(`${name || '.'} is not there, and was told`);
+    for (const [name, is] of wanted) {
+      const told = this.files.get(name);
+      if (told !== is) found.push(`${name || '.'} is a ${is}, and was told as ${told}`);
+    }
+    for (const name of this.files.keys()) {
+      if (!wanted.has(name)) found.push(`${name || '.'} is not there, and was told`);
+    }
     return found;
   }
 
@@ -60,7 +67,8 @@ class Picture {
     const found = [];
     for (const [name, is] of this.wanted()) {
       const written = this.history.written.get(path.join(this.history.root, name)) || 0;
-      if (is === 'file' && written > since && !((this.last.get(name) || 0) >= written)) found.push(`no event of ${name} after its last write`);
+      const told = this.last.get(name) || 0;
+      if (is === 'file' && written > since && told < written) found.push(`no event of ${name} after its last write`);
     }
     return found;
   }

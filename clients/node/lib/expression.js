@@ -31,8 +31,8 @@ function termOf({ below, depth, text }) {
   const deep = Number.isFinite(depth) ? [['depth', 'le', Math.max(depth, 0)]] : [];
   const inside = below === '' && deep.length === 0 ? 'true' : ['dirname', below, ...deep];
   const suffixes = text && SUFFIXES.exec(text);
-  const limited = suffixes
-    ? ['allof', inside, ['anyof', ['not', ['type', 'f']], ['suffix', (suffixes[1] || suffixes[2]).split(',')]]] : inside;
+  const listed = suffixes && (suffixes[1] || suffixes[2]).split(',');
+  const limited = listed ? ['allof', inside, ['anyof', ['not', ['type', 'f']], ['suffix', listed]]] : inside;
   return below === '' ? limited : ['anyof', ['name', below, 'wholename'], limited];
 }
 

@@ -1,11 +1,12 @@
 'use strict';
-// A feed: one subscription of a watched root, and the files of its lists. It lasts over restarts of the server, and over a
-// root that goes and comes back.
+// A feed: one subscription of a watched root, and the files of its lists. It lasts over restarts of the server, and
+// over a root that goes and comes back.
 
 const fs = require('fs');
 const { Haste } = require('./haste');
 const hub = require('./hub');
 const { staysBelow } = require('./names');
+const { Rows } = require('./rows');
 
 const FIELDS = ['name', 'exists', 'type', 'size', 'mtime_ms'];
 // How soon a root that went is noticed, in milliseconds: the server keeps the last view of one.
@@ -19,14 +20,14 @@ const OF_SERVER = /^(ended|E17|E60)/;
 class Feed {
   /**
    * @param {string} root an absolute path without links
-   * @param {() => object} expression what the places of this feed need
-   * @param {(changes: object[], isThere: boolean) => Promise<void>} tell takes changes, one call after the other
-   * @param {(fault: Error) => void} fail takes the reason if the server does not watch the root
+   * @param {boolean} keeps whether it keeps the process alive
+   * @param {object} uses `expression()` is what the places of this feed need; `tell(changes, isThere)` takes changes,
+   *   one call after the other; `fail(fault)` takes the reason if the server does not watch the root
    */
-  constructor(root, keeps, expression, tell, fail) {
-    Object.assign(this, { root, keeps, expression, tell, fail });
+  constructor(root, keeps, uses) {
+    Object.assign(this, { root, keeps }, uses);
     this.name = hub.newName();
-    this.rows = new Map();
+    this.rows = new Rows();
     this.places = new Set();
     this.isGone = false;
     this.isRefused = false;
@@ -115,7 +116,8 @@ class Feed {
       this.isAsking = false;
       if (this.isClosed || !this.isBegun) return;
       this.asked += 1;
-      const reply = await this.session.ask('subscribe', this.root, this.name, { fields: FIELDS, expression: this.expression() });
+      const query = { fields: FIELDS, expression: this.expression() };
+      const reply = await this.session.ask('subscribe', this.root, this.name, query);
       if (!reply.error || OF_SERVER.test(reply.error)) return;
       this.asked -= 1;
       this.fail(new Error(`wqd does not tell changes below ${this.root}: ${reply.error}`));
@@ -146,28 +148,12 @@ class Feed {
     const files = list.files.filter((file) => staysBelow(file.name));
     if (list.is_fresh_instance) {
       // Of a root that went the server has the last view.
-      this.takeAll(this.isGone ? [] : files);
+      this.queue(this.rows.replace(this.isGone ? [] : files));
       this.listed += 1;
       this.settle(this.listed);
     } else if (!this.isGone) {
-      this.queue(files.map((file) => this.changed(file)));
+      this.queue(files.map((file) => this.rows.put(file)));
     }
-  }
-
-  /** Takes a list of all files: those that it does not have are gone. */
-  takeAll(files) {
-    const names = new Set(files.map((file) => file.name));
-    const gone = [...this.rows.keys()].filter((name) => !names.has(name)).map((name) => this.changed({ name, exists: false }));
-    this.queue([...gone, ...files.map((file) => this.changed(file))]);
-  }
-
-  /** Puts a file into the rows; gives its name and what it was and is. */
-  changed(file) {
-    const before = this.rows.get(file.name);
-    const after = file.exists ? { kind: file.type, size: file.size, mtimeMs: file.mtime_ms } : undefined;
-    if (after) this.rows.set(file.name, after);
-    else this.rows.delete(file.name);
-    return { name: file.name, before, after };
   }
 
   queue(changes) {
@@ -195,7 +181,7 @@ class Feed {
   leave() {
     if (this.isGone) return;
     this.isGone = true;
-    this.takeAll([]);
+    this.queue(this.rows.replace([]));
   }
 
   comeBack() {

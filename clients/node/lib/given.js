@@ -30,17 +30,20 @@ class Given {
   async isCovered() {
     if (this.isGlob) return false;
     const above = await realPath(path.dirname(path.resolve(this.base)));
-    return Boolean(above) && this.watcher.coversFile(path.join(above, path.basename(this.base)));
+    return Boolean(above) && this.watcher.feeds.covers(path.join(above, path.basename(this.base)));
   }
 
   async place(isPoint) {
     const whole = path.resolve(this.base);
-    const real = isPoint ? path.join(await realPath(path.dirname(whole)) || '', path.basename(whole)) : await realPath(whole);
+    const above = isPoint && await realPath(path.dirname(whole));
+    const real = above ? path.join(above, path.basename(whole)) : await realPath(whole);
     if (!real || this.isEnded) return;
     const { depth } = this.watcher.options;
-    this.inner = await this.watcher.placeAt({
-      shown: this.base, real, chain: [], isInitial: this.isInitial, isPoint, glob: this.isGlob ? this.matchers() : undefined,
-      depth: depth === undefined ? Infinity : depth, text: this.isGlob ? this.text : undefined,
+    this.inner = await this.watcher.feeds.placeAt({
+      shown: this.base, real, chain: [], isInitial: this.isInitial, isPoint,
+      depth: depth === undefined ? Infinity : depth,
+      glob: this.isGlob ? this.matchers() : undefined,
+      text: this.isGlob ? this.text : undefined,
     });
     if (this.isEnded) this.inner.end(false);
     else await this.inner.begin();

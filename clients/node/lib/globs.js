@@ -136,7 +136,8 @@ function directoryMatcher(glob, base) {
   const deep = fits.indexOf('**');
   return (name) => {
     const parts = name.split('/');
-    return fits.slice(0, deep < 0 ? parts.length : Math.min(deep, parts.length)).every((one, index) => one.test(parts[index]));
+    const compared = fits.slice(0, deep < 0 ? parts.length : Math.min(deep, parts.length));
+    return compared.every((one, index) => one.test(parts[index]));
   };
 }
 

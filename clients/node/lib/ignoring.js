@@ -12,7 +12,7 @@ class Ignoring {
   constructor(options) {
     this.options = options;
     this.unwatched = new Set();
-    this.given = [].concat(options.ignored === undefined || options.ignored === null ? [] : options.ignored).flat(Infinity);
+    this.given = [].concat(options.ignored ?? []).flat(Infinity);
     this.refresh();
   }
 
@@ -48,7 +48,8 @@ class Ignoring {
   has(name, stats) {
     if (this.options.atomic && OF_EDITORS.test(name)) return true;
     if (this.negated.some((fits) => fits(name))) return false;
-    return this.paths.some((one) => name === one || name.startsWith(`${one}/`)) || this.matchers.some((fits) => fits(name))
+    return this.paths.some((one) => name === one || name.startsWith(`${one}/`))
+      || this.matchers.some((fits) => fits(name))
       || this.tests.some((test) => fitsTest(test, name, stats));
   }
 }

@@ -46,7 +46,7 @@ class Link {
     const from = await realPath(path.dirname(this.path)) || real;
     if (`${from}/`.startsWith(`${this.target}/`) || chain.includes(this.target)) return false;
     const left = depth - this.name.split('/').length;
-    this.inner = await watcher.placeAt({
+    this.inner = await watcher.feeds.placeAt({
       shown: this.shown, real: this.target, chain: [...chain, real, this.target], isInitial,
       glob: glob && { fits: glob.fits, mayHold: () => true }, depth: left,
     });

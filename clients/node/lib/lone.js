@@ -59,7 +59,7 @@ class Lone {
     } else if (before && !row) {
       this.watcher.forget(this, this.shown);
       this.watcher.tell('unlink', this.shown);
-    } else if (before && (before.size !== row.size || before.mtimeMs !== row.mtimeMs || before.stats.ino !== row.stats.ino)) {
+    } else if (before && isOther(before, row)) {
       this.watcher.tell('change', this.shown, row);
     }
   }
@@ -73,6 +73,10 @@ class Lone {
   refresh() {
     if (this.row && this.watcher.ignoring.has(this.shown)) this.end(false);
   }
+}
+
+function isOther(before, row) {
+  return before.size !== row.size || before.mtimeMs !== row.mtimeMs || before.stats.ino !== row.stats.ino;
 }
 
 module.exports = { Lone };

@@ -1,12 +1,12 @@
 'use strict';
-// Notes of the roots that tools had the server watch, in the form of `wq`. So a root that nobody needs can be given up when
-// 16 are watched, by `wq`, by other adapters and by this package.
+// Notes of the roots that tools had the server watch, in the form of `wq`. So a root that nobody needs can be given up
+// when 16 are watched, by `wq`, by other adapters and by this package.
 
 const crypto = require('crypto');
 const fs = require('fs');
 const path = require('path');
 const { runAt, runOf } = require('./owner');
-const { notesDirectory } = require('./sockname');
+const { mayKeepNotes, notesDirectory } = require('./sockname');
 
 // `wq` has these words for a root that is needed while a window is open, and for one that was asked about some times.
 const WINDOW = 'window';
@@ -47,7 +47,7 @@ class Notes {
   }
 
   write(root, note) {
-    if (!this.run) return;
+    if (!this.run || !mayKeepNotes()) return;
     const file = this.pathOf('roots', root);
     try {
       fs.mkdirSync(path.dirname(file), { recursive: true, mode: 0o700 });
@@ -76,7 +76,7 @@ class Notes {
   isOpen(root) {
     try {
       const { ino } = fs.lstatSync(this.pathOf('windows', root));
-      return fs.readFileSync('/proc/locks', 'utf8').split('\n').some((line) => line.split(/\s+/).some((word) => word.endsWith(`:${ino}`)));
+      return fs.readFileSync('/proc/locks', 'utf8').split(/\s+/).some((word) => word.endsWith(`:${ino}`));
     } catch {
       return false;
     }

@@ -14,7 +14,7 @@ function optionsOf(given = {}, environment = process.env) {
   for (const [key, value] of Object.entries(given || {})) if (value !== undefined) options[key] = value;
   const polls = environment.CHOKIDAR_USEPOLLING;
   if (polls !== undefined) options.usePolling = polls !== '' && !['false', '0'].includes(polls.toLowerCase());
-  if (environment.CHOKIDAR_INTERVAL) options.interval = Number.parseInt(environment.CHOKIDAR_INTERVAL, 10) || options.interval;
+  options.interval = Number.parseInt(environment.CHOKIDAR_INTERVAL, 10) || options.interval;
   if (options.atomic === undefined) options.atomic = !options.usePolling;
   if (options.awaitWriteFinish) {
     const finish = options.awaitWriteFinish === true ? {} : options.awaitWriteFinish;

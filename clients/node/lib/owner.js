@@ -23,7 +23,7 @@ function runAt(sockname) {
   }
 }
 
-/** The sockets that accept connections, of servers in this directory: they make them in `.wqd0` or the like, and link. */
+/** The sockets that servers in this directory accept connections at: they are made in `.wqd0` or the like. */
 function inodesIn(directory) {
   const lines = fs.readFileSync('/proc/net/unix', 'utf8').split('\n').map((line) => line.trim().split(/\s+/));
   const accepting = lines.filter((words) => words[3] === ACCEPTS && words.length > 7);

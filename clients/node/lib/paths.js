@@ -12,7 +12,8 @@ function normalized(text) {
 /** All texts of a path, a list of paths, or lists of them. */
 function unified(paths) {
   const found = [].concat(paths === undefined ? [] : paths).flat(Infinity);
-  if (!found.every((one) => typeof one === 'string')) throw new TypeError(`Non-string provided as watch path: ${found}`);
+  const other = found.find((one) => typeof one !== 'string');
+  if (other !== undefined) throw new TypeError(`Non-string provided as watch path: ${other}`);
   return found.map((one) => (one.startsWith('!') ? `!${normalized(one.slice(1))}` : normalized(one)));
 }
 

@@ -12,8 +12,8 @@ class Place {
   /**
    * @param {object} watcher
    * @param {object} given `shown`: the path in events; `real`: it without links; `feed`; `glob`: functions `fits` and
-   *   `mayHold`, if a glob was given; `depth`: how many slashes a name below may have; `chain`: the directories that links
-   *   led through; `isInitial`; `isPoint`: a single path is meant
+   *   `mayHold`, if a glob was given; `depth`: how many slashes a name below may have; `chain`: the directories that
+   *   links led through; `isInitial`; `isPoint`: a single path is meant
    */
   constructor(watcher, given) {
     Object.assign(this, given);
@@ -108,7 +108,8 @@ class Place {
       this.isPoint = false;
       this.feed.subscribe();
     }
-    if (!this.glob || this.glob.fits(this.pathOf(name))) this.watcher.tell('addDir', this.pathOf(name), row, this.isInitial);
+    const shown = this.pathOf(name);
+    if (!this.glob || this.glob.fits(shown)) this.watcher.tell('addDir', shown, row, this.isInitial);
   }
 
   async update(name, before, row) {

@@ -1,6 +1,6 @@
 'use strict';
-// Which root is watched for a directory. A small root is scanned soon, so it is the directory itself, until the roots of this
-// process or of the server get many.
+// Which root is watched for a directory. A small root is scanned soon, so it is the directory itself, until roots of
+// a watcher or of the server get many.
 
 const path = require('path');
 const { nameBelow } = require('./names');

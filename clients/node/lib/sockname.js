@@ -56,9 +56,23 @@ function refused(sockname, reason) {
 }
 
 /** The directory in which `wq` keeps notes: wq below XDG_STATE_HOME or ~/.local/state. */
-function notesDirectory(environment = process.env) {
-  const named = environment.XDG_STATE_HOME || '';
-  return path.join(path.isAbsolute(named) ? named : path.join(os.homedir(), '.local', 'state'), 'wq');
+function notesDirectory() {
+  const named = stateHome();
+  return path.join(named || path.join(os.homedir(), '.local', 'state'), 'wq');
 }
 
-module.exports = { defaultSockname, notesDirectory, requireOwn };
+function stateHome(environment = process.env) {
+  const named = environment.XDG_STATE_HOME || '';
+  return path.isAbsolute(named) ? named : '';
+}
+
+/** Whether notes may be written: with sudo the home may be that of another user, who may have put a link there. */
+function mayKeepNotes() {
+  try {
+    return fs.statSync(stateHome() || os.homedir()).uid === process.getuid();
+  } catch (fault) {
+    return fault.code === 'ENOENT';
+  }
+}
+
+module.exports = { defaultSockname, mayKeepNotes, notesDirectory, requireOwn };

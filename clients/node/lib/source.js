@@ -1,5 +1,5 @@
 'use strict';
-// Tells which names in a directory of the project changed. Tools that look at directories by themselves hear of them so.
+// Tells which names in a directory of the project changed, for tools that look at directories by themselves.
 
 const fs = require('fs');
 const path = require('path');
@@ -13,7 +13,7 @@ const MOST_TERMS = 1000;
 class Source {
   /** @param {string} project the directory in which the tool works; below it each first directory is a root */
   constructor(project) {
-    this.project = fs.realpathSync(project);
+    this.project = realOf(project);
     this.feeds = new Map();
     this.isTold = false;
   }
@@ -29,14 +29,14 @@ class Source {
   }
 
   rootOf(directory) {
-    return directoryOfProject(path.join(directory, 'any'), this.project);
+    return this.project === '/' ? undefined : directoryOfProject(path.join(directory, 'any'), this.project);
   }
 
   /**
    * Tells changes in a directory.
    * @param {string} directory one that is covered
-   * @param {object} listener `changed(name, comesOrGoes, isDirectory)`; `begun()` when the server tells changes from now on;
-   *   `went()` when the directory is gone; `failed()` if no server tells them
+   * @param {object} listener `changed(name, comesOrGoes, isDirectory)`; `begun()` when the server tells changes from
+   *   now on; `went()` when the directory is gone; `failed()` if no server tells them
    * @returns {() => void} ends that
    */
   join(directory, listener) {
@@ -66,9 +66,11 @@ class Source {
   }
 
   begin(root) {
-    const feed = new Feed(
-      root, true, () => expressionOf(feed), async (changes, isThere) => tell(feed, changes, isThere), (fault) => this.fail(feed, fault),
-    );
+    const feed = new Feed(root, true, {
+      expression: () => expressionOf(feed),
+      tell: async (changes, isThere) => tell(feed, changes, isThere),
+      fail: (fault) => this.fail(feed, fault),
+    });
     this.feeds.set(root, feed);
     return feed;
   }
@@ -80,11 +82,21 @@ class Source {
   }
 }
 
+/** A directory without links. Without one nothing is covered. */
+function realOf(directory) {
+  try {
+    return fs.realpathSync(directory);
+  } catch {
+    return '/';
+  }
+}
+
 /** The files in the joined directories, and these directories. */
 function expressionOf(feed) {
   const names = [...new Set([...feed.places].map((place) => place.below))];
   if (names.length > MOST_TERMS) return 'true';
-  return ['anyof', ['name', names.filter((name) => name !== ''), 'wholename'], ...names.map((name) => ['dirname', name, ['depth', 'eq', 0]])];
+  const inside = names.map((name) => ['dirname', name, ['depth', 'eq', 0]]);
+  return ['anyof', ['name', names.filter((name) => name !== ''), 'wholename'], ...inside];
 }
 
 function tell(feed, changes, isThere) {
@@ -98,7 +110,9 @@ function tell(feed, changes, isThere) {
     if (!isOther(before, after)) continue;
     const isDirectory = (after || before).kind === 'd';
     const above = name.includes('/') ? name.slice(0, name.lastIndexOf('/')) : '';
-    for (const place of places.get(above) || []) place.listener.changed(path.posix.basename(name), !before || !after, isDirectory);
+    for (const { listener } of places.get(above) || []) {
+      listener.changed(path.basename(name), !before || !after, isDirectory);
+    }
     if (!after) for (const place of places.get(name) || []) place.listener.went();
   }
 }

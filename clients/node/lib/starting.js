@@ -23,10 +23,11 @@ function startServer(sockname) {
     const child = spawn(command, ['start'], { stdio: ['ignore', 'ignore', 'pipe'], env: environment });
     let said = '';
     child.stderr.on('data', (data) => { said = (said + data).slice(-LONGEST_REASON); });
-    child.on('error', (fault) => reject(new Error(`no server runs, and ${command} cannot start one: ${fault.message}`)));
+    const fail = (reason) => reject(new Error(`no server runs, and wq could not start one: ${reason}`));
+    child.on('error', (fault) => fail(fault.message));
     child.on('close', (status) => {
       if (status === 0) resolve();
-      else reject(new Error(`no server runs, and wq could not start one: ${lastLine(said)}`));
+      else fail(lastLine(said));
     });
   });
 }

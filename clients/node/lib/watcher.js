@@ -5,17 +5,12 @@ const fs = require('fs');
 const path = require('path');
 const { EventEmitter } = require('events');
 const { Emitting } = require('./emitting');
-const { expressionOf } = require('./expression');
 const { Faults } = require('./faults');
-const { Feed } = require('./feed');
+const { Feeds } = require('./feeds');
 const { Given } = require('./given');
-const hub = require('./hub');
 const { Ignoring } = require('./ignoring');
 const { optionsOf } = require('./options');
 const { absolute, unified } = require('./paths');
-const { Place } = require('./place');
-const { directoryOfProject, rootAbove, rootFor } = require('./roots');
-const { statsOf } = require('./stats');
 
 /** Emits `add addDir change unlink unlinkDir ready raw error all`. */
 class FSWatcher extends EventEmitter {
@@ -30,13 +25,12 @@ class FSWatcher extends EventEmitter {
 
   begin() {
     this.given = new Map();
-    this.feeds = new Map();
     this.owners = new Map();
     this.waits = 0;
     this.ignoring = new Ignoring(this.options);
     this.emitting = new Emitting(this);
     this.faults = new Faults(this);
-    this.project = fs.realpathSync(this.options.cwd ? existing(path.resolve(this.options.cwd)) : process.cwd());
+    this.feeds = new Feeds(this, fs.realpathSync(existing(path.resolve(this.options.cwd || ''))));
   }
 
   /**
@@ -84,15 +78,8 @@ class FSWatcher extends EventEmitter {
       if (!path.isAbsolute(text) && !this.options.cwd) this.ignoring.leaveOut(text);
     }
     for (const one of this.given.values()) if (one.inner) one.inner.refresh();
-    this.refresh();
+    this.feeds.refresh();
     return this;
-  }
-
-  refresh() {
-    for (const feed of this.feeds.values()) {
-      for (const place of feed.places) place.refresh();
-      if (feed.places.size > 0) feed.subscribe();
-    }
   }
 
   /**
@@ -125,7 +112,7 @@ class FSWatcher extends EventEmitter {
     this.closed = true;
     this.removeAllListeners();
     for (const one of this.given.values()) one.end();
-    for (const feed of this.feeds.values()) feed.close();
+    this.feeds.close();
     this.emitting.close();
     this.faults.close();
     this.ended = Promise.resolve();
@@ -133,45 +120,6 @@ class FSWatcher extends EventEmitter {
   }
 
   // What follows is for the parts of a watcher.
-
-  /** A place for a path; its root is watched by a feed of this watcher. */
-  async placeAt(given) {
-    const directory = given.isPoint ? directoryOfProject(given.real, this.project) || path.dirname(given.real) : given.real;
-    const feed = await this.feedOf(given.real, directory);
-    return new Place(this, { ...given, feed });
-  }
-
-  async feedOf(real, directory) {
-    const covering = rootAbove([...this.feeds.keys()], real);
-    if (covering) return this.feeds.get(covering);
-    const keeps = this.options.persistent;
-    const session = hub.acquire(keeps);
-    await session.whenTried();
-    const { roots = [] } = await session.ask('watch-list');
-    const root = rootFor(directory, [...this.feeds.keys()], roots, this.project);
-    if (!this.feeds.has(root)) this.feeds.set(root, this.feedAt(root));
-    hub.release(session, keeps);
-    if (this.closed) this.feeds.get(root).close();
-    return this.feeds.get(root);
-  }
-
-  feedAt(root) {
-    const feed = new Feed(
-      root, this.options.persistent, () => expressionOf([...feed.places], this.ignoring, root),
-      async (changes, isThere) => {
-        this.tellRaw(root, changes);
-        for (const place of [...feed.places]) await place.take(changes, isThere);
-      },
-      (fault) => this.faults.add(fault, root),
-    );
-    return feed;
-  }
-
-  /** Whether a single file is told by a root of this watcher, or by one that is made for its directory of the project. */
-  coversFile(real) {
-    if (rootAbove([...this.feeds.keys()], real)) return true;
-    return Boolean(directoryOfProject(real, this.project));
-  }
 
   /** `ready` comes when nothing is waited for any more. */
   wait(promise) {
@@ -199,14 +147,6 @@ class FSWatcher extends EventEmitter {
   tell(event, shown, row, isInitial) {
     if (this.closed || (isInitial && this.options.ignoreInitial)) return;
     this.emitting.tell(event, shown, row);
-  }
-
-  tellRaw(root, changes) {
-    if (this.listenerCount('raw') === 0) return;
-    for (const { name, before, after } of changes) {
-      const details = { curr: after && statsOf(after), prev: before && statsOf(before) };
-      this.emit('raw', 'change', path.join(root, name), details);
-    }
   }
 }
 

@@ -1,12 +1,13 @@
 'use strict';
-// fs.watchFile over the server, for tools that have chokidar in a bundle of their own, such as vite: by polling it asks for
-// each file and each directory so.
+// fs.watchFile over the server, for tools that have chokidar in a bundle of their own, such as vite: by polling it asks
+// for each file and each directory so.
 
 const fs = require('fs');
 const path = require('path');
 const { EventEmitter } = require('events');
 
-const GONE = { size: 0, mtimeMs: 0, mtime: new Date(0), nlink: 0, isDirectory: () => false, isFile: () => false, isSymbolicLink: () => false };
+const no = () => false;
+const GONE = { size: 0, mtimeMs: 0, mtime: new Date(0), nlink: 0, isDirectory: no, isFile: no, isSymbolicLink: no };
 
 /** One path: emits `change` with its stats now and before. */
 class Watched extends EventEmitter {
@@ -23,13 +24,14 @@ class Watched extends EventEmitter {
   begin(source) {
     const changed = () => this.look();
     const listener = { begun: changed, went: changed, failed: () => this.emit('failed') };
-    const base = path.basename(this.name);
-    if (source.covers(path.dirname(this.name))) {
-      this.leaves.push(source.join(path.dirname(this.name), { ...listener, changed: (one) => one === base && this.look() }));
-    }
+    const [above, base] = [path.dirname(this.name), path.basename(this.name)];
+    const join = (directory, concerns) => {
+      const changedIn = (name, comesOrGoes) => concerns(name, comesOrGoes) && this.look();
+      this.leaves.push(source.join(directory, { ...listener, changed: changedIn }));
+    };
+    if (source.covers(above)) join(above, (name) => name === base);
     fs.stat(this.name, (fault, stats) => {
-      if (this.isEnded || fault || !stats.isDirectory()) return;
-      this.leaves.push(source.join(this.name, { ...listener, changed: (_, comesOrGoes) => comesOrGoes && this.look() }));
+      if (!this.isEnded && !fault && stats.isDirectory()) join(this.name, (_, comesOrGoes) => comesOrGoes);
     });
   }
 
@@ -58,8 +60,8 @@ function isOther(one, other) {
 }
 
 /**
- * Puts functions over the server in the place of `fs.watchFile` and `fs.unwatchFile`. A path that the server cannot tell of
- * goes to the functions that were there.
+ * Puts functions over the server in the place of `fs.watchFile` and `fs.unwatchFile`. A path that the server cannot
+ * tell of goes to the functions that were there.
  * @param {import('./source').Source} source
  */
 function patchWatchFile(source) {

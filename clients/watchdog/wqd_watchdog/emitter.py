@@ -18,8 +18,6 @@ from .trouble import Lost, Unserved, say
 # In seconds: a list waits so long for another one, since an editor saves a file in several steps, and at most so long
 # for all; and how often a server is looked for.
 SETTLE, MOST_SETTLE, SEARCH = 0.15, 1.0, 0.2
-# The shortest pause between two scans for a watch.
-SHORTEST = 0.05
 # So often a server may end while a watch begins.
 ATTEMPTS = 3
 WAKE: Value = {"wake": True}
@@ -66,7 +64,9 @@ class WqdEmitter(EventEmitter):
             if self.is_lost:
                 self.begin_again(self.tree)
                 return
-            if self.waits(self.tree, timeout):
+            if self.tree.latency.is_slow():
+                self.scan(self.tree, timeout)
+            elif self.takes(self.tree, timeout):
                 self.settle(self.tree)
             if self.should_keep_running():
                 self.tree.look()
@@ -77,16 +77,13 @@ class WqdEmitter(EventEmitter):
         except Gone:
             self.end()
 
-    def waits(self, tree: Tree, timeout: float) -> bool:
-        """Whether a list comes in time. If the file system is slow, the server scans for this watch again and again,
-        with pauses as long as its scans."""
-        if not tree.latency.is_slow():
-            return self.takes(tree, timeout)
-        if not self.takes(tree, min(timeout, max(self.took, SHORTEST))):
+    def scan(self, tree: Tree, timeout: float) -> None:
+        """Has the server scan, after a pause of half the last scan, and of a tenth of the timeout at least: since the
+        file system is slow, a scan that nobody waits for takes long."""
+        if not self.takes(tree, max(self.took / 2, timeout / 10)):
             began = time.monotonic()
             tree.scan()
             self.took = time.monotonic() - began
-        return tree.changes.has_some()
 
     def takes(self, tree: Tree, seconds: float) -> bool:
         """Whether a list comes in time."""

@@ -6,8 +6,8 @@ import time
 from collections import deque
 from typing import Callable, Deque, Iterator
 
-# The number of last looks, how many of them may be quick if the file system is slow, and from how many seconds on a look
-# is slow. One at what the kernel has in memory takes some microseconds.
+# The number of last looks, of which fewer than the second number are quick on a slow file system, and from how many
+# seconds on a look is slow. One at what the kernel has in memory takes some microseconds.
 LOOKS, MOST_QUICK, SLOW = 16, 12, 0.0001
 AT_ONCE = 4
 

@@ -54,9 +54,6 @@ class Changes:
     def note(self, path: str, before: Optional[Row], now: Optional[Row]) -> None:
         self.pairs[path] = (self.pairs[path][0] if path in self.pairs else before, now)
 
-    def has_some(self) -> bool:
-        return any(before != now for before, now in self.pairs.values())
-
     def taken(self) -> List[Change]:
         """The changes by their paths."""
         found = [Change(path, before, now) for path, (before, now) in sorted(self.pairs.items()) if before != now]
