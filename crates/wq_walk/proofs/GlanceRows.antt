@@ -74,7 +74,7 @@ sound_steps says has records asked root (suc n) before after sound (mid, leads, 
 
 -- each row of a glance is one of the view, or of the path of its name
 pub glance_rows_are_known : (says : GivesStat) (has : Has) → GlanceRowsAreKnown says has
-glance_rows_are_known says has records asked root rows (names, told, once, (steps, last, leads, done)) =
+glance_rows_are_known says has records asked root rows (names, read, (steps, last, leads, done)) =
     (sound_steps says has records asked root steps (record { above = []; here = fresh root names; rows = [] })
     (record { above = []; here = last; rows = rows })
     (([], sym (append-nil root)), All-nil (Below root), All-nil (IsRowOfGlance says records asked root)) leads).2
