@@ -6,6 +6,7 @@ mod client;
 mod clients;
 mod crawling;
 mod host;
+mod intake;
 mod latch;
 mod law;
 mod lines;
