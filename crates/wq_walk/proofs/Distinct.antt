@@ -1,14 +1,7 @@
 -- Names of which none is another one.
-use Rattle.std.proofs.Common.{◌≡◌, ℕ, Bool, true, false, List, [], ◌∷◌, ◌++◌, bytes_eq, ap, sym, subst, ◌∙◌, map, refl}
-use mathlib.Core.Bool.{false≢true}
+use Rattle.std.proofs.Common.{◌≡◌, ℕ, false, List, [], ◌∷◌, ◌++◌, bytes_eq, ap, sym, subst, ◌∙◌, map}
 use Rattle.std.specs.List.{AllByRecursion, IsDistinct}
-use Rattle.std.specs.List.Retain.{DedupsAll, DedupsFrom, IsDeduped}
-use Rattle.std.specs.declared.cmp.Ordering.TheVariants.{Less, Greater}
-use Rattle.std.specs.Ordering.{is_lt, ordering_reverse}
-use Rattle.std.proofs.lemmas.Slice.Eq.{bytes_eq-Decides}
-use Rattle.std.specs.Cmp.Lexicographic.{nat_list_cmp_total}
 use Rattle.std.specs.Prelude.{Option, option_to_list}
-use Rattle.wq_record.specs.Name.{name_cmp}
 use Rattle.wq_walk.specs.Entries.{AreDistinct}
 use Rattle.wq_walk.specs.Names.{name_at, names_at}
 use Rattle.std.proofs.lemmas.List.{map-append}

@@ -1,5 +1,5 @@
 -- Places in the order of their heads and names: if a place is left out beside one of its name, each name stays once.
-use Rattle.std.proofs.Common.{◌≡◌, ◌⊎◌, ◌<◌, ◌+◌, ℕ, suc, Bool, true, false, not, List, [], ◌∷◌, ◌++◌, All, inl, inr, length, get_or, bytes_eq, refl, ap, sym, subst, ◌∙◌, map, arith}
+use Rattle.std.proofs.Common.{◌≡◌, ◌+◌, ℕ, suc, Bool, true, false, not, List, [], ◌∷◌, All, get_or, bytes_eq, refl, ap, sym, subst, ◌∙◌, map, arith}
 use mathlib.Core.Bool.{false≢true, true≢false}
 use Rattle.std.specs.Cmp.{IsTotalOrder, then_total}
 use Rattle.std.specs.Cmp.Lexicographic.{nat_list_cmp_total, texts_ties}

@@ -1,9 +1,7 @@
 -- Each row of a glance is one of the view, or of the path of its name: by its steps.
-use Rattle.std.proofs.Common.{ℕ, zero, suc, Bool, true, false, List, [], ◌∷◌, ◌++◌, All, cond, filter, map, inl, inr, refl, ap, sym, subst, ◌∙◌, append_assoc, append-nil, Some, length}
+use Rattle.std.proofs.Common.{ℕ, zero, suc, List, [], ◌∷◌, ◌++◌, All, inl, inr, refl, ap, sym, subst, ◌∙◌, append_assoc, append-nil, Some, length}
 use Rattle.std.proofs.lemmas.List.Elements.{All-append, All-cons, All-nil, All-pop, All-push, All-weaker}
 use Rattle.std.specs.Str.{byte}
-use Rattle.wq_view.specs.Again.{seen_row, seen_rows}
-use Rattle.wq_view.specs.Below.{is_below}
 use Rattle.wq_record.specs.RecordData.{RecordData}
 use Rattle.wq_record.specs.Seen.{SeenData}
 use Rattle.wq_walk.specs.Accounts.{IsOneOf, IsRowOfPath}

@@ -1,5 +1,5 @@
 -- A glance that ended lists what it found.
-use Rattle.std.proofs.Common.{◌≡◌, ℕ, List, [], Some, length, sym, subst}
+use Rattle.std.proofs.Common.{◌≡◌, ℕ, List, [], length, sym, subst}
 use Rattle.wq_record.specs.RecordData.{RecordData}
 use Rattle.wq_record.specs.Seen.{SeenData}
 use Rattle.wq_walk.specs.Glance.{GlanceEnds, IsGlance}

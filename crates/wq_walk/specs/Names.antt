@@ -1,5 +1,5 @@
 -- The names of a directory, held in one text. No public document defines it.
-use Rattle.std.specs.Prelude.{◌≡◌, ℕ, nat_le, min, ◌++◌, ◌&&◌, if◌then◌else◌, List, [], length, map, slice_range, take, drop, replicate}
+use Rattle.std.specs.Prelude.{◌≡◌, ℕ, nat_le, ◌++◌, ◌&&◌, if◌then◌else◌, List, [], length, map, slice_range, take, drop, replicate}
 use Rattle.std.specs.Prelude.{IsTrue}
 use Rattle.std.specs.Int.{from_be_bytes, w128}
 use Rattle.std.specs.List.{All}
