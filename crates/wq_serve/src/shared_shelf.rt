@@ -105,8 +105,8 @@ impl ReachedShelf<Trigger> {
         Unset::on(&mut self.shelf, cursor)
     }
 
-    /// What a round at a view of this tick asks for each trigger of a root, in their order ([`Trigger::asks`]). The call
-    /// starts nothing.
+    /// What a round at a view of this tick asks for each trigger of a root, in their order ([`Trigger::asks`]). The
+    /// call starts nothing.
     pub fn asks<L: Launch>(
         &self,
         alloc: Global,

@@ -11,9 +11,9 @@ use Rattle.wq_walk.specs.Entries.{AreEntriesOf}
 abbrev pub GivesStat : Type 1
 GivesStat = List ℕ → Option Stat → Type 0
 
--- the names that a disk may give for the directory of a path, as the system gives them: those of its
--- entries, that of the directory itself and of the one above it, and a name may be there twice. None
--- if it cannot read the directory
+-- the names that a disk may give for the directory of a path, as the system gives them: those of
+-- entries, of the directory itself and of the one above it, maybe twice; none if it cannot read the
+-- directory
 abbrev pub Has : Type 1
 Has = List ℕ → Option (List (List ℕ)) → Type 0
 

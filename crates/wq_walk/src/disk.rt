@@ -29,8 +29,8 @@ pub trait Disk {
     // A call of the system failed at a path because no file handle was left. So no path has an answer.
     ghost fails: { Self → List ℕ → Type 0 };
 
-    /// The names of all entries in the directory of this path, each once, or nothing if it cannot be read. If a path ends
-    /// in a slash, the disk may follow a link there. A path without that slash is not read if it ends in a link.
+    /// The names of all entries in the directory of this path, each once, or nothing if it cannot be read. If a path
+    /// ends in a slash, the disk may follow a link there. A path without that slash is not read if it ends in a link.
     fn names_in(&self, block: &mut Block, path: &str) -> Result<Option<Names>, TreeFault>
         ensures told { IfOk result (λ names. has self.now path.now (option_map names_given names)) }
         ensures entries { IfOk result (λ names. IfSome names AllAreLeft) }

@@ -1,5 +1,6 @@
 //! The names in one directory on disk. Another module looks at their files.
-ghost use Rattle.std.specs.Prelude.{◌≡◌, ◌<◌, ◌++◌, ◌∷◌, [], All, IfErr, IfNone, IfOk, IfSome, IsTrue, None, filter, length, not};
+ghost use Rattle.std.specs.Prelude.{◌≡◌, ◌<◌, ◌++◌, ◌∷◌, [], All, IfErr, IfNone, IfOk, IfSome, IsTrue};
+ghost use Rattle.std.specs.Prelude.{None, filter, length, not};
 ghost use Rattle.std.specs.List.{Contains};
 ghost use Rattle.wq_walk.specs.Entries.{AreDistinct, has_no_slash, is_entry, names_of_text};
 ghost use Rattle.wq_walk.specs.Names.{AreAllEntries, AreOfEntries, HaveHeads, name_at, name_head, names_at, place_cmp};
@@ -209,8 +210,10 @@ fn places_in(alloc: Global, text: &[u8]) -> Result<Vec<Place>, AllocError>
 /// The places in falling order, and each name once.
 fn each_once(text: &[u8], mut places: Vec<Place>) -> Vec<Place>
     requires { HaveHeads text.now places.items }
-    ensures kept { All (Contains (names_at text.now result.items)) (names_at text.now places.items) }
-    ensures no_more { All (Contains (names_at text.now places.items)) (names_at text.now result.items) }
+    ensures kept { All (Contains (names_at text.now result.items))
+        (names_at text.now places.items) }
+    ensures no_more { All (Contains (names_at text.now places.items))
+        (names_at text.now result.items) }
     ensures distinct { AreDistinct (names_at text.now result.items) }
 {
     places.sort_unstable_by(|a, b| order(text, *b, *a));
