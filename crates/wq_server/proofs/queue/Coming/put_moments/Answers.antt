@@ -1,5 +1,5 @@
 -- a number that is not due becomes due
-use Rattle.std.proofs.Common.{rules, ◌≡◌, ◌<◌, ◌≤◌, ◌+◌, ◌++◌, ◌∷◌, ◌==◌, [], true, get_or, length, ap, subst, sym, ◌∙◌, arith}
+use Rattle.std.proofs.Common.{rules, ◌≡◌, ◌≤◌, ◌+◌, ◌++◌, ◌∷◌, ◌==◌, [], true, get_or, length, ap, subst, sym, ◌∙◌}
 use Rattle.std.specs.List.{list_any}
 use Rattle.wq_server.proofs.Due.{SoFar, all_due, becomes_due, due_already}
 use Rattle.wq_server.proofs.queue.Coming.put_moments.Goals as goal
