@@ -132,8 +132,12 @@ impl Trigger {
     /// What a round at a view of this tick asks, if it can be found ahead: the program that says which files match, and
     /// the bound from which they changed.
     ///
-    /// There is nothing to find if its command runs, or it was told the changes up to this tick.
-    pub fn asks<L: Launch>(&self, tick: u64, launcher: &mut L) -> Option<(Arc<Program>, Bound)> {
+    /// There is nothing to find if its command runs, or it was told the changes up to this tick. The call starts
+    /// nothing.
+    pub fn asks<L: Launch>(&self, tick: u64, launcher: &mut L) -> Option<(Arc<Program>, Bound)>
+        ensures shown { L.shown launcher.new ≡ L.shown launcher.old }
+        ensures counted { L.failures_of launcher.new ≡ L.failures_of launcher.old }
+    {
         if self.follower.is_told(tick) || !self.is_free(launcher) {
             return None;
         }
@@ -145,9 +149,11 @@ impl Trigger {
     }
 
     /// Whether its command does not run.
+    #[tactic(auto, using(crate::proofs::Asked::shown_after))]
     fn is_free<L: Launch>(&self, launcher: &mut L) -> bool
         ensures asked { AsksRun self.now.running result (L.shown launcher.old)
             (L.shown launcher.new) }
+        ensures shown { L.shown launcher.new ≡ L.shown launcher.old }
         ensures counted { L.failures_of launcher.new ≡ L.failures_of launcher.old }
     {
         match self.running {

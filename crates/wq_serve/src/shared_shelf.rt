@@ -105,14 +105,18 @@ impl ReachedShelf<Trigger> {
         Unset::on(&mut self.shelf, cursor)
     }
 
-    /// What a round at a view of this tick asks for each trigger of a root, in their order ([`Trigger::asks`]).
+    /// What a round at a view of this tick asks for each trigger of a root, in their order ([`Trigger::asks`]). The
+    /// call starts nothing.
     pub fn asks<L: Launch>(
         &self,
         alloc: Global,
         number: u64,
         tick: u64,
         launcher: &mut L,
-    ) -> Result<Vec<Option<(Arc<Program>, Bound)>>, AllocError> {
+    ) -> Result<Vec<Option<(Arc<Program>, Bound)>>, AllocError>
+        ensures shown { L.shown launcher.new ≡ L.shown launcher.old }
+        ensures counted { L.failures_of launcher.new ≡ L.failures_of launcher.old }
+    {
         let mut asks = Vec::new(alloc);
         if let Some(root) = self.shelf.root(number) {
             for k in 0..root.trigger_count() {

@@ -1,3 +1,4 @@
 mod Cycles
 mod Levels
 mod Shares
+mod Due

@@ -9,6 +9,7 @@ mod crawling;
 mod hand;
 mod hands;
 mod host;
+mod intake;
 mod latch;
 mod law;
 mod lines;

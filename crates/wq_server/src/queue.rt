@@ -1,5 +1,8 @@
 //! The queue from which a session takes its events. Threads put events in and wait for it. No
 //! contract promises that an event arrives.
+ghost use Rattle.std.specs.Prelude.{◌≡◌, ◌++◌, All, List, OnOk, false, ℕ};
+ghost use Rattle.std.specs.List.{Contains};
+ghost use Rattle.wq_server.specs.Intake.{TakesNext};
 
 use std::alloc::{AllocError, Global};
 use std::collections::VecDeque;
@@ -29,8 +32,10 @@ struct Coming {
 }
 
 impl Coming {
-    /// Takes the next event.
-    fn take(&mut self) -> Option<Event> {
+    /// Takes the next event. There is none only if no idle moment is due.
+    fn take(&mut self) -> Option<Event>
+        ensures { TakesNext self.old result self.new }
+    {
         // A moment comes next, if one is due, unless one came last and the client's event waits.
         if !self.waiting.is_closed()
             && (!self.was_moment || self.waiting.is_idle())
@@ -44,7 +49,12 @@ impl Coming {
     }
 
     /// Makes an idle moment of each of these roots due, unless the queue is closed.
-    fn put_moments(&mut self, numbers: &[u64]) -> Result<(), AllocError> {
+    fn put_moments(&mut self, numbers: &[u64]) -> Result<(), AllocError>
+        ensures due { OnOk result (self.old.waiting.is_closed ≡ false
+            → All (Contains self.new.due.items) numbers.now) }
+        ensures kept { (more : List ℕ) × (self.new.due.items ≡ self.old.due.items ++ more) }
+        ensures events { self.new.waiting ≡ self.old.waiting }
+    {
         if self.waiting.is_closed() {
             return Ok(());
         }

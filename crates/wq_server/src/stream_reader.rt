@@ -1,6 +1,10 @@
 //! The reader that brings the events of a client's stream into its session's queue. It does not
 //! look at what they ask.
+ghost use Rattle.std.specs.Prelude.{◌≡◌, ℕ, List, IfSome, IsTrue};
+ghost use Rattle.wq_server.specs.Intake.{PutsPiece};
+ghost use Rattle.wq_stream.specs.Stream.{Adds, kept_of};
 
+use crate::intake::{Intake, QueueIntake};
 use crate::queue::Queue;
 use std::alloc::{AllocError, Global};
 use std::io::{ErrorKind, Read};
@@ -24,43 +28,49 @@ pub(crate) fn read_all<R: Wait + Clock, S: Read>(
     stream: &mut S,
     queue: &Queue,
 ) {
+    let mut intake = QueueIntake { rt, queue };
     let room: Result<Vec<u8>, AllocError> = vec![in alloc; 0; PIECE];
     let Ok(mut piece) = room else {
-        queue.put(rt, Event::Fault);
+        intake.put(Event::Fault);
         return;
     };
     let mut splitter = Splitter::new(alloc);
     for _ in rt.forever() {
         let count = match stream.read(&mut piece) {
             Ok(0) => {
-                queue.put(rt, Event::End);
+                intake.put(Event::End);
                 return;
             }
             Ok(count) => count,
             Err(error) if error.kind() == ErrorKind::Interrupted => continue,
             Err(_) => {
-                queue.put(rt, Event::Fault);
+                intake.put(Event::Fault);
                 return;
             }
         };
-        if !put_events(rt, &mut splitter, &piece[..count], queue) {
+        if !put_events(rt, &mut splitter, &piece[..count], &mut intake) {
             return;
         }
     }
 }
 
-/// Puts the events of a piece into the queue, and says whether the queue is open.
-fn put_events<R: Wait + Clock>(
+/// Puts all events of a piece into the queue, in their order, and says whether the queue is open.
+fn put_events<R: Wait, I: Intake>(
     rt: &R,
     splitter: &mut Splitter,
     piece: &[u8],
-    queue: &Queue,
-) -> bool {
-    let Some(events) = split(rt, splitter, piece, queue) else {
+    intake: &mut I,
+) -> bool
+    // For every stream whose rest the splitter keeps:
+    ensures { (stream : List ℕ) → splitter.old ≡ kept_of stream → IsTrue result
+        → PutsPiece stream piece.now splitter.new (I.put_so_far intake.old)
+        (I.put_so_far intake.new) }
+{
+    let Some(events) = split(rt, splitter, piece, intake) else {
         return false;
     };
     for event in events {
-        if !queue.put(rt, event) {
+        if !intake.put(event) {
             return false;
         }
     }
@@ -69,17 +79,21 @@ fn put_events<R: Wait + Clock>(
 
 /// The events of a piece. If memory runs out, it tries again after a moment. There are none if the
 /// queue is closed.
-fn split<R: Wait + Clock>(
+fn split<R: Wait, I: Intake>(
     rt: &R,
     splitter: &mut Splitter,
     piece: &[u8],
-    queue: &Queue,
-) -> Option<Vec<Event>> {
+    intake: &mut I,
+) -> Option<Vec<Event>>
+    ensures adds { (stream : List ℕ) → splitter.old ≡ kept_of stream → IfSome result (λ events.
+        Adds stream piece.now events.items splitter.new) }
+    ensures none { I.put_so_far intake.new ≡ I.put_so_far intake.old }
+{
     for _ in rt.forever() {
         if let Ok(events) = splitter.feed(piece) {
             return Some(events);
         }
-        if queue.pause(rt, Duration::from_millis(PAUSE)) {
+        if intake.pause(Duration::from_millis(PAUSE)) {
             return None;
         }
     }

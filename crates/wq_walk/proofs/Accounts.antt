@@ -81,7 +81,7 @@ sound_steps says has root part (suc n) before after sound (mid, leads, one) =
 
 -- each row of a walk is of the path of its name
 pub rows_are_of_paths : (says : GivesStat) (has : Has) → RowsAreOfPaths says has
-rows_are_of_paths says has root part rows (names, told, once, (steps, last, leads, done)) =
+rows_are_of_paths says has root part rows (names, read, (steps, last, leads, done)) =
     (sound_steps says has root part steps (record { above = []; here = fresh root names; rows = [] })
     (record { above = []; here = last; rows = rows })
     (([], sym (append-nil root)), All-nil (Below root), All-nil (IsRowOfPath says root part)) leads).2
@@ -389,7 +389,7 @@ account_end says root_len part last rows read path (none, still) (inr (inr (stat
 
 -- a walk accounts for each name of each directory that it read
 pub names_are_accounted_for : (says : GivesStat) (has : Has) → NamesAreAccountedFor says has
-names_are_accounted_for says has root part rows (names, told, once, (steps, last, leads, done)) =
+names_are_accounted_for says has root part rows (names, read, (steps, last, leads, done)) =
     let all = account_steps says has root part steps (record { above = []; here = fresh root names; rows = [] })
     (record { above = []; here = last; rows = rows })
     (top ∷ [], (names, inl refl), first, begun) leads in
@@ -399,7 +399,7 @@ names_are_accounted_for says has root part rows (names, told, once, (steps, last
     top = record { path = root; names = names }
 
     first : (d : ReadData) → IsOneOf d (top ∷ []) → WasRead has root d
-    first d (inl is) = subst (WasRead has root) is (inl (refl, told, once))
+    first d (inl is) = subst (WasRead has root) is (inl (refl, read))
     first d (inr none) = absurd none
 
     begun : (d : ReadData) → IsOneOf d (top ∷ []) → (n : List ℕ) → IsOneOf n d.names

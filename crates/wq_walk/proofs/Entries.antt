@@ -1,14 +1,16 @@
 -- The names at places of a text, and the places that remain if some are left out.
-use Rattle.std.proofs.Common.{◌≡◌, ℕ, Bool, true, false, List, [], ◌∷◌, ◌++◌, All, IsTrue, IfNone, IfOk, Option, None, Some, Result, Ok, Err, option_map, ap, sym, subst, ◌∙◌}
+use Rattle.std.proofs.Common.{◌≡◌, ℕ, Bool, true, false, List, [], ◌∷◌, ◌++◌, All, IsTrue, IfNone, IfOk, Option, None, Some, Result, Ok, Err, option_map, refl, cond, filter, ap, sym, subst, ◌∙◌}
+use Rattle.std.specs.List.{Contains}
 use Rattle.std.specs.List.Retain.{DedupsAll, DedupsFrom, IsDeduped}
 use Rattle.std.proofs.lemmas.List.{map-append}
-use Rattle.std.proofs.lemmas.List.Elements.{All-cons, All-head, All-map, All-nil, All-tail}
+use Rattle.std.proofs.lemmas.List.Elements.{All-cons, All-contains, All-head, All-map, All-nil, All-tail}
 use Rattle.wq_walk.specs.declared.names.Names.{Names}
 use Rattle.wq_walk.specs.declared.names.Place.{Place}
-use Rattle.wq_walk.specs.Directory.{names_left}
-use Rattle.wq_walk.specs.Entries.{AreEntries, is_entry}
-use Rattle.wq_walk.specs.Names.{name_at, names_at}
+use Rattle.wq_walk.specs.Directory.{AllAreLeft, names_given, names_left}
+use Rattle.wq_walk.specs.Entries.{AreDistinct, AreEntries, AreEntriesOf, is_entry, names_of_text}
+use Rattle.wq_walk.specs.Names.{AreAllEntries, name_at, names_at}
 use Rattle.wq_walk.specs.System.{has_here}
+use Rattle.wq_walk.specs.Told.{GivesEntries, Has}
 use Rattle.wq_walk.specs.Unseen.{HasMissed}
 
 -- the name at a last place is the last name
@@ -16,15 +18,51 @@ pub taken : (bytes : List ℕ) (old new : List Place) (place : Place) → old �
     → names_at bytes old ≡ names_at bytes new ++ (name_at bytes place ∷ [])
 taken bytes old new place is = ap (names_at bytes) is ∙ map-append (name_at bytes) new (place ∷ [])
 
--- the names of a directory are those of entries, each once
+-- the names that are left of a directory are entries, each once
 pub are_entries : (names : Names) → AreEntries (names_left names)
 are_entries names =
     (All-map (λ name. IsTrue (is_entry name)) (name_at names.bytes.items) names.places.items names.entries, names.distinct)
 
--- the names of a directory: those of its entries, or none because a call of the system failed
-pub told_here : {E : Type 0} (path : List ℕ) (result : Result (Option Names) E) → IfOk result (λ names. IfNone names HasMissed) → IfOk result (λ names. has_here path (option_map names_left names))
+-- what passes a test is what was kept by it
+passes : (names : List (List ℕ)) → All (λ name. IsTrue (is_entry name)) (filter is_entry names)
+passes [] = All-nil (λ name. IsTrue (is_entry name))
+passes (n ∷ ns) = at (is_entry n) refl (passes ns)
+  where
+    at : (b : Bool) → is_entry n ≡ b → All (λ name. IsTrue (is_entry name)) (filter is_entry ns) → All (λ name. IsTrue (is_entry name)) (cond b (n ∷ filter is_entry ns) (filter is_entry ns))
+    at true e rest = All-cons (λ name. IsTrue (is_entry name)) n (filter is_entry ns) e rest
+    at false e rest = rest
+
+-- the entries among the names that a disk gave are entries, each once
+pub entries_of : (given names : List (List ℕ)) → AreEntriesOf given names → AreEntries names
+unfolding AreEntriesOf
+entries_of given names (all, none, distinct) =
+    (λ k d within. All-contains (λ name. IsTrue (is_entry name)) (filter is_entry given) _ (passes given) (none k d within), distinct)
+
+-- the names that a disk gives for a directory are entries, each once
+pub read_entries : (has : Has) (path : List ℕ) (names : List (List ℕ)) → GivesEntries has path names → AreEntries names
+unfolding GivesEntries
+read_entries has path names (given, told, are) = entries_of given names are
+
+-- the names that are left of those of all entries in a text, if each stays once
+pub all_entries : (text : List ℕ) (places made : List Place) → names_at text places ≡ filter is_entry (names_of_text text)
+    → All (Contains (names_at text made)) (names_at text places) → All (Contains (names_at text places)) (names_at text made) → AreDistinct (names_at text made)
+    → AreAllEntries text made
+unfolding AreEntriesOf
+all_entries text places made is kept no_more distinct = (
+  subst (All (Contains (names_at text made))) is kept,
+  subst (λ names. All (Contains names) (names_at text made)) is no_more,
+  distinct,
+)
+
+-- a disk gives the entries of a directory of which no name was taken yet
+pub gives_entries : (has : Has) (path : List ℕ) (names : Names) → has path (Some (names_given names)) → AllAreLeft names → GivesEntries has path (names_left names)
+unfolding GivesEntries
+gives_entries has path names told all = (names_given names, told, all)
+
+-- the names of a directory: those of its text, or none because a call of the system failed
+pub told_here : {E : Type 0} (path : List ℕ) (result : Result (Option Names) E) → IfOk result (λ names. IfNone names HasMissed) → IfOk result (λ names. has_here path (option_map names_given names))
 told_here path (Ok None) missed = missed
-told_here path (Ok (Some names)) missed = are_entries names
+told_here path (Ok (Some names)) missed = (names.bytes.items, refl)
 told_here path (Err fault) missed = tt
 
 -- if a test leaves some items out and changes none, the rest keep each fact that holds of all

@@ -1,9 +1,7 @@
 -- Each row of a glance is one of the view, or of the path of its name: by its steps.
-use Rattle.std.proofs.Common.{ℕ, zero, suc, Bool, true, false, List, [], ◌∷◌, ◌++◌, All, cond, filter, map, inl, inr, refl, ap, sym, subst, ◌∙◌, append_assoc, append-nil, Some, length}
+use Rattle.std.proofs.Common.{ℕ, zero, suc, List, [], ◌∷◌, ◌++◌, All, inl, inr, refl, ap, sym, subst, ◌∙◌, append_assoc, append-nil, Some, length}
 use Rattle.std.proofs.lemmas.List.Elements.{All-append, All-cons, All-nil, All-pop, All-push, All-weaker}
 use Rattle.std.specs.Str.{byte}
-use Rattle.wq_view.specs.Again.{seen_row, seen_rows}
-use Rattle.wq_view.specs.Below.{is_below}
 use Rattle.wq_record.specs.RecordData.{RecordData}
 use Rattle.wq_record.specs.Seen.{SeenData}
 use Rattle.wq_walk.specs.Accounts.{IsOneOf, IsRowOfPath}
@@ -74,7 +72,7 @@ sound_steps says has records asked root (suc n) before after sound (mid, leads, 
 
 -- each row of a glance is one of the view, or of the path of its name
 pub glance_rows_are_known : (says : GivesStat) (has : Has) → GlanceRowsAreKnown says has
-glance_rows_are_known says has records asked root rows (names, told, once, (steps, last, leads, done)) =
+glance_rows_are_known says has records asked root rows (names, read, (steps, last, leads, done)) =
     (sound_steps says has records asked root steps (record { above = []; here = fresh root names; rows = [] })
     (record { above = []; here = last; rows = rows })
     (([], sym (append-nil root)), All-nil (Below root), All-nil (IsRowOfGlance says records asked root)) leads).2

@@ -3,6 +3,8 @@ mod Joins
 mod Pieces
 mod Entries
 mod Distinct
+mod EachOnce
+mod Cuts
 mod Walking
 mod Walked
 mod Drawn

@@ -21,6 +21,7 @@ use Rattle.wq_walk.specs.Part.{is_in}
 use Rattle.wq_walk.specs.Told.{GivesStat, Has, HasEntries}
 use Rattle.wq_walk.specs.Walk.{AreSteps, DirectoryData, IsLooked, IsStep, IsWalk, WalkData, fresh, name_of_path, row_with_stat}
 use Rattle.wq_walk.proofs.Accounts.{Below, Sound, rows_are_of_paths, sound_step}
+use Rattle.wq_walk.proofs.Entries.{read_entries}
 
 -- how often a test passes: once or never, and over a list
 abbrev once : Bool → ℕ
@@ -219,7 +220,9 @@ step_adds_none says has root part before after sound (inr (inl (name, waiting, n
   where
     few : HasEntries has (before.here.path ++ name) names
         → count (λ n. reach (((before.here.path ++ name) ++ (byte "/" ∷ [])) ++ n) q) names ≤ once (below (before.here.path ++ name) q)
-    few (inl (told, entries)) = under (before.here.path ++ name) q names (slashless names entries) entries.1
+    few (inl gives) =
+        let entries = read_entries has (before.here.path ++ name) names gives in
+        under (before.here.path ++ name) q names (slashless names entries) entries.1
     few (inr (none, told)) = omega (arith, ap (count (λ n. reach (((before.here.path ++ name) ++ (byte "/" ∷ [])) ++ n) q)) none)
 step_adds_none says has root part before after sound (inr (inr ((none, still), up, kept))) q =
     omega (
@@ -240,7 +243,8 @@ steps_add_none says has root part (suc n) before after sound (mid, leads, one) =
 
 -- a walk lists each path at most once
 once_listed : (says : GivesStat) (has : Has) (root : List ℕ) (part : Part) (rows : List SeenData) → IsWalk says has root part rows → (q : List ℕ) → listed root q rows ≤ 1
-once_listed says has root part rows (names, told, entries, (steps, last, leads, done)) q =
+once_listed says has root part rows (names, gives, (steps, last, leads, done)) q =
+    let entries = read_entries has root names gives in
     let begin : WalkData = record { above = []; here = fresh root names; rows = [] } in
     let end : WalkData = record { above = []; here = last; rows = rows } in
     let all = steps_add_none says has root part steps begin end (([], sym (append-nil root)), All-nil (Below root), All-nil (IsRowOfPath says root part)) leads in

@@ -6,9 +6,8 @@ use Rattle.std.specs.Str.{byte}
 use Rattle.wq_record.specs.Seen.{SeenData, Stat}
 use Rattle.wq_record.specs.declared.kind.Kind.TheVariants.{Dir}
 use Rattle.wq_walk.specs.declared.part.Part.{Part}
-use Rattle.wq_walk.specs.Entries.{AreEntries}
 use Rattle.wq_walk.specs.Part.{is_in}
-use Rattle.wq_walk.specs.Told.{GivesStat, Has, HasEntries}
+use Rattle.wq_walk.specs.Told.{GivesEntries, GivesStat, Has, HasEntries}
 use Rattle.wq_walk.specs.Walk.{HasNoneBelow, IsPassedOver, IsWalk, name_of_path, row_with_stat}
 
 -- a fact holds of some item of a list
@@ -33,15 +32,16 @@ RowsAreOfPaths says has =
     (root : List ℕ) (part : Part) (rows : List SeenData) → IsWalk says has root part rows
     → All (IsRowOfPath says root part) rows
 
--- a directory that a walk read: its path, with a slash at its end, and the names in it
+-- a directory that a walk read: its path, with a slash at its end, and the names of its entries
 pub record ReadData : Type 0 where
   pub path : List ℕ
   pub names : List (List ℕ)
 
--- a directory was read: the root's by its path, and another one by its path without the slash
+-- a directory was read: the root's by its path, and another one by its path without the slash. The
+-- names are those of all entries that the disk gave
 abbrev pub WasRead : Has → List ℕ → ReadData → Type 0
 WasRead has root directory =
-    ((directory.path ≡ root) × has root (Some directory.names) × AreEntries directory.names)
+    ((directory.path ≡ root) × GivesEntries has root directory.names)
     ⊎ ((path : List ℕ) × (directory.path ≡ path ++ (byte "/" ∷ []))
     × HasEntries has path directory.names)
 

@@ -7,12 +7,21 @@ use Rattle.wq_walk.specs.declared.names.Names.{Names}
 use Rattle.wq_walk.specs.declared.names.Place.{Place}
 use Rattle.wq_walk.specs.declared.rows.Rows.{Rows}
 use Rattle.wq_walk.specs.Found.{found_rows}
-use Rattle.wq_walk.specs.Names.{name_at, names_at}
+use Rattle.wq_walk.specs.Entries.{names_of_text}
+use Rattle.wq_walk.specs.Names.{AreAllEntries, name_at, names_at}
 use Rattle.wq_walk.specs.Walk.{DirectoryData, IsDone, WalkData}
 
 -- the names of a directory that were not taken yet, the next one last
 abbrev pub names_left : Names → List (List ℕ)
 names_left names = names_at names.bytes.items names.places.items
+
+-- the names of a directory as the system gave them
+abbrev pub names_given : Names → List (List ℕ)
+names_given names = names_of_text names.bytes.items
+
+-- the names of all entries of a directory are left
+abbrev pub AllAreLeft : Names → Type 0
+AllAreLeft names = AreAllEntries names.bytes.items names.places.items
 
 -- the name at a place in a directory
 abbrev pub entry_at : Directory → Place → List ℕ

@@ -10,10 +10,9 @@ use Rattle.wq_record.specs.RecordData.{RecordData, record_named}
 use Rattle.wq_record.specs.Seen.{SeenData}
 use Rattle.wq_record.specs.declared.kind.Kind.TheVariants.{Dir}
 use Rattle.wq_walk.specs.Accounts.{IsOneOf, IsRowOfPath}
-use Rattle.wq_walk.specs.Entries.{AreEntries}
 use Rattle.wq_walk.specs.Listed.{IsPathOf}
 use Rattle.wq_walk.specs.Part.{whole_part}
-use Rattle.wq_walk.specs.Told.{GivesStat, Has}
+use Rattle.wq_walk.specs.Told.{GivesEntries, GivesStat, Has}
 use Rattle.wq_walk.specs.Walk.{DirectoryData, IsDone, IsStep, WalkData, fresh, name_of_path}
 
 -- the rows of the files below a directory that exist by the records of a view
@@ -70,7 +69,7 @@ GlanceEnds says has records asked root_len before rows =
 abbrev pub IsGlance : GivesStat → Has → List RecordData → List (List ℕ) → List ℕ → List SeenData
     → Type 0
 IsGlance says has records asked root rows =
-    (names : List (List ℕ)) × has root (Some names) × AreEntries names
+    (names : List (List ℕ)) × GivesEntries has root names
     × GlanceEnds says has records asked (length root)
     (record { above = []; here = fresh root names; rows = [] }) rows
 

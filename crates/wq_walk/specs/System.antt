@@ -1,13 +1,13 @@
 -- The facts about the disk of this machine: its answers for a path are results of calls of the
--- system. No contract of the system's calls says that they were calls at that path. No public
--- document defines it.
+-- system. No contract of the system's calls says that they were calls at that path, or which bytes
+-- a directory gives. No public document defines it.
 use Rattle.std.specs.Prelude.{◌≡◌, ℕ, ℤ, List, MatchOption}
 use Rattle.std.specs.Fs.{file_type, metadata_len}
 use Rattle.std.specs.declared.fs.Metadata.{Metadata}
 use Rattle.wq_crawl.specs.declared.tree.TreeFault.{TreeFault}
 use Rattle.wq_record.specs.RecordData.{RecordData}
 use Rattle.wq_record.specs.Seen.{SeenData, Stat}
-use Rattle.wq_walk.specs.Entries.{AreEntries}
+use Rattle.wq_walk.specs.Entries.{names_of_text}
 use Rattle.wq_walk.specs.Glance.{IsGlancedAt}
 use Rattle.wq_walk.specs.Listed.{IsListed, IsUnread}
 use Rattle.wq_walk.specs.Stat.{kind_of_mode, milliseconds_of, nearest_size}
@@ -27,10 +27,11 @@ IsOfMetadata stat =
 abbrev pub says_here : GivesStat
 says_here path told = MatchOption told HasMissed IsOfMetadata
 
--- the names that this disk gives for a directory: those of entries, or nothing because a call of
--- the system failed
+-- the names that this disk gives for a directory: those in a text, in which byte 0 ends each name,
+-- or nothing because a call of the system failed
 abbrev pub has_here : Has
-has_here path told = MatchOption told HasMissed AreEntries
+has_here path told =
+    MatchOption told HasMissed (λ names. (text : List ℕ) × (names ≡ names_of_text text))
 
 -- a call of the system failed because no file handle was left
 abbrev pub fails_here : List ℕ → Type 0

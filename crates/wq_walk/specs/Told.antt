@@ -5,13 +5,15 @@ use Rattle.std.specs.Str.{IsUtf8}
 use Rattle.wq_crawl.specs.declared.tree.TreeFault.{TreeFault}
 use Rattle.wq_crawl.specs.declared.tree.TreeFault.TheVariants.{NoHandle, Unreadable}
 use Rattle.wq_record.specs.Seen.{Stat}
-use Rattle.wq_walk.specs.Entries.{AreEntries}
+use Rattle.wq_walk.specs.Entries.{AreEntriesOf}
 
 -- the stats that a disk may give for the file of a path: none if it cannot look at the file
 abbrev pub GivesStat : Type 1
 GivesStat = List ℕ → Option Stat → Type 0
 
--- the names that a disk may give for the directory of a path: none if it cannot read the directory
+-- the names that a disk may give for the directory of a path, as the system gives them: those of
+-- entries, of the directory itself and of the one above it, maybe twice; none if it cannot read the
+-- directory
 abbrev pub Has : Type 1
 Has = List ℕ → Option (List (List ℕ)) → Type 0
 
@@ -23,11 +25,16 @@ IsHandleFault fails fault = fault ≡ NoHandle → (path : List ℕ) × fails pa
 abbrev pub IsFailure : (List ℕ → Type 0) → TreeFault → Type 0
 IsFailure fails fault = (fault ≡ Unreadable → ⊥) × IsHandleFault fails fault
 
+-- a disk gives some names for the directory of a path, and these are the entries among them
+unfoldable pub GivesEntries : Has → List ℕ → List (List ℕ) → Type 0
+GivesEntries has path names =
+    (given : List (List ℕ)) × has path (Some given) × AreEntriesOf given names
+
 -- a directory of this path was read, and has these entries, each once; none if it cannot be read,
 -- or the path is no text
 abbrev pub HasEntries : Has → List ℕ → List (List ℕ) → Type 0
 HasEntries has path names =
-    (has path (Some names) × AreEntries names)
+    GivesEntries has path names
     ⊎ ((names ≡ []) × (has path None ⊎ (IsUtf8 path → ⊥)))
 
 -- a root cannot be read: the disk cannot read its directory, or cannot look at it

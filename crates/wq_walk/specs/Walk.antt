@@ -7,9 +7,8 @@ use Rattle.wq_record.specs.Name.{is_valid_name}
 use Rattle.wq_record.specs.Seen.{SeenData, Stat}
 use Rattle.wq_record.specs.declared.kind.Kind.TheVariants.{Dir}
 use Rattle.wq_walk.specs.declared.part.Part.{Part}
-use Rattle.wq_walk.specs.Entries.{AreEntries}
 use Rattle.wq_walk.specs.Part.{MayHaveBelow, is_in, name_below}
-use Rattle.wq_walk.specs.Told.{GivesStat, Has, HasEntries}
+use Rattle.wq_walk.specs.Told.{GivesEntries, GivesStat, Has, HasEntries}
 
 -- a directory of a walk: its path with a slash at its end; the names in it that the walk has not
 -- looked at yet, the next one last; and the names of directories that it enters later, the next one
@@ -134,6 +133,6 @@ WalkEnds says has root_len part before rows =
 -- and ends when no step is left
 abbrev pub IsWalk : GivesStat → Has → List ℕ → Part → List SeenData → Type 0
 IsWalk says has root part rows =
-    (names : List (List ℕ)) × has root (Some names) × AreEntries names
+    (names : List (List ℕ)) × GivesEntries has root names
     × WalkEnds says has (length root) part
     (record { above = []; here = fresh root names; rows = [] }) rows

@@ -1,8 +1,8 @@
 //! The questions of a walk to a disk: the names in a directory, and the kind, size and time of a file. Several threads
 //! may ask at once.
-ghost use Rattle.std.specs.Prelude.{IfErr, IfOk};
+ghost use Rattle.std.specs.Prelude.{IfErr, IfOk, IfSome};
 ghost use Rattle.std.specs.Option.{option_map};
-ghost use Rattle.wq_walk.specs.Directory.{names_left};
+ghost use Rattle.wq_walk.specs.Directory.{AllAreLeft, names_given};
 ghost use Rattle.wq_walk.specs.Told.{IsFailure};
 
 use crate::names::{Block, Names, names_in};
@@ -24,16 +24,18 @@ pub trait Disk {
     // The stats that it may give for the file of a path: none if it cannot look at the file.
     ghost says: { Self → List ℕ → Option Stat → Type 0 };
 
-    // The names that it may give for the directory of a path: none if it cannot read the directory.
+    // The names that it may give for the directory of a path, as the system gives them: none if it cannot read the
+    // directory.
     ghost has: { Self → List ℕ → Option (List (List ℕ)) → Type 0 };
 
     // A call of the system failed at a path because no file handle was left. So no path has an answer.
     ghost fails: { Self → List ℕ → Type 0 };
 
-    /// The names in the directory of this path, each once, or nothing if the directory cannot be read. If a path ends
-    /// in a slash, the disk may follow a link there. A path without that slash is not read if it ends in a link.
+    /// The names of all entries in the directory of this path, each once, or nothing if it cannot be read. If a path
+    /// ends in a slash, the disk may follow a link there. A path without that slash is not read if it ends in a link.
     fn names_in(&self, block: &mut Block, path: &str) -> Result<Option<Names>, TreeFault>
-        ensures told { IfOk result (λ names. has self.now path.now (option_map names_left names)) }
+        ensures told { IfOk result (λ names. has self.now path.now (option_map names_given names)) }
+        ensures entries { IfOk result (λ names. IfSome names AllAreLeft) }
         ensures fault { IfErr result (IsFailure (fails self.now)) };
 
     /// The stat of the file of this path, or nothing if the disk cannot look at it. A link is not followed.

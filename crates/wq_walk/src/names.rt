@@ -1,15 +1,16 @@
 //! The names in one directory on disk. Another module looks at their files.
-ghost use Rattle.std.specs.Prelude.{◌≡◌, false, ◌++◌, ◌∷◌, [], IfErr, IfNone, IfOk, IfSome, IsTrue, None};
-ghost use Rattle.wq_walk.specs.Entries.{AreDistinct, has_no_slash, is_entry};
-ghost use Rattle.wq_walk.specs.Names.{AreOfEntries, name_at, names_at};
-ghost use Rattle.wq_record.specs.Name.{name_cmp};
+ghost use Rattle.std.specs.Prelude.{◌≡◌, ◌<◌, ◌++◌, ◌∷◌, [], All, IfErr, IfNone, IfOk, IfSome, IsTrue};
+ghost use Rattle.std.specs.Prelude.{None, filter, length, not};
+ghost use Rattle.std.specs.List.{Contains};
+ghost use Rattle.wq_walk.specs.Entries.{AreDistinct, has_no_slash, is_entry, names_of_text};
+ghost use Rattle.wq_walk.specs.Names.{AreAllEntries, AreOfEntries, HaveHeads, name_at, name_head, names_at, place_cmp};
 ghost use Rattle.std.proofs.Props.{props};
 ghost use Rattle.std.specs.Ordering.{is_lt};
-ghost use Rattle.std.specs.declared.cmp.Ordering.TheVariants.{Less};
 ghost use Rattle.wq_walk.specs.Unseen.{HasMissed, IsCallFault};
 
 use crate::new_names::MOST_SHARED;
 use crate::unseen::walk_fault;
+use memchr::memchr;
 use std::alloc::{AllocError, Global};
 use std::cmp::Ordering;
 use std::fs::Files;
@@ -27,6 +28,7 @@ const HEAD: usize = 16;
 #[derive(Drop)]
 pub struct Block {
     bytes: Vec<u8>,
+    ghost room: { 0 < length bytes.items },
 }
 
 impl Block {
@@ -51,17 +53,10 @@ pub(crate) struct Place {
     end: usize,
 }
 
-/// The names of the entries of a directory as the system gives them, in one text. A name may be there twice.
-#[derive(Drop)]
-struct Given {
-    bytes: Vec<u8>,
-    places: Vec<Place>,
-    ghost entries: { AreOfEntries bytes.items places.items },
-}
-
-/// The names of the entries of a directory, in one text.
+/// The names of the entries of a directory, in the text that the system gave.
 #[derive(Drop)]
 pub struct Names {
+    /// The text, in which byte 0 ends each name. The directory itself and the one above it may be there too.
     bytes: Vec<u8>,
     /// The places of the names that were not taken yet, in falling order.
     places: Vec<Place>,
@@ -78,6 +73,20 @@ impl Names {
             bytes: Vec::new(alloc),
             places: Vec::new(alloc),
         }
+    }
+
+    /// The names of the entries in a text, in which byte 0 ends each name.
+    fn of_text(text: Vec<u8>) -> Result<Names, AllocError>
+        ensures text { IfOk result (λ names. names.bytes ≡ text) }
+        ensures entries { IfOk result (λ names.
+            AreAllEntries names.bytes.items names.places.items) }
+    {
+        let places = places_in(*text.allocator(), &text)?;
+        let places = each_once(&text, places);
+        Ok(Names {
+            bytes: text,
+            places,
+        })
     }
 
     /// The number of names that were not taken yet.
@@ -136,58 +145,6 @@ impl Names {
     }
 }
 
-impl Given {
-    /// No names. It takes no memory.
-    fn new(alloc: Global) -> Given {
-        Given {
-            bytes: Vec::new(alloc),
-            places: Vec::new(alloc),
-        }
-    }
-
-    /// Adds the names of a block, in which byte 0 ends each name. It leaves out the names of the directory itself and
-    /// of the one above it.
-    fn add(&mut self, block: &[u8]) -> Result<(), AllocError> {
-        for name in block.split(|byte| *byte == 0) {
-            if is_entry(name) {
-                self.push(name)?;
-            }
-        }
-        Ok(())
-    }
-
-    /// Adds the name of an entry.
-    fn push(&mut self, name: &[u8]) -> Result<(), AllocError>
-        requires { IsTrue (is_entry name.now) }
-    {
-        let start = self.bytes.len();
-        self.bytes.extend_from_slice(name)?;
-        self.places.push(Place {
-            head: head_of(name),
-            start,
-            end: self.bytes.len(),
-        })?;
-        Ok(())
-    }
-
-    /// The names in their order, each once.
-    fn sorted(self) -> Names {
-        let (text, mut places) = (self.bytes, self.places);
-        let bytes = text.as_slice();
-        places.sort_unstable_by(|a, b| order(bytes, *b, *a));
-        let is_same = |a: &mut Place, b: &mut Place| -> bool
-            ensures { (a.exit.now ≡ a.entry.now) × (b.exit.now ≡ b.entry.now)
-                × (result ≡ false → name_cmp (name_at bytes.entry.now a.entry.now)
-                (name_at bytes.entry.now b.entry.now) ≡ Less) }
-        { !is_below(bytes, *a, *b) };
-        places.dedup_by(is_same);
-        Names {
-            bytes: text,
-            places,
-        }
-    }
-}
-
 /// The names in the directory of this path, or nothing if it cannot be read. If a path ends in a slash, the call may
 /// follow a link there. A path without that slash is not read if it ends in a link.
 pub(crate) fn names_in<R: Files>(
@@ -195,23 +152,77 @@ pub(crate) fn names_in<R: Files>(
     block: &mut Block,
     path: &str,
 ) -> Result<Option<Names>, TreeFault>
+    ensures entries { IfOk result (λ names. IfSome names (λ names.
+        AreAllEntries names.bytes.items names.places.items)) }
     ensures none { IfOk result (λ names. IfNone names HasMissed) }
     ensures fault { IfErr result IsCallFault }
 {
-    let mut directory = match files.open_dir(path) {
-        Ok(directory) => directory,
-        Err(error) => return nothing(&error),
-    };
-    let mut names = Given::new(block.allocator());
+    match files.open_dir(path) {
+        Ok(mut directory) => names_of(&mut directory, block),
+        Err(error) => nothing(&error),
+    }
+}
+
+/// The names that a directory gives, or nothing if it cannot be read to its end.
+fn names_of<D: Read>(directory: &mut D, block: &mut Block) -> Result<Option<Names>, TreeFault>
+    // If the directory tells its text, this is the text of the names:
+    ensures text { IfOk result (λ names. IfSome names (λ names.
+        IfSome (D.remaining directory.old) (λ text. names.bytes.items ≡ text))) }
+    ensures entries { IfOk result (λ names. IfSome names (λ names.
+        AreAllEntries names.bytes.items names.places.items)) }
+    ensures none { IfOk result (λ names. IfNone names HasMissed) }
+    ensures fault { IfErr result IsCallFault }
+{
+    let mut text = Vec::new(block.allocator());
     for _ in 0..u64::MAX {
         match directory.read(&mut block.bytes) {
-            Ok(0) => break,
-            Ok(count) => names.add(&block.bytes[..count])?,
+            Ok(0) => return Ok(Some(Names::of_text(text)?)),
+            Ok(count) => text.extend_from_slice(&block.bytes[..count])?,
             Err(error) if error.kind() == ErrorKind::Interrupted => {}
             Err(error) => return nothing(&error),
         }
     }
-    Ok(Some(names.sorted()))
+    // No directory has a longer text.
+    Err(TreeFault::NoMemory)
+}
+
+/// The places of the names of entries in a text, in which byte 0 ends each name.
+fn places_in(alloc: Global, text: &[u8]) -> Result<Vec<Place>, AllocError>
+    ensures names { IfOk result (λ places.
+        names_at text.now places.items ≡ filter is_entry (names_of_text text.now)) }
+    ensures heads { IfOk result (λ places. HaveHeads text.now places.items) }
+{
+    let mut places = Vec::new(alloc);
+    let mut start = 0;
+    while start < text.len() {
+        let rest = &text[start..];
+        let end = start + memchr(0, rest).unwrap_or(rest.len());
+        let name = &text[start..end];
+        if is_entry(name) {
+            let head = head_of(name);
+            places.push(Place { head, start, end })?;
+        }
+        start = end + 1;
+    }
+    Ok(places)
+}
+
+/// The places in falling order, and each name once.
+fn each_once(text: &[u8], mut places: Vec<Place>) -> Vec<Place>
+    requires { HaveHeads text.now places.items }
+    ensures kept { All (Contains (names_at text.now result.items))
+        (names_at text.now places.items) }
+    ensures no_more { All (Contains (names_at text.now places.items))
+        (names_at text.now result.items) }
+    ensures distinct { AreDistinct (names_at text.now result.items) }
+{
+    places.sort_unstable_by(|a, b| order(text, *b, *a));
+    let is_same = |a: &mut Place, b: &mut Place| -> bool
+        ensures { (a.exit.now ≡ a.entry.now) × (b.exit.now ≡ b.entry.now)
+            × (result ≡ not (is_lt (place_cmp text.entry.now a.entry.now b.entry.now))) }
+    { !order(text, *a, *b).is_lt() };
+    places.dedup_by(is_same);
+    places
 }
 
 /// Whether a name that the system gives is that of an entry, and not of the directory itself or the one above it. No
@@ -229,7 +240,10 @@ fn has_no_slash(name: &[u8]) -> bool
 }
 
 /// The first bytes of a name as a number. The numbers rise as the names do.
-fn head_of(name: &[u8]) -> u128 {
+#[tactic(auto, unfolding(crate::specs::Names::name_head))]
+fn head_of(name: &[u8]) -> u128
+    ensures { result ≡ name_head name.now }
+{
     let mut head = [0; HEAD];
     let len = name.len().min(HEAD);
     head[..len].copy_from_slice(&name[..len]);
@@ -237,18 +251,13 @@ fn head_of(name: &[u8]) -> u128 {
 }
 
 /// The byte order of the names at two places.
-fn order(bytes: &[u8], a: Place, b: Place) -> Ordering {
+fn order(bytes: &[u8], a: Place, b: Place) -> Ordering
+    ensures { result ≡ place_cmp bytes.now a b }
+{
     match a.head.cmp(&b.head) {
         Ordering::Equal => text_at(bytes, a).cmp(text_at(bytes, b)),
         order => order,
     }
-}
-
-/// Whether the name at a place is below the name at another one.
-fn is_below(bytes: &[u8], a: Place, b: Place) -> bool
-    ensures { result ≡ is_lt (name_cmp (name_at bytes.now a) (name_at bytes.now b)) }
-{
-    text_at(bytes, a).cmp(text_at(bytes, b)).is_lt()
 }
 
 fn text_at(bytes: &[u8], place: Place) -> &[u8]

@@ -6,10 +6,9 @@ ghost use Rattle.wq_crawl.specs.Tree.{is_of_device};
 ghost use Rattle.wq_record.specs.Name.{is_valid_name};
 ghost use Rattle.wq_record.specs.Seen.{SeenData, is_lawful_row};
 ghost use Rattle.wq_walk.specs.Directory.{data_of, entry_at, names_left, walk_of};
-ghost use Rattle.wq_walk.specs.Entries.{AreEntries};
 ghost use Rattle.wq_walk.specs.Found.{found_rows};
 ghost use Rattle.wq_walk.specs.Part.{is_in};
-ghost use Rattle.wq_walk.specs.Told.{HasEntries, IsFailure, IsRootFault};
+ghost use Rattle.wq_walk.specs.Told.{GivesEntries, HasEntries, IsFailure, IsRootFault};
 ghost use Rattle.wq_walk.specs.Walk.{IsDone, IsLooked, IsStep, IsWalk, WalkEnds};
 ghost use Rattle.wq_walk.specs.Walk.{after_look, fresh, name_of_path, row_with_stat, rows_of_file};
 
@@ -72,7 +71,7 @@ pub(crate) fn rows_in<'a, D: Disk>(
 }
 
 /// The directory of a root, before the walk looks at any of its names.
-#[tactic(auto, using(crate::proofs::Entries::are_entries))]
+#[tactic(auto, using(crate::proofs::Entries::gives_entries))]
 fn top<D: Disk>(
     disk: &D,
     alloc: Global,
@@ -80,8 +79,7 @@ fn top<D: Disk>(
     root: &str,
 ) -> Result<Directory, TreeFault>
     ensures read { IfOk result (λ top. (names : List (List ℕ))
-        × D.has disk.now root.now (Some names)
-        × AreEntries names × (data_of top ≡ fresh root.now names)) }
+        × GivesEntries (D.has disk.now) root.now names × (data_of top ≡ fresh root.now names)) }
     ensures fault { IfErr result
         (IsRootFault (D.says disk.now) (D.has disk.now) (D.fails disk.now) root.now) }
 {
@@ -106,7 +104,7 @@ impl<'a, 'p> Walk<'a, 'p> {
         ensures root { IfOk result (λ begun. begun.0.path.root_len ≡ length root.now) }
         ensures above { IfOk result (λ begun. begun.0.above.items ≡ []) }
         ensures read { IfOk result (λ begun. (names : List (List ℕ))
-            × D.has disk.now root.now (Some names) × AreEntries names
+            × GivesEntries (D.has disk.now) root.now names
             × (data_of begun.1 ≡ fresh root.now names)) }
         ensures fault { IfErr result
             (IsRootFault (D.says disk.now) (D.has disk.now) (D.fails disk.now) root.now) }
@@ -362,7 +360,7 @@ pub(crate) fn stat_at<D: Disk>(disk: &D, path: &TreePath) -> Result<Option<Stat>
 
 /// The names in the directory of a path, or none if it cannot be read. That is counted here, if the
 /// directory counts.
-#[tactic(auto, using(crate::proofs::Entries::are_entries))]
+#[tactic(auto, using(crate::proofs::Entries::gives_entries))]
 fn names_at<D: Disk>(
     disk: &D,
     alloc: Global,

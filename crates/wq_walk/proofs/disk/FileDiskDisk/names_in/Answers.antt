@@ -1,4 +1,4 @@
--- the names of a directory are those of entries
+-- the names that the system gives
 use Rattle.wq_walk.proofs.Entries.{told_here}
 use Rattle.wq_walk.proofs.disk.FileDiskDisk.names_in.Goals as goal
 

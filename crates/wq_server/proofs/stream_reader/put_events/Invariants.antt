@@ -1,0 +1,10 @@
+-- the events so far were put
+use Rattle.std.proofs.Common.{◌≡◌, ◌++◌}
+use Rattle.std.specs.Vec.Iter.{into_iter_items}
+use Rattle.wq_server.specs.Intake.{Appended}
+use Rattle.wq_server.proofs.stream_reader.put_events.Given as goal
+
+abbrev pub invariant-loop-event : goal.invariant-loop-event
+invariant-loop-event g l =
+    Appended (g.I.Intake.put_so_far l.initial.intake) l.yielded (g.I.Intake.put_so_far l.intake)
+    × (into_iter_items l.initial.event-iterator ≡ l.yielded ++ into_iter_items l.event-iterator)
