@@ -11,7 +11,7 @@ use Rattle.wq_live.specs.declared.event.RootEvent.{RootEvent}
 use Rattle.wq_crawl.specs.Crawl.{IsNoPassOver, IsOfRows, IsPassOver, IsRelisted, IsStillOver, ListerData, crawler_at}
 use Rattle.wq_crawl.specs.Device.{count_of}
 use Rattle.wq_crawl.specs.Publish.{IsNotTakenIn, IsPlace, Passes, with_start}
-use Rattle.wq_crawl.specs.Shared.{CrawledBetween, FindsOrRefuses, IsNotBefore, Starts, WatchedBetween}
+use Rattle.wq_crawl.specs.Shared.{CrawledBetween, FindsOrRefuses, IsNotBefore, StartsRoot, WatchedBetween}
 use Rattle.wq_crawl.specs.Tree.{ListedData, Lists}
 use Rattle.wq_crawl.specs.declared.fault.CrawlFault.{CrawlFault}
 use Rattle.wq_crawl.specs.declared.place.Place.{Place}
@@ -110,7 +110,7 @@ module _ (text : List ℕ) (first began after : ListerData) (from : IsNotBefore 
 
 -- the root was listed, and was to be started
 pub started_then : (text : List ℕ) (first after : ListerData) (pass : PassData) (over : IsPassOver text (crawler_at [] first) pass (crawler_at [] after)) → IsTrue after.whole
-    → (events : List RootEvent) (place : Place) (result : Result (List RootEvent) CrawlFault) → Starts text pass events place result → WatchedBetween text first result after
+    → (events : List RootEvent) (place : Place) (result : Result (List RootEvent) CrawlFault) → StartsRoot text pass events place result → WatchedBetween text first result after
 started_then text first after pass over whole events (Shown number) result (shown, inl is) =
     subst (λ r. WatchedBetween text first r after) (sym is) (after, events, events, later_by_pass first.listed after.listed text pass over.0, (Shown number, shown, (refl, refl)))
 started_then text first after pass over whole events (Shown number) result (shown, inr is) =

@@ -250,13 +250,3 @@ Unwatched number before (Ok told) after =
     (told ≡ after.events) × EndsRoot before.events number after.events
     × (after ≡ record before { events = after.events })
 Unwatched number before (Err fault) after = (fault ≡ NoMemory) × (after ≡ before)
-
--- a thread that had read this count of crawls asked for a root: the root was crawled; or its last
--- crawl began at this count or a later one, and the present list is returned
-abbrev pub CrawledOnce : List ℕ → ℕ → (ℕ → Option ℕ) → CrawlerData
-    → Result (Option (List RootEvent)) CrawlFault → CrawlerData → Type 0
-CrawledOnce text asked last before result after =
-    Crawled text before result after
-    ⊎ ((number : ℕ) × (begun : ℕ) × (answer : Result (List RootEvent) CrawlFault)
-    × (number_of text before.events ≡ Some number) × (last number ≡ Some begun)
-    × (asked ≤ begun) × (result ≡ tells answer) × Shared before answer after)

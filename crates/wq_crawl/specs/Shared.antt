@@ -27,13 +27,13 @@ FindsOrRefuses text events Free result = IsPlace text events Free × (result ≡
 
 -- a root was started with a pass in this list, unless the list shows it or has no room for it; or
 -- memory ran out for that
-abbrev pub Starts : List ℕ → PassData → List RootEvent → Place
+abbrev pub StartsRoot : List ℕ → PassData → List RootEvent → Place
     → Result (List RootEvent) CrawlFault → Type 0
-Starts text pass events (Shown number) result =
+StartsRoot text pass events (Shown number) result =
     (number_of text events ≡ Some number) × ((result ≡ Ok events) ⊎ (result ≡ Err NoMemory))
-Starts text pass events Full result =
+StartsRoot text pass events Full result =
     IsPlace text events Full × (result ≡ Err TooManyRoots)
-Starts text pass events Free result =
+StartsRoot text pass events Free result =
     IsPlace text events Free
     × ((result ≡ Ok (with_start text pass events)) ⊎ (result ≡ Err NoMemory))
 

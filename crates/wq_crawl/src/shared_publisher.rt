@@ -6,7 +6,7 @@ ghost use Rattle.wq_live.specs.Patched.{MakePass, pass_by};
 ghost use Rattle.wq_record.specs.Seen.{is_count};
 ghost use Rattle.wq_view.specs.View.{IsViewOf, ViewData};
 ghost use Rattle.wq_crawl.specs.Publish.{EndsRoot, IsNotTakenIn, Passes};
-ghost use Rattle.wq_crawl.specs.Shared.{FindsOrRefuses, Starts};
+ghost use Rattle.wq_crawl.specs.Shared.{FindsOrRefuses, StartsRoot};
 
 use crate::fault::CrawlFault;
 use crate::place::{Place, place_for};
@@ -128,7 +128,7 @@ impl<N: Named, R: Wait + Drop> SharedPublisher<N, R> {
     /// Publishes the start of the root of this text with this pass, unless it is shown, and returns the list.
     pub(crate) fn start(&self, rt: &R, root: &str, pass: Pass) -> Result<Told<N>, CrawlFault>
         ensures { (events : List RootEvent) × (place : Place)
-            × Starts root.now pass events place result }
+            × StartsRoot root.now pass events place result }
     {
         let mut publisher = self.publisher.lock(rt);
         match place_for(publisher.table(), root) {
