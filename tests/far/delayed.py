@@ -74,6 +74,26 @@ def check_a_change_in_a_walk(tally: built.Tally, room: Path) -> None:
         same(tally, "the end", server.shut_down(follower.client), 0)
 
 
+def check_many_threads(tally: built.Tally, room: Path) -> None:
+    """Many threads look at a slow tree, also if each of its directories has as many files."""
+    if not has_strace(tally):
+        return
+    root, said = room / "tree", room / "calls"
+    make_tree(root, 40, 25)
+    words = ["strace", "-f", "-D", "-qq", "-o", str(said), "-e", "trace=statx",
+             "-e", f"inject=statx:delay_enter={DELAY}"]
+    with Server(room, interval=A_HOUR, through=words) as server, Follower(tally, server, root) as follower:
+        follower.takes("a first answer")
+        follower.takes("a second answer")
+        before = said.stat().st_size
+        follower.takes("an answer by many threads")
+        with open(said, "rb") as calls:
+            calls.seek(before)
+            threads = {line.split()[0] for line in calls if line.count(b"statx")}
+        tally.check("many threads look at once", len(threads) >= 8, [f"{len(threads)} threads"])
+        same(tally, "the end", server.shut_down(follower.client), 0)
+
+
 def check_delayed_notice(tally: built.Tally, room: Path) -> None:
     """With a share and a short interval a list of a subscription comes for each way in which files are saved."""
     if not has_strace(tally):

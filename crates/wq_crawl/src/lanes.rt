@@ -9,6 +9,7 @@ use crate::tree::Tree;
 use std::alloc::{AllocError, Global};
 use std::sync::atomic::{AtomicU64, Ordering};
 use std::sync::{Arc, Mutex, Wait};
+use std::time::Duration;
 
 /// The parts of a lane.
 #[derive(Drop)]
@@ -19,15 +20,16 @@ pub struct LaneParts<T: Tree + Drop, S: Seconds + Drop> {
     pub seconds: S,
     /// Counts the calls of clients that wait for a crawl in the lane. The tree may look at it.
     pub waiting: Arc<AtomicU64>,
-    /// How many threads made the last listing in the lane. The tree says so here.
-    pub made_by: Arc<AtomicU64>,
+    /// How many nanoseconds of processor time other threads than the one that asked took for the last listing in the
+    /// lane. The tree says so here.
+    pub helped: Arc<AtomicU64>,
 }
 
 /// A lane that threads share, and the calls of clients that wait for it.
 #[derive(Drop)]
 pub(crate) struct SharedLane<T: Tree + Drop, S: Seconds + Drop> {
     pub(crate) callers: Callers,
-    made_by: Arc<AtomicU64>,
+    helped: Arc<AtomicU64>,
     pub(crate) lane: Mutex<Lane<T, S>>,
 }
 
@@ -44,14 +46,14 @@ impl<T: Tree + Drop, S: Seconds + Drop> SharedLane<T, S> {
     fn new(parts: LaneParts<T, S>) -> SharedLane<T, S> {
         SharedLane {
             callers: Callers::new(parts.waiting),
-            made_by: parts.made_by,
+            helped: parts.helped,
             lane: Mutex::new(Lane::new(Lister::new(parts.tree, parts.seconds))),
         }
     }
 
-    /// How many threads made the last listing, 1 at the least.
-    pub(crate) fn made_by(&self) -> u64 {
-        self.made_by.load(Ordering::SeqCst).max(1)
+    /// The processor time that other threads than the one that asked took for the last listing.
+    pub(crate) fn helped(&self) -> Duration {
+        Duration::from_nanos(self.helped.load(Ordering::SeqCst))
     }
 }
 

@@ -105,12 +105,12 @@ impl<N: Named, R: Wait + Drop, T: Tree + Drop, S: Seconds + Drop> SharedCrawler<
         made
     }
 
-    /// How many threads made the last listing of the root of this text.
-    pub fn made_by(&self, rt: &R, root: &str) -> u64 {
+    /// The processor time that other threads than the one that asked took for the last listing of the root of this text.
+    pub fn helped(&self, rt: &R, root: &str) -> Duration {
         let place = self.lanes.come(rt, root);
-        let count = self.lanes.at(place).made_by();
+        let helped = self.lanes.at(place).helped();
         self.lanes.go(rt, place);
-        count
+        helped
     }
 
     /// Finds the root of this text, or lists it and starts it, and returns the list of events. A crawl of the root for

@@ -106,6 +106,6 @@ where
         tree: ToldTree::new(rt, alloc, lane.tree, notices.clone()?),
         seconds: lane.seconds,
         waiting: lane.waiting,
-        made_by: lane.made_by,
+        helped: lane.helped,
     })
 }

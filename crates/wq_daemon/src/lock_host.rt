@@ -329,40 +329,40 @@ where
         let Some(root) = self.text(number) else {
             return Worked {
                 time: Duration::ZERO,
-                threads: 1,
+                helped: Duration::ZERO,
             };
         };
         let (time, crawled) = self.crawl_in_round(&root, stop);
-        let threads = self.crawler.made_by(&self.rt, &root);
+        let helped = self.crawler.helped(&self.rt, &root);
         match crawled {
             Ok(()) => self.tell_if_back(number, &root),
             // The server ends.
-            Err(CrawlFault::GaveWay) => return Worked { time, threads },
+            Err(CrawlFault::GaveWay) => return Worked { time, helped },
             Err(fault) => self.tell_once(number, &root, fault),
         }
         let began = Instant::now(&self.rt);
         self.rounds.fire(number, &*self.shelf);
         self.tell_of_starts();
         let time = time.saturating_add(time_since(&self.rt, began));
-        Worked { time, threads }
+        Worked { time, helped }
     }
 
     fn glance(&self, number: u64, reach: Reach) -> Worked {
         let began = Instant::now(&self.rt);
         // If memory runs out for the text, there is no glance in this round.
-        let threads = match self.text(number) {
+        let helped = match self.text(number) {
             Some(root) => {
                 if self.crawler.glance(&self.rt, &root, reach) == Ok(true) {
                     self.rounds.fire(number, &*self.shelf);
                     self.tell_of_starts();
                 }
-                self.crawler.made_by(&self.rt, &root)
+                self.crawler.helped(&self.rt, &root)
             }
-            None => 1,
+            None => Duration::ZERO,
         };
         Worked {
             time: time_since(&self.rt, began),
-            threads,
+            helped,
         }
     }
 

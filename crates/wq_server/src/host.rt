@@ -19,8 +19,8 @@ use wq_view::Reach;
 pub struct Worked {
     /// How long it took by the clock.
     pub time: Duration,
-    /// How many threads worked side by side, 1 at the least.
-    pub threads: u64,
+    /// How much processor time other threads than the caller's took.
+    pub helped: Duration,
 }
 
 /// Serves clients, crawls roots and starts the commands of triggers, from many threads at once.

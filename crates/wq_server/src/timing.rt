@@ -17,9 +17,8 @@ pub(crate) struct Took {
 }
 
 impl Took {
-    /// A walk by so many threads that took so long by the clock, if this is the processor time that one of them had used
-    /// before it and has used now. Each of the others counts as much. The work of one is its time if the processor time is
-    /// not known.
+    /// A walk that took so long, if this is the processor time that the thread had used before it and has used now. The
+    /// work of the thread is its time if the processor time is not known.
     pub(crate) fn new(
         worked: Worked,
         before: io::Result<Duration>,
@@ -29,10 +28,9 @@ impl Took {
             (Ok(before), Ok(after)) => after.saturating_sub(before),
             _ => worked.time,
         };
-        let threads = u32::try_from(worked.threads).unwrap_or(u32::MAX);
         Took {
             time: worked.time,
-            work: work.saturating_mul(threads),
+            work: work.saturating_add(worked.helped),
         }
     }
 

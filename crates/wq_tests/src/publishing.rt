@@ -131,7 +131,7 @@ fn talk<N: Named, R: Threads + Wait + Copy + Drop + Sync>(
         tree,
         seconds: Still(100),
         waiting: Arc::new(alloc, AtomicU64::new(0)).ok()?,
-        made_by: Arc::new(alloc, AtomicU64::new(1)).ok()?,
+        helped: Arc::new(alloc, AtomicU64::new(0)).ok()?,
     };
     let crawler = SharedCrawler::new(alloc, publisher, lane, Vec::new(alloc)).ok()?;
     let crawler = Arc::new(alloc, crawler).ok()?;

@@ -35,6 +35,7 @@ use crate::walkers::Walkers;
 use std::alloc::{AllocError, Global};
 use std::str;
 use std::thread::Threads;
+use std::time::CpuClock;
 use wq_crawl::{Listing, TreeFault};
 use wq_view::{Kind, Reach, Recent, Record, Seen, View};
 
@@ -57,7 +58,7 @@ struct Glance<'a, 'p> {
 /// The listing of a glance at the files below a root with this last view. It enters a directory if it is recent, if the
 /// view has no such directory that exists, or if its row is not as its record says. It looks at the row of each
 /// directory in one that it enters, and, if it looks so far, at the rows of all directories, by up to so many threads.
-pub(crate) fn glanced<'a, T: Threads, D: Disk + Sync>(
+pub(crate) fn glanced<'a, T: Threads + CpuClock, D: Disk + Sync>(
     threads: &T,
     walkers: Walkers,
     progress: &Progress<'_>,

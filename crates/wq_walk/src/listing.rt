@@ -21,11 +21,12 @@ use crate::walkers::Walkers;
 use crate::walks::Walks;
 use std::alloc::{AllocError, Global};
 use std::thread::Threads;
+use std::time::CpuClock;
 use wq_crawl::{Listing, TreeFault};
 use wq_view::{MAX_LISTING_ROWS, Patch, Seen, View, simplified};
 
 /// The rows of the files below a root that was not listed before.
-pub(crate) fn first_rows<T: Threads, D: Disk + Sync>(
+pub(crate) fn first_rows<T: Threads + CpuClock, D: Disk + Sync>(
     threads: &T,
     walkers: Walkers,
     progress: &Progress<'_>,
@@ -48,7 +49,7 @@ pub(crate) fn first_rows<T: Threads, D: Disk + Sync>(
 }
 
 /// The listing of the files below a root with this last view. Rows that are made share the names of its records.
-pub(crate) fn rows_again<T: Threads, D: Disk + Sync>(
+pub(crate) fn rows_again<T: Threads + CpuClock, D: Disk + Sync>(
     threads: &T,
     walkers: Walkers,
     progress: &Progress<'_>,
@@ -75,7 +76,7 @@ pub(crate) fn rows_again<T: Threads, D: Disk + Sync>(
 }
 
 /// The rows of the files below a root, from these pieces of its tree. The root's path ends in a slash.
-fn rows_of<T: Threads, D: Disk + Sync>(
+fn rows_of<T: Threads + CpuClock, D: Disk + Sync>(
     threads: &T,
     walkers: Walkers,
     progress: &Progress<'_>,
@@ -100,7 +101,7 @@ fn rows_of<T: Threads, D: Disk + Sync>(
 ///
 /// If the root is deleted during the walk, the listing fails because the root cannot be read. Nothing is known then of
 /// the files that the walk has not looked at.
-fn walked<'a, T: Threads, D: Disk + Sync>(
+fn walked<'a, T: Threads + CpuClock, D: Disk + Sync>(
     threads: &T,
     walkers: Walkers,
     progress: &Progress<'_>,

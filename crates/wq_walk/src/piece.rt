@@ -236,8 +236,8 @@ pub(crate) fn first_pieces(
 
 /// At most so many pieces, in the order of names. The cuts have equal numbers of these names between them.
 ///
-/// No cut is made within the directory in which its piece begins, because the directory would be read once more for it.
-/// The cut in the middle is made even so.
+/// No cut is made among the files of the directory in which its piece begins, because the directory would be read once
+/// more for it. The cut in the middle is made even so.
 fn pieces_cut(alloc: Global, most: usize, names: CutNames<'_>) -> Result<Vec<Piece<'_>>, AllocError>
     requires { 1 ≤ most }
     ensures shared { IfOk result (λ pieces. IsSharedOut pieces.items) }
@@ -254,10 +254,13 @@ fn pieces_cut(alloc: Global, most: usize, names: CutNames<'_>) -> Result<Vec<Pie
     cuts.with_rest()
 }
 
-/// The name at the second of two places, if a piece that begins with the name at the first place ends before it.
+/// The name at the second of two places, if a piece that begins with the name at the first place ends before it. It is
+/// in another directory than the piece's first name, or than the name before it.
 fn cut_between(names: CutNames<'_>, start: usize, end: usize, is_middle: bool) -> Option<&[u8]> {
-    let (first, name) = (names.at(start)?, names.at(end)?);
-    let is_apart = is_middle || directory_of(first) != directory_of(name);
+    let (first, before) = (names.at(start)?, names.at(end.checked_sub(1)?)?);
+    let name = names.at(end)?;
+    let here = directory_of(name);
+    let is_apart = is_middle || directory_of(first) != here || directory_of(before) != here;
     (end > start && is_apart).then_some(name)
 }
 

@@ -4,7 +4,9 @@ ghost use Rattle.wq_crawl.specs.declared.tree.TreeFault.TheVariants.{GaveWay, To
 
 use crate::piece::MOST_PIECES;
 use crate::rows::Rows;
+use std::io;
 use std::sync::atomic::{AtomicU64, AtomicUsize, Ordering};
+use std::time::Duration;
 use wq_crawl::{LeftOut, TreeFault};
 use wq_view::MAX_LISTING_ROWS;
 
@@ -35,6 +37,8 @@ pub(crate) struct Progress<'a> {
     names: AtomicU64,
     /// The number of directories that could not be read.
     directories: AtomicU64,
+    /// The processor time of the threads beside the one that asked, in nanoseconds.
+    helped: AtomicU64,
 }
 
 impl<'a> Progress<'a> {
@@ -46,6 +50,28 @@ impl<'a> Progress<'a> {
             way,
             names: AtomicU64::new(0),
             directories: AtomicU64::new(0),
+            helped: AtomicU64::new(0),
+        }
+    }
+
+    /// The processor time of the threads beside the one that asked, in nanoseconds.
+    pub(crate) fn helped(&self) -> u64 {
+        self.helped.load(Ordering::SeqCst)
+    }
+
+    /// Counts the work of the other ones of so many threads, if this one had used this processor time before its own part
+    /// and has used this now. They share what there is to do, so each of them counts as much as this one.
+    pub(crate) fn count_help(
+        &self,
+        threads: usize,
+        before: io::Result<Duration>,
+        after: io::Result<Duration>,
+    ) {
+        if let (Ok(before), Ok(after)) = (before, after) {
+            let own = after.saturating_sub(before).as_nanos();
+            let others = own.saturating_mul(threads.saturating_sub(1) as u128);
+            let nanoseconds = u64::try_from(others).unwrap_or(u64::MAX);
+            self.helped.fetch_add(nanoseconds, Ordering::SeqCst);
         }
     }
 

@@ -14,6 +14,7 @@ use crate::walk::stat_at;
 use crate::walkers::Walkers;
 use std::alloc::{AllocError, Global};
 use std::thread::{Threads, join};
+use std::time::CpuClock;
 use wq_crawl::TreeFault;
 use wq_view::{MAX_NAME, Record, View};
 
@@ -33,7 +34,7 @@ struct Sweep<'a, 'p, D: Disk> {
 
 /// The names of the directories of a view whose kind, size or time is not as the disk says, and of those above them,
 /// rising. Some come twice. Up to so many threads look. The root's path ends in a slash.
-pub(crate) fn changed_directories<'a, T: Threads, D: Disk + Sync>(
+pub(crate) fn changed_directories<'a, T: Threads + CpuClock, D: Disk + Sync>(
     threads: &T,
     walkers: Walkers,
     progress: &Progress<'_>,
@@ -52,7 +53,9 @@ pub(crate) fn changed_directories<'a, T: Threads, D: Disk + Sync>(
         last,
     };
     let count = walkers.count.min(last.len() / LEAST + 1);
+    let before = threads.thread_cpu_time();
     let mut names = sweep.changed_by(threads, 0, last.len(), count)?;
+    progress.count_help(count, before, threads.thread_cpu_time());
     names.sort_unstable();
     Ok(names)
 }

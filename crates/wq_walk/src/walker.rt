@@ -20,7 +20,7 @@ use std::io;
 use std::sync::Arc;
 use std::sync::atomic::{AtomicU64, Ordering};
 use std::thread::Threads;
-use std::time::{Clock, Instant};
+use std::time::{Clock, CpuClock, Instant};
 use wq_base::Workers;
 use wq_crawl::{LeftOut, Listing, Tree, TreeFault};
 use wq_view::{Recent, Seen, View};
@@ -39,8 +39,8 @@ pub struct Walker<T: Threads + Drop, D: Disk + Drop> {
     slow: SlowRoots,
     /// How many callers wait for a listing.
     waiting: Arc<AtomicU64>,
-    /// How many threads made the last listing.
-    made_by: Arc<AtomicU64>,
+    /// The processor time of the threads that helped the caller with the last listing, in nanoseconds.
+    helped: Arc<AtomicU64>,
     failures: u64,
     /// The number of files that the last listing left out.
     left_out: LeftOut,
@@ -52,14 +52,15 @@ impl<T: Threads + Drop, D: Disk + Drop> Walker<T, D> {
     /// A walker of the trees of a disk that has listed nothing and counted no failure. Up to so
     /// many threads walk a tree, and more if its disk is slow. If this count of callers that wait for a listing is 0, one thread
     /// walks a tree whose disk is not slow, and the listing of a tree that was listed before gives way as soon as it is not 0.
-    /// The last word says how many threads made the last listing. The call takes no memory.
+    /// The last word says how many nanoseconds of processor time other threads than the caller's took for the last
+    /// listing. The call takes no memory.
     pub fn new(
         disk: D,
         alloc: Global,
         threads: T,
         walkers: Workers,
         waiting: Arc<AtomicU64>,
-        made_by: Arc<AtomicU64>,
+        helped: Arc<AtomicU64>,
     ) -> Walker<T, D>
         ensures failures { result.failures ≡ 0 }
         ensures disk { result.disk ≡ disk }
@@ -71,7 +72,7 @@ impl<T: Threads + Drop, D: Disk + Drop> Walker<T, D> {
             walkers,
             slow: SlowRoots::new(alloc),
             waiting,
-            made_by,
+            helped,
             failures: 0,
             left_out: LeftOut::nothing(),
             is_whole: true,
@@ -85,9 +86,7 @@ impl<T: Threads + Drop, D: Disk + Drop> Walker<T, D> {
         } else {
             (1, Way::Gives(&self.waiting))
         };
-        let walkers = self.slow.walkers(root, least);
-        self.made_by.store(walkers.count as u64, Ordering::SeqCst);
-        (walkers, way)
+        (self.slow.walkers(root, least), way)
     }
 }
 
@@ -138,7 +137,7 @@ impl<T: Threads + Clock + Drop, D: Disk + Drop> Walker<T, D> {
     }
 }
 
-impl<T: Threads + Clock + Drop, D: Disk + Sync + Drop> Walker<T, D> {
+impl<T: Threads + Clock + CpuClock + Drop, D: Disk + Sync + Drop> Walker<T, D> {
     /// The rows of the files below a root. Their names rise if the tree does not change meanwhile. A pass takes each
     /// row.
     pub fn walk(&mut self, root: &str) -> Result<Vec<Seen>, TreeFault>
@@ -163,6 +162,7 @@ impl<T: Threads + Clock + Drop, D: Disk + Sync + Drop> Walker<T, D> {
             self.learn(root, walkers, rows.len(), began);
         }
         self.left_out = progress.left_out();
+        self.helped.store(progress.helped(), Ordering::SeqCst);
         self.is_whole = true;
         self.failures = failures_after(self.failures, &listed);
         listed
@@ -194,6 +194,7 @@ impl<T: Threads + Clock + Drop, D: Disk + Sync + Drop> Walker<T, D> {
             threads, walkers, &progress, &self.disk, self.alloc, root, last,
         );
         let left_out = progress.left_out();
+        self.helped.store(progress.helped(), Ordering::SeqCst);
         drop(progress);
         if listed.is_ok() {
             self.learn(root, walkers, last.len(), began);
@@ -205,7 +206,7 @@ impl<T: Threads + Clock + Drop, D: Disk + Sync + Drop> Walker<T, D> {
     }
 }
 
-impl<T: Threads + Drop, D: Disk + Sync + Drop> Walker<T, D> {
+impl<T: Threads + CpuClock + Drop, D: Disk + Sync + Drop> Walker<T, D> {
     /// The listing of a glance at the files below a root with this last view: a walk that need not enter a
     /// directory which the view has and which is not recent, but keeps what the view has below it. It may look at the rows of all
     /// directories first, and enters those that are not as the view has them. What the last listing
@@ -232,13 +233,14 @@ impl<T: Threads + Drop, D: Disk + Sync + Drop> Walker<T, D> {
         ensures part { self.new.is_whole ≡ false }
     {
         let walkers = self.slow.walkers(root, 1);
-        self.made_by.store(walkers.count as u64, Ordering::SeqCst);
         let listed = {
             let progress = Progress::new(Way::Gives(&self.waiting));
             let threads = &self.threads;
-            glanced(
+            let listed = glanced(
                 threads, walkers, &progress, &self.disk, self.alloc, root, last, recent,
-            )
+            );
+            self.helped.store(progress.helped(), Ordering::SeqCst);
+            listed
         };
         self.is_whole = false;
         self.failures = failures_after(self.failures, &listed);
@@ -248,7 +250,7 @@ impl<T: Threads + Drop, D: Disk + Sync + Drop> Walker<T, D> {
 
 /// During a listing the root is the working directory of the process, unless that is the root of another walker, and `/`
 /// is it after that. So nothing else may use a relative path.
-impl<T: Threads + Clock + Drop> Tree for Walker<T, FileDisk> {
+impl<T: Threads + Clock + CpuClock + Drop> Tree for Walker<T, FileDisk> {
     ghost failed = { λ walker. walker.failures };
 
     ghost whole = { λ walker. walker.is_whole };

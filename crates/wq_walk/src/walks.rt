@@ -13,6 +13,7 @@ use crate::walk::rows_in;
 use crate::walkers::Walkers;
 use std::alloc::{AllocError, Global};
 use std::thread::{Threads, join};
+use std::time::CpuClock;
 use wq_crawl::TreeFault;
 
 /// Pieces of a tree that threads walk.
@@ -38,7 +39,7 @@ impl<'a, D: Disk + Sync> Walks<'a, '_, D> {
     /// draws the next piece as long as there is one. If the walk of a piece fails, the threads draw
     /// no more.
     #[tactic(auto, unfolding(crate::specs::Listed::IsDrawn))]
-    pub(crate) fn all<T: Threads>(
+    pub(crate) fn all<T: Threads + CpuClock>(
         &self,
         threads: &T,
         walkers: Walkers,
@@ -51,7 +52,10 @@ impl<'a, D: Disk + Sync> Walks<'a, '_, D> {
             (D.has self.now.disk.now) (D.fails self.now.disk.now) self.now.root.now) }
     {
         let count = self.pieces.len().min(walkers.count);
+        let before = threads.thread_cpu_time();
         let walked = self.drawn_by(threads, count)?;
+        self.progress
+            .count_help(count, before, threads.thread_cpu_time());
         self.in_order(walked)
     }
 

@@ -4,7 +4,7 @@ use std::alloc::AllocError;
 use std::sync::atomic::{AtomicBool, AtomicU64};
 use std::sync::{Arc, Mutex, Wait};
 use std::thread::Threads;
-use std::time::Clock;
+use std::time::{Clock, CpuClock};
 use wq_base::Workers;
 use wq_crawl::{LaneParts, MachineClock, SharedSeconds};
 use wq_daemon::MORE_LANES;
@@ -20,7 +20,7 @@ pub(crate) fn lanes<R>(
     walkers: Workers,
 ) -> Result<(Lane<R>, Vec<Lane<R>>), AllocError>
 where
-    R: Threads + Wait + Clock + Copy + Drop,
+    R: Threads + Wait + Clock + CpuClock + Copy + Drop,
 {
     let alloc = files.alloc();
     let clock = Arc::new(alloc, Mutex::new(MachineClock::new(rt)))?;
@@ -43,16 +43,16 @@ fn lane<R>(
     is_taken: &Arc<AtomicBool>,
 ) -> Result<Lane<R>, AllocError>
 where
-    R: Threads + Wait + Clock + Copy + Drop,
+    R: Threads + Wait + Clock + CpuClock + Copy + Drop,
 {
     let alloc = files.alloc();
     let waiting = Arc::new(alloc, AtomicU64::new(0))?;
-    let made_by = Arc::new(alloc, AtomicU64::new(1))?;
+    let helped = Arc::new(alloc, AtomicU64::new(0))?;
     let disk = FileDisk::new(files, is_taken.clone()?);
     Ok(LaneParts {
-        tree: Walker::new(disk, alloc, rt, walkers, waiting.clone()?, made_by.clone()?),
+        tree: Walker::new(disk, alloc, rt, walkers, waiting.clone()?, helped.clone()?),
         seconds: SharedSeconds::new(rt, clock.clone()?),
         waiting,
-        made_by,
+        helped,
     })
 }
