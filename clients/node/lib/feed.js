@@ -7,6 +7,7 @@ const { Haste } = require('./haste');
 const hub = require('./hub');
 const { staysBelow } = require('./names');
 const { Rows } = require('./rows');
+const { throwAlone } = require('./throwing');
 
 const FIELDS = ['name', 'exists', 'type', 'size', 'mtime_ms'];
 // How soon a root that went is noticed, in milliseconds: the server keeps the last view of one.
@@ -158,7 +159,7 @@ class Feed {
 
   queue(changes) {
     const isThere = !this.isGone;
-    this.work = this.work.then(() => (this.isClosed ? undefined : this.tell(changes, isThere)));
+    this.work = this.work.then(() => (this.isClosed ? undefined : this.tell(changes, isThere))).catch(throwAlone);
   }
 
   /** Looks whether the root is there. */
