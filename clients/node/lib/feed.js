@@ -77,6 +77,7 @@ class Feed {
     this.turn += 1;
     const turn = this.turn;
     this.isBegun = false;
+    this.isRefused = false;
     this.asked = this.listed;
     const reply = await this.watched();
     if (this.isClosed || this.turn !== turn) return;
@@ -86,8 +87,9 @@ class Feed {
     } else if (reply.error.startsWith('E11') && !fs.existsSync(this.root)) {
       this.leave();
       this.settle(Infinity);
-    } else if (!OF_SERVER.test(reply.error)) {
+    } else {
       this.isRefused = true;
+      if (OF_SERVER.test(reply.error)) return;
       this.fail(new Error(`wqd does not watch ${this.root}: ${reply.error}`));
       this.settle(Infinity);
     }
@@ -187,7 +189,6 @@ class Feed {
 
   comeBack() {
     this.isGone = false;
-    this.isRefused = false;
     this.begin();
   }
 }
