@@ -8,6 +8,7 @@ const hub = require('./hub');
 const { staysBelow } = require('./names');
 const { Rows } = require('./rows');
 const { throwAlone } = require('./throwing');
+const { giveBack, watch } = require('./watches');
 
 const FIELDS = ['name', 'exists', 'type', 'size', 'mtime_ms'];
 // How soon a root that went is noticed, in milliseconds: the server keeps the last view of one.
@@ -63,7 +64,7 @@ class Feed {
     this.session.lists.delete(this.name);
     for (const each of this.waiting.splice(0)) each.resolve(false);
     this.session.ask('unsubscribe', this.root, this.name)
-      .then(() => this.session.giveBack(this.root))
+      .then(() => giveBack(this.session, this.root))
       .finally(() => hub.release(this.session, this.keeps));
   }
 
@@ -98,7 +99,7 @@ class Feed {
   async watched() {
     let isNew = false;
     const reply = await this.haste.scan(async () => {
-      const found = await this.session.watch(this.root);
+      const found = await watch(this.session, this.root);
       ({ isNew } = found);
       return found;
     });

@@ -11,7 +11,6 @@ const FIRST_PAUSE = 50;
 const LONGEST_PAUSE = 2000;
 // So many failures one after the other are told.
 const TOLD_FAILURES = 2;
-const TOO_MANY = 'E13';
 const FULL = 'E17';
 
 /** Emits `up` when it is connected, `down` when the server went, and `fault` if it cannot connect. */
@@ -80,40 +79,6 @@ class Session extends EventEmitter {
       this.replies.push(resolve);
       this.connection.send(command);
     });
-  }
-
-  /**
-   * Has the server watch a root. If it watches as many as it may, one that nobody needs is given up.
-   * @returns {Promise<object>} the reply; `isNew` in it says whether the root was scanned just now
-   */
-  async watch(root) {
-    const { roots = [] } = await this.ask('watch-list');
-    let reply = await this.ask('watch', root);
-    if (reply.error && reply.error.startsWith(TOO_MANY)) {
-      for (const one of this.notes.droppable(roots)) {
-        if (!(await this.giveUp(one))) continue;
-        reply = await this.ask('watch', root);
-        if (!reply.error) break;
-      }
-    }
-    const isNew = !roots.includes(root);
-    if (!reply.error && isNew) this.notes.keep(root);
-    return { ...reply, isNew };
-  }
-
-  /** Ends the watch of a root, unless it has triggers: whether that was done. */
-  async giveUp(root) {
-    const { triggers } = await this.ask('trigger-list', root);
-    if (!triggers || triggers.length > 0) return false;
-    const reply = await this.ask('watch-del', root);
-    if (!reply.error) this.notes.forget(root);
-    return !reply.error;
-  }
-
-  /** Gives a root back that this process had watched, if no other feed and nobody else needs it. */
-  async giveBack(root) {
-    if ([...this.lists.values()].some((feed) => feed.root === root)) return;
-    if (this.connection && this.notes.isOwn(root)) await this.giveUp(root);
   }
 
   async reach() {
