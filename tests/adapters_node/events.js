@@ -57,4 +57,22 @@ async function roots() {
   await watched.watcher.close();
 }
 
-scene(directories, roots);
+/** An error of a listener is the tool's, and later events come all the same. */
+async function listeners() {
+  const root = tree('throws', ['a.txt']);
+  const faults = [];
+  process.on('uncaughtException', (fault) => faults.push(fault.message));
+  for (const alwaysStat of [false, true]) {
+    const watched = new Watched(root, { ignoreInitial: true, alwaysStat }, root);
+    await watched.ready;
+    watched.watcher.once('add', () => { throw new Error('of the tool'); });
+    put(path.join(root, `one-${alwaysStat}`));
+    await watched.sees('an event whose listener throws', [`add one-${alwaysStat}`]);
+    put(path.join(root, `two-${alwaysStat}`));
+    await watched.sees('an event after it', [`add two-${alwaysStat}`]);
+    await watched.watcher.close();
+  }
+  same('the errors', faults, ['of the tool', 'of the tool']);
+}
+
+scene(directories, roots, listeners);

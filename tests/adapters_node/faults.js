@@ -32,6 +32,19 @@ async function manyRoots() {
   for (const root of roots) await ask('watch-del', root);
 }
 
+/** A server with 32 clients takes no other one, until one goes. */
+async function manyClients() {
+  const sockets = Array.from({ length: 32 }, () => net.connect(server.sockname).on('error', () => {}).resume());
+  await pause(500);
+  const watched = new Watched(tree('full', ['a']), {}, room);
+  await watched.ready;
+  await pause(200);
+  same('no place is left', watched.errors.map((text) => text.includes('takes no client')), [true]);
+  for (const socket of sockets) socket.destroy();
+  await watched.sees('a place is free again', ['addDir full', 'add full/a']);
+  await watched.watcher.close();
+}
+
 async function foreignSocket() {
   const { requireOwn } = require(path.join(HOME, 'lib', 'sockname'));
   const open = tree('open', []);
@@ -98,4 +111,4 @@ async function noServer() {
   process.env.WQD_SOCK = before;
 }
 
-scene(manyRoots, foreignSocket, falseNames, noServer);
+scene(manyRoots, manyClients, foreignSocket, falseNames, noServer);

@@ -70,7 +70,7 @@ async function atomic() {
 
 async function awaitWriteFinish() {
   const root = tree('finish', ['a.txt']);
-  const watched = new Watched(root, { awaitWriteFinish: { stabilityThreshold: 500, pollInterval: 50 } }, root);
+  const watched = new Watched(root, { awaitWriteFinish: { stabilityThreshold: 1500, pollInterval: 50 } }, root);
   await watched.ready;
   await watched.sees('the first files at once', ['addDir .', 'add a.txt']);
   const sizes = [];
@@ -85,7 +85,7 @@ async function awaitWriteFinish() {
   put(path.join(root, 'short.txt'));
   await pause(250);
   fs.unlinkSync(path.join(root, 'short.txt'));
-  await pause(800);
+  await pause(2000);
   await watched.sees('a file that went before', []);
   await watched.watcher.close();
 }

@@ -54,15 +54,15 @@ async function processes() {
   const script = `const { watch } = require(${JSON.stringify(HOME)});
 const w = watch(${JSON.stringify(root)}, { persistent: process.argv[1] === 'keeps' });
 w.on('ready', () => console.log('ready')); setTimeout(() => {}, 1500);`;
-  const run = (word) => {
+  const run = (word, timeout) => {
     try {
-      return execFileSync(process.execPath, ['-e', script, word], { timeout: 4000, encoding: 'utf8' });
+      return execFileSync(process.execPath, ['-e', script, word], { timeout, encoding: 'utf8' });
     } catch (fault) {
       return fault.code || fault.signal;
     }
   };
-  same('persistent: false', run('lets'), 'ready\n');
-  same('persistent', run('keeps'), 'ETIMEDOUT');
+  same('persistent: false', run('lets', 20_000), 'ready\n');
+  same('persistent', run('keeps', 5000), 'ETIMEDOUT');
   const notes = fs.readdirSync(path.join(room, 'state', 'wq', 'roots'));
   same('a root of a process that was killed can be given up', notes.length > 0, true);
 }

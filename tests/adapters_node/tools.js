@@ -68,7 +68,7 @@ async function watchFile() {
 for (const one of ['src/a.js', 'src/d', 'top.js']) {
   fs.watchFile(one, { interval: 200 }, (now, before) => console.log(one, now.size !== before.size));
 }
-setTimeout(() => console.log('begun'), 700);`);
+setTimeout(() => console.log('begun'), 1500);`);
   await tool.says('a tool with fs.watchFile', 'begun');
   put(path.join(root, 'src/a.js'), 'longer');
   await tool.says('a file', 'src/a.js true');
@@ -94,7 +94,7 @@ const [file, directory, no] = ['src/a.js', 'src/d', 'src/no.js'].map((one) => pa
 const names = (found) => [...found].map((one) => path.relative('.', one)).join(' ');
 w.watch({ files: [file], directories: [directory], missing: [no], startTime: Date.now() });
 w.on('aggregated', (changes, removals) => console.log('changed ' + names(changes) + ', gone ' + names(removals)));
-setTimeout(() => console.log('begun'), 1000);`);
+setTimeout(() => console.log('begun'), 2000);`);
   await tool.says('watchpack', 'begun');
   put(path.join(root, 'src/a.js'), 'longer');
   await tool.says('a file changes', 'changed src/a.js, gone ');

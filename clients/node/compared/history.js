@@ -68,6 +68,7 @@ class History {
   /** As an editor does: a file beside it takes its place. */
   save(file) {
     this.write(`${file}~`);
+    this.note();
     fs.renameSync(`${file}~`, file);
     this.written.set(file, Date.now());
   }

@@ -5,6 +5,7 @@ const fs = require('fs');
 const path = require('path');
 const { Finishing } = require('./finishing');
 const { statsOf } = require('./stats');
+const { throwAlone } = require('./throwing');
 
 const ATOMIC = 100;
 const WITH_STATS = new Set(['add', 'addDir', 'change']);
@@ -16,6 +17,7 @@ class Emitting {
     this.options = watcher.options;
     this.unlinks = new Map();
     this.finishing = new Finishing(this);
+    this.turn = Promise.resolve();
   }
 
   /** Tells a change of a path, whose stats are those of a row. */
@@ -57,28 +59,30 @@ class Emitting {
     return path.resolve(this.options.cwd || '', name);
   }
 
-  async emit(event, name, row) {
-    if (!WITH_STATS.has(event)) {
-      this.send(event, name);
-      return;
-    }
-    let stats = row && statsOf(row);
-    if (this.options.alwaysStat && row && !row.stats) {
-      try {
-        stats = await fs.promises.stat(this.wholePath(name));
-      } catch {
-        // It went meanwhile, which another event says.
-        return;
-      }
-    }
-    if (stats) this.send(event, name, stats);
-    else this.send(event, name);
+  emit(event, name, row) {
+    const stats = row && WITH_STATS.has(event) ? statsOf(row) : undefined;
+    if (!this.options.alwaysStat) this.send(event, name, stats);
+    else this.emitInTurn(event, name, stats && !row.stats ? this.read(name) : stats);
   }
 
-  send(...words) {
+  /** With `alwaysStat` an event waits for its stats, and for the events before it. */
+  emitInTurn(event, name, stats) {
+    this.turn = this.turn.then(() => stats).then((found) => {
+      // A file that went meanwhile has another event.
+      if (found !== null) this.send(event, name, found);
+    }).catch(throwAlone);
+  }
+
+  /** The stats of a file; null if it is not there. */
+  read(name) {
+    return fs.promises.stat(this.wholePath(name)).catch(() => null);
+  }
+
+  send(event, name, stats) {
     if (this.watcher.closed) return;
-    this.watcher.emit(...words);
-    this.watcher.emit('all', ...words);
+    const words = stats ? [name, stats] : [name];
+    this.watcher.emit(event, ...words);
+    this.watcher.emit('all', event, ...words);
   }
 
   close() {

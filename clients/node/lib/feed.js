@@ -7,6 +7,8 @@ const { Haste } = require('./haste');
 const hub = require('./hub');
 const { staysBelow } = require('./names');
 const { Rows } = require('./rows');
+const { throwAlone } = require('./throwing');
+const { giveBack, watch } = require('./watches');
 
 const FIELDS = ['name', 'exists', 'type', 'size', 'mtime_ms'];
 // How soon a root that went is noticed, in milliseconds: the server keeps the last view of one.
@@ -62,7 +64,7 @@ class Feed {
     this.session.lists.delete(this.name);
     for (const each of this.waiting.splice(0)) each.resolve(false);
     this.session.ask('unsubscribe', this.root, this.name)
-      .then(() => this.session.giveBack(this.root))
+      .then(() => giveBack(this.session, this.root))
       .finally(() => hub.release(this.session, this.keeps));
   }
 
@@ -76,6 +78,7 @@ class Feed {
     this.turn += 1;
     const turn = this.turn;
     this.isBegun = false;
+    this.isRefused = false;
     this.asked = this.listed;
     const reply = await this.watched();
     if (this.isClosed || this.turn !== turn) return;
@@ -85,8 +88,9 @@ class Feed {
     } else if (reply.error.startsWith('E11') && !fs.existsSync(this.root)) {
       this.leave();
       this.settle(Infinity);
-    } else if (!OF_SERVER.test(reply.error)) {
+    } else {
       this.isRefused = true;
+      if (OF_SERVER.test(reply.error)) return;
       this.fail(new Error(`wqd does not watch ${this.root}: ${reply.error}`));
       this.settle(Infinity);
     }
@@ -95,7 +99,7 @@ class Feed {
   async watched() {
     let isNew = false;
     const reply = await this.haste.scan(async () => {
-      const found = await this.session.watch(this.root);
+      const found = await watch(this.session, this.root);
       ({ isNew } = found);
       return found;
     });
@@ -158,7 +162,7 @@ class Feed {
 
   queue(changes) {
     const isThere = !this.isGone;
-    this.work = this.work.then(() => (this.isClosed ? undefined : this.tell(changes, isThere)));
+    this.work = this.work.then(() => (this.isClosed ? undefined : this.tell(changes, isThere))).catch(throwAlone);
   }
 
   /** Looks whether the root is there. */
@@ -186,7 +190,6 @@ class Feed {
 
   comeBack() {
     this.isGone = false;
-    this.isRefused = false;
     this.begin();
   }
 }

@@ -11,7 +11,7 @@ const FIRST_PAUSE = 50;
 const LONGEST_PAUSE = 2000;
 // So many failures one after the other are told.
 const TOLD_FAILURES = 2;
-const TOO_MANY = 'E13';
+const FULL = 'E17';
 
 /** Emits `up` when it is connected, `down` when the server went, and `fault` if it cannot connect. */
 class Session extends EventEmitter {
@@ -26,6 +26,7 @@ class Session extends EventEmitter {
     this.keepers = 0;
     this.pause = FIRST_PAUSE;
     this.failures = 0;
+    this.reason = 'it ends the stream';
     this.isReaching = false;
     this.timer = null;
     this.connectedAt = 0;
@@ -80,40 +81,6 @@ class Session extends EventEmitter {
     });
   }
 
-  /**
-   * Has the server watch a root. If it watches as many as it may, one that nobody needs is given up.
-   * @returns {Promise<object>} the reply; `isNew` in it says whether the root was scanned just now
-   */
-  async watch(root) {
-    const { roots = [] } = await this.ask('watch-list');
-    let reply = await this.ask('watch', root);
-    if (reply.error && reply.error.startsWith(TOO_MANY)) {
-      for (const one of this.notes.droppable(roots)) {
-        if (!(await this.giveUp(one))) continue;
-        reply = await this.ask('watch', root);
-        if (!reply.error) break;
-      }
-    }
-    const isNew = !roots.includes(root);
-    if (!reply.error && isNew) this.notes.keep(root);
-    return { ...reply, isNew };
-  }
-
-  /** Ends the watch of a root, unless it has triggers: whether that was done. */
-  async giveUp(root) {
-    const { triggers } = await this.ask('trigger-list', root);
-    if (!triggers || triggers.length > 0) return false;
-    const reply = await this.ask('watch-del', root);
-    if (!reply.error) this.notes.forget(root);
-    return !reply.error;
-  }
-
-  /** Gives a root back that this process had watched, if no other feed and nobody else needs it. */
-  async giveBack(root) {
-    if ([...this.lists.values()].some((feed) => feed.root === root)) return;
-    if (this.connection && this.notes.isOwn(root)) await this.giveUp(root);
-  }
-
   async reach() {
     if (this.isReaching || this.connection) return;
     this.isReaching = true;
@@ -146,7 +113,6 @@ class Session extends EventEmitter {
       return;
     }
     this.connection = connection;
-    this.failures = 0;
     this.notes = new Notes(this.sockname);
     this.connectedAt = Date.now();
     connection.on('value', (value) => this.take(value));
@@ -156,7 +122,7 @@ class Session extends EventEmitter {
   }
 
   take(value) {
-    this.pause = FIRST_PAUSE;
+    if (this.connection) this.count(value);
     if (value.unilateral) {
       const feed = this.lists.get(value.subscription);
       if (feed) feed.take(value);
@@ -164,8 +130,24 @@ class Session extends EventEmitter {
     }
     const reply = this.replies.shift();
     if (reply) reply(value);
-    // A server that has no place for one more client says so by itself.
-    else if (value.error) this.emit('fault', new Error(value.error));
+  }
+
+  count(value) {
+    if (typeof value.error === 'string' && value.error.startsWith(FULL)) {
+      this.reason = value.error;
+      return;
+    }
+    this.connection.isServed = true;
+    this.failures = 0;
+    this.pause = FIRST_PAUSE;
+  }
+
+  /** A server that has no place for one more client ends the stream at once, and is asked again later. */
+  countEnd(connection) {
+    if (connection.isServed) return;
+    this.failures += 1;
+    if (this.failures < TOLD_FAILURES) return;
+    this.emit('fault', new Error(`the server at ${this.sockname} takes no client: ${this.reason}`));
   }
 
   ended(connection) {
@@ -173,6 +155,7 @@ class Session extends EventEmitter {
     this.connection = null;
     for (const reply of this.replies.splice(0)) reply({ error: 'ended' });
     this.emit('down');
+    if (this.users > 0) this.countEnd(connection);
     this.later();
   }
 

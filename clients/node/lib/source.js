@@ -15,14 +15,18 @@ class Source {
   constructor(project) {
     this.project = realOf(project);
     this.feeds = new Map();
+    this.covered = new Set();
     this.isTold = false;
   }
 
   /** Whether the server can tell of a directory: it lies below the project, and by no link. */
   covers(directory) {
+    if (this.covered.has(directory)) return true;
     if (!this.rootOf(directory)) return false;
     try {
-      return fs.realpathSync(directory) === directory && fs.statSync(directory).isDirectory();
+      const isCovered = fs.realpathSync(directory) === directory && fs.statSync(directory).isDirectory();
+      if (isCovered) this.covered.add(directory);
+      return isCovered;
     } catch {
       return false;
     }

@@ -70,7 +70,8 @@ function patchWatchFile(source) {
   fs.watchFile = (name, ...rest) => {
     const whole = path.resolve(String(name));
     const listener = rest[rest.length - 1];
-    if (!source.covers(path.dirname(whole)) && !source.covers(whole)) return watchFile(name, ...rest);
+    const isCovered = source.covers(path.dirname(whole)) || source.covers(whole);
+    if (!isCovered || (rest.length > 1 && rest[0] && rest[0].bigint)) return watchFile(name, ...rest);
     const found = watched.get(whole) || new Watched(whole, source);
     watched.set(whole, found);
     found.on('change', listener);
