@@ -14,7 +14,7 @@ MOST = {
     "docs/ARCHITECTURE.md": 2110,
     "docs/CLIENTS.md": 3465,
     "docs/DECISIONS.md": 800,
-    "crates/*/DECISIONS.md": 6550,
+    "crates/*/DECISIONS.md": 6700,
     "docs/PROGRAMS.md": 3250,
     "docs/PROOFS.md": 2100,
     "docs/PROTOCOL.md": 5000,
