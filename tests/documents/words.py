@@ -23,7 +23,7 @@ MOST = {
     "docs/SCRIPTS.md": 1100,
     "docs/SECURITY.md": 2070,
     "docs/SERVER.md": 4260,
-    "docs/SPEED.md": 1800,
+    "docs/SPEED.md": 1900,
     "docs/TROUBLESHOOTING.md": 1550,
     "docs/TUTORIAL.md": 1450,
     "docs/WQ.md": 2750,
