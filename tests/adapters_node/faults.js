@@ -34,15 +34,31 @@ async function manyRoots() {
 
 /** A server with 32 clients takes no other one, until one goes. */
 async function manyClients() {
-  const sockets = Array.from({ length: 32 }, () => net.connect(server.sockname).on('error', () => {}).resume());
-  await pause(500);
+  const sockets = [];
+  while (sockets.length < 32) sockets.push(await placed());
   const watched = new Watched(tree('full', ['a']), {}, room);
   await watched.ready;
-  await pause(200);
+  for (let turn = 0; turn < 100 && watched.errors.length === 0; turn += 1) await pause(50);
   same('no place is left', watched.errors.map((text) => text.includes('takes no client')), [true]);
   for (const socket of sockets) socket.destroy();
   await watched.sees('a place is free again', ['addDir full', 'add full/a']);
   await watched.watcher.close();
+}
+
+/** A client that the server has taken in: clients of before may take a while to go. */
+async function placed() {
+  for (let turn = 0; turn < 200; turn += 1) {
+    const socket = net.connect(server.sockname).on('error', () => {});
+    const said = await new Promise((resolve) => {
+      socket.once('data', resolve);
+      socket.once('close', () => resolve('error'));
+      socket.write('["version"]\n');
+    });
+    if (!String(said).includes('error')) return socket.resume();
+    socket.destroy();
+    await pause(50);
+  }
+  throw new Error('the server takes no 32 clients');
 }
 
 async function foreignSocket() {
