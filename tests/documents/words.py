@@ -16,7 +16,7 @@ MOST = {
     "docs/DECISIONS.md": 800,
     "crates/*/DECISIONS.md": 6700,
     "docs/PROGRAMS.md": 3250,
-    "docs/PROOFS.md": 2100,
+    "docs/PROOFS.md": 2130,
     "docs/PROTOCOL.md": 5000,
     "docs/REFERENCE.md": 2350,
     "docs/RECIPES.md": 1400,

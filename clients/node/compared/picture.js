@@ -42,7 +42,7 @@ class Picture {
     if (this.kind.options && this.kind.options.ignoreInitial) this.files = this.wanted();
   }
 
-  /** What should be told of the tree as it is. */
+  /** The events that the tree as it is should have. */
   wanted() {
     const all = walked(this.history.root, this.kind.follows !== false);
     return new Map([...all].filter(([name, is]) => this.kind.wants(name, is === 'directory')));

@@ -1,5 +1,5 @@
 'use strict';
-// What can be said to the server of the files that a watcher needs. The watcher filters the rest by itself.
+// The part of a watcher's files that can be said to the server. The watcher filters the rest by itself.
 
 const path = require('path');
 const { nameBelow } = require('./names');

@@ -1,5 +1,5 @@
 'use strict';
-// What the server cannot do for a watcher, in one event.
+// One event for all that the server cannot do for a watcher.
 
 // Faults of one moment are told together.
 const MOMENT = 50;

@@ -1,5 +1,5 @@
 'use strict';
-// What a watcher leaves out: its option `ignored`, paths that begin with `!`, and what was unwatched.
+// The paths that a watcher leaves out: its option `ignored`, paths that begin with `!`, and what was unwatched.
 
 const path = require('path');
 const { globMatcher, isGlob } = require('./globs');

@@ -132,7 +132,7 @@ class Drawn:
         return f"link {path.name} to {to.name}"
 
     def change_outside(self) -> str:
-        """What links lead to changes."""
+        """Targets of links change."""
         path = self.draw.choice([self.outside / "f", self.outside / "d" / "g", self.outside / "d" / "h"])
         path.write_text(self.text())
         return f"write {path.name} outside"

@@ -13,7 +13,7 @@ PACKAGE = Path(__file__).resolve().parents[1] / "wqd_watchdog"
 PYTHON = "/usr/bin/python3"
 MKDOCS, WATCHMEDO, STRACE = "/usr/bin/mkdocs", "/usr/bin/watchmedo", "strace"
 PATIENCE = 60.0
-# What asks a file system, of the server and of Python.
+# The calls that ask a file system, of the server and of Python.
 CALLS = "statx,newfstatat,openat,getdents64"
 DETECTED, REBUILT, READY = "Detected file changes", "Reloading browsers", "Serving on"
 
@@ -70,7 +70,7 @@ class Tool:
         return time.monotonic() - began
 
     def rests(self, seconds: float) -> str:
-        """What it says for some seconds."""
+        """The lines that it says for some seconds."""
         before, end = len(self.said), time.monotonic() + seconds
         while time.monotonic() < end and self.reads(max(0.0, end - time.monotonic())):
             pass
