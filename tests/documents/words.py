@@ -13,10 +13,10 @@ MOST = {
     "CHANGELOG.md": 1260,
     "docs/ARCHITECTURE.md": 2110,
     "docs/CLIENTS.md": 3465,
-    "docs/DECISIONS.md": 800,
+    "docs/DECISIONS.md": 920,
     "crates/*/DECISIONS.md": 6700,
     "docs/PROGRAMS.md": 3250,
-    "docs/PROOFS.md": 2130,
+    "docs/PROOFS.md": 2200,
     "docs/PROTOCOL.md": 5000,
     "docs/REFERENCE.md": 2350,
     "docs/RECIPES.md": 1400,
@@ -29,7 +29,7 @@ MOST = {
     "docs/WQ.md": 2750,
     "docs/WQASM.md": 1000,
     "docs/crates": 3250,
-    "tests/README.md": 1350,
+    "tests/README.md": 1400,
 }
 # A sentence of more words is long.
 LONG = 30
