@@ -68,13 +68,29 @@ prove_copy() {
     wait "$prover"
 }
 
-# Proves and builds the program. The copy is taken away in the end.
+# The checksum of all files of the copied crates.
+sources() {
+    (cd "$1" && find crates crates.txt HANDLES -type f | LC_ALL=C sort | xargs sha256sum | sha256sum | cut -d ' ' -f 1)
+}
+
+# Says how the program at $built was proved, from sources with this checksum: with what kit, and what that said at the end.
+note() {
+    echo "program $(sha256sum < "$built" | cut -d ' ' -f 1)"
+    echo "sources $2"
+    echo "commit $(git -C "$top" describe --always --dirty --abbrev=40 --match '' 2> /dev/null || echo unknown)"
+    echo "kit $(rt version)"
+    grep -E '^rt: [a-z_]+ (proved|is kept)' "$1/log"
+    tail -n 1 "$1/log"
+}
+
+# Proves and builds the program. The copy is taken away in the end. Beside the program is a note of how it was proved.
 prove_all() {
     began=$(date +%s)
     echo "wqd: the program is proved and built; that takes about an hour on four processors" >&2
     copy=$(mktemp -d) || return 1
     trap 'kill "$prover" 2> /dev/null; rm -rf "$copy"; exit 1' HUP INT TERM
-    if copy_crates "$copy" && prove_copy "$copy" && mkdir -p "${built%/*}" && mv "$copy/crates/wqd/out/wqd" "$built"; then
+    if copy_crates "$copy" && sum=$(sources "$copy") && prove_copy "$copy" && mkdir -p "${built%/*}" &&
+        mv "$copy/crates/wqd/out/wqd" "$built" && note "$copy" "$sum" > "$built.proof"; then
         rm -rf "$copy"
         trap - HUP INT TERM
         touch "$built"

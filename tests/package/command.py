@@ -196,7 +196,7 @@ def check_unbuilt_command(tally: built.Tally, room: Path) -> None:
 
 def bare(room: Path) -> None:
     """A copy of the scripts at the top, beside one crate of one file, in which nothing is built."""
-    for name in ("install", "wq", "wqd", "CHANGELOG.md", "crates.txt"):
+    for name in ("install", "verify", "wq", "wqd", "CHANGELOG.md", "crates.txt"):
         shutil.copy(built.TOP / name, room / name)
     shutil.copytree(built.TOP / "contrib", room / "contrib")
     for package in ("wq", "wqclient", "wqprogram"):
@@ -210,6 +210,6 @@ def tools(room: Path) -> Path:
     """A directory with the commands that the scripts need, and no other."""
     directory = room / "bin"
     directory.mkdir()
-    for name in "sh dirname sed head tail find cat awk wc date mktemp rm touch env python3 cp mkdir mv grep sleep id".split():
+    for name in "sh dirname sed head tail find cat awk wc date mktemp rm touch env python3 cp mkdir mv grep sleep id sha256sum sort xargs cut cmp".split():
         (directory / name).symlink_to(shutil.which(name))
     return directory

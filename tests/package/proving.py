@@ -1,11 +1,14 @@
-"""`./wqd --build`: it proves a copy of the program's crates alone, tells how far that is, and leaves the program. A
-stand-in for the kit's `rt` says what the real one says, and leaves the built program as that does."""
+"""`./wqd --build`: it proves a copy of the program's crates alone, tells how far that is, and leaves the program and a note.
+`./verify` says whether a program is the one that comes out. A stand-in for the kit's `rt` says what the real one says, and
+leaves the built program as that does."""
 
+import hashlib
 import os
 import re
 import shutil
 import subprocess
 from pathlib import Path
+from typing import Dict
 
 import built
 from client import same
@@ -13,6 +16,7 @@ from command import bare, tools
 
 CRATES = "# One line a crate.\nwq_base: itoa\nwq_cases: wq_base\nwqd: wq_base clap\n"
 KIT = """#!/bin/sh
+if [ "$*" = version ]; then echo 'a kit'; exit; fi
 [ "$*" = ci ] || exit 9
 { ls -R crates; cat crates.txt HANDLES; } > "$SEEN"
 echo 'rt: wq_base is kept: an earlier run on this machine proved the same files over the same libraries'
@@ -71,14 +75,9 @@ def check_proving(tally: built.Tally, room: Path) -> None:
     (kit / "rt").chmod(0o755)
 
     def run(fault: str, *words: str) -> built.Ended:
-        values = {
-            "PATH": str(kit), "TMPDIR": str(room / "temporary"), "SEEN": str(room / "seen"), "FAULT": fault,
-            "PROGRAM": str(built.program_path()),
-        }
-        environment = {name: value for name, value in os.environ.items() if name != "WQD"}
         done = subprocess.run(
             [str(room / "wqd"), *words], stdin=subprocess.DEVNULL, stdout=subprocess.PIPE, stderr=subprocess.PIPE,
-            env={**environment, **values},
+            env=values_for(room, kit, fault),
         )
         return built.Ended(done.stdout, done.stderr, done.returncode)
 
@@ -95,6 +94,39 @@ def check_proving(tally: built.Tally, room: Path) -> None:
     same(tally, "a run of it", run("not asked", "replay"), built.Ended(b"", b"", 0))
     again = built.Ended(b"", b"wqd: it is built already\n", 0)
     same(tally, "the next build", run("not asked", "--build"), again)
+    check_note(tally, (room / "crates" / "wqd" / "out" / "wqd.proof").read_text())
+    check_verifying(tally, room, values_for(room, kit))
+
+
+def check_note(tally: built.Tally, note: str) -> None:
+    """It names the program, its sources, and what the kit said."""
+    digest = hashlib.sha256(built.program_path().read_bytes()).hexdigest()
+    lines = note.splitlines()
+    same(tally, "the program of the note", lines[0], f"program {digest}")
+    tally.check("the sources of the note", re.fullmatch("sources [0-9a-f]{64}", lines[1]) is not None, lines)
+    same(tally, "the kit of the note", lines[3], "kit a kit")
+    same(tally, "the end of the note", lines[-2:], ["rt: wqd proved", "4 passed, 0 failed"])
+
+
+def check_verifying(tally: built.Tally, room: Path, values: Dict[str, str]) -> None:
+    same_program, another = room / "same", room / "another"
+    shutil.copy(built.program_path(), same_program)
+    another.write_bytes(built.program_path().read_bytes() + b" ")
+    for path, status, said in ((same_program, 0, "is the program that comes out"), (another, 1, "is another program"),
+                               (room / "none", 1, "there is no file")):
+        ended = subprocess.run([str(room / "verify"), str(path)], stdout=subprocess.PIPE, stderr=subprocess.PIPE, env=values)
+        same(tally, f"./verify of {path.name}", ended.returncode, status)
+        tally.check(f"what it says of {path.name}", said in (ended.stdout + ended.stderr).decode(), [f"{ended.stderr!r}"])
+    same(tally, "the copies of ./verify are gone", list((room / "temporary").iterdir()), [])
+
+
+def values_for(room: Path, kit: Path, fault: str = "") -> Dict[str, str]:
+    """The environment of a build with the stand-in."""
+    kept = {name: value for name, value in os.environ.items() if name != "WQD"}
+    return {
+        **kept, "PATH": str(kit), "TMPDIR": str(room / "temporary"), "SEEN": str(room / "seen"), "FAULT": fault,
+        "PROGRAM": str(built.program_path()),
+    }
 
 
 def said(tally: built.Tally, name: str, errors: bytes, pattern: str) -> None:

@@ -1,0 +1,77 @@
+"""What a release has beside the packages: an archive of the files that ./install puts below a prefix, a note of how the
+program was proved, and the checksums of all of it. Each is the same on every machine, if its files are."""
+
+import gzip
+import hashlib
+import io
+import os
+import subprocess
+import tarfile
+import time
+from pathlib import Path
+from typing import List
+
+from files import TOP, File, files, version
+
+# The prefix that the unit of the archive names, below which a user unpacks it.
+PREFIX = Path.home() / ".local"
+# The note that `./wqd --build` leaves beside the program.
+NOTE = TOP / "crates" / "wqd" / "out" / "wqd.proof"
+PROGRAM = "lib/wqd/wqd"
+ABOUT = """wqd {version}, a file watch server with proved answers, for Linux on x86-64.
+
+Unpack it below ~/.local, so that the commands are in ~/.local/bin:
+
+    tar -xzf wqd-{version}-linux-x86_64.tar.gz -C ~/.local --strip-components=1
+
+Then `wq find .` lists files, `man wq` and `man wqd` say the rest, and share/doc/wqd has the changes and the licences.
+wq and wqasm need Python 3.8 or later; wqd needs the C library alone.
+"""
+
+
+def seconds() -> int:
+    """The time of all files: what SOURCE_DATE_EPOCH says, else that of the last commit, else now."""
+    said = os.environ.get("SOURCE_DATE_EPOCH")
+    if said is not None:
+        return int(said)
+    last = subprocess.run(["git", "-C", str(TOP), "log", "-1", "--format=%ct"], stdout=subprocess.PIPE, stderr=subprocess.DEVNULL)
+    return int(last.stdout) if last.returncode == 0 and last.stdout.strip() else int(time.time())
+
+
+def tar_of(found: List[File], second: int) -> bytes:
+    """The files and the directories that they are in, all of root, compressed."""
+    written = io.BytesIO()
+    above = {str(path) for file in found for path in Path(file.path).parents}
+    entries = [File(path, 0o755, b"") for path in above] + found
+    with tarfile.open(fileobj=written, mode="w", format=tarfile.GNU_FORMAT) as tar:
+        for entry in sorted(entries):
+            info = tarfile.TarInfo("." if entry.path == "." else "./" + entry.path)
+            info.type = tarfile.DIRTYPE if entry.path in above else tarfile.REGTYPE
+            info.mode, info.size, info.mtime = entry.mode, len(entry.data), second
+            info.uname = info.gname = "root"
+            tar.addfile(info, io.BytesIO(entry.data))
+    return gzip.compress(written.getvalue(), mtime=second)
+
+
+def archive(second: int) -> File:
+    """The files below one directory with the version, for those who have no package manager or do not want one."""
+    home = f"wqd-{version()}"
+    found = [File(f"{home}/{file.path}", file.mode, file.data) for file in files(str(PREFIX))]
+    found.append(File(f"{home}/share/doc/wqd/README", 0o644, ABOUT.format(version=version()).encode()))
+    return File(f"{home}-linux-x86_64.tar.gz", 0o644, tar_of(found, second))
+
+
+def proof() -> File:
+    """The note of how the program was proved. A program of which there is none, or another one, is not released."""
+    program = next(file.data for file in files(str(PREFIX)) if file.path == PROGRAM)
+    digest = hashlib.sha256(program).hexdigest()
+    note = NOTE.read_text("utf-8") if NOTE.is_file() else ""
+    if f"program {digest}\n" not in note:
+        raise ValueError(f"the program with the SHA-256 {digest} is not the one that ./wqd --build proved and built here")
+    return File(f"wqd-{version()}.proof", 0o644, note.encode())
+
+
+def checksums(found: List[File]) -> File:
+    """The SHA-256 of each file, as `sha256sum --check` reads it."""
+    lines = [f"{hashlib.sha256(file.data).hexdigest()}  {file.path}\n" for file in sorted(found)]
+    return File("SHA256SUMS", 0o644, "".join(lines).encode())
