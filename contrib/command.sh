@@ -183,6 +183,14 @@ except OSError:
     sys.exit(1)' "$1" 2> /dev/null
 }
 
+# Raises the limit of open files to 4,096, or as far as it may be: a client takes two, and a command of a trigger one.
+raise_handles() {
+    soft=$(ulimit -S -n)
+    if [ "$soft" != unlimited ] && [ "$soft" -lt 4096 ]; then
+        ulimit -S -n 4096 2> /dev/null || ulimit -S -n "$(ulimit -H -n)"
+    fi
+}
+
 # Runs the program in place of this shell, so that it keeps the number of the process. What `serve` needs and was not told is
 # filled in first. If the program will refuse its words or its
 # socket, it runs below the shell, which then says the reason.
@@ -201,6 +209,7 @@ run() {
         fi
         has_option --start "$@" || set -- "$@" --start "$(date +%s)"
         has_option --pid "$@" || set -- "$@" --pid $$
+        raise_handles
         fault=$(socket_fault "$(sockname_of "$@")")
     fi
     if [ -z "$fault" ]; then exec "$program" "$@"; fi

@@ -45,8 +45,11 @@ class Scene:
         self.out = room / "out"
         self.root.mkdir()
         self.out.mkdir()
-        self.server = Server(room, interval=INTERVAL)
+        self.server = self.serve(room)
         self.client: Client = self.server.client()
+
+    def serve(self, room: Path) -> Server:
+        return Server(room, interval=INTERVAL)
 
     def __enter__(self) -> "Scene":
         self.client.ask("watch", str(self.root))

@@ -45,7 +45,7 @@ where
         seat: Seat<N>,
         spawn: P,
     ) -> Result<Rounds<N, P, R>, AllocError> {
-        let runs = Arc::new(alloc, Runs::new(alloc)?)?;
+        let runs = Arc::new(alloc, Runs::new(alloc, spawn.most_inputs())?)?;
         let launcher = Launcher::new(spawn, rt, alloc, runs.clone()?)?;
         Ok(Rounds {
             rt,

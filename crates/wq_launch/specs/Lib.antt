@@ -1,5 +1,6 @@
 pub mod Limit
 pub mod Runs
+pub mod Inputs
 pub mod Command
 pub mod Failing
 pub mod StartedRun

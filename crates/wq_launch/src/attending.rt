@@ -94,7 +94,7 @@ where
 fn see_through<R: Wait, O: Notices>(rt: &R, alloc: Global, post: &Post, runs: &Runs, notices: &O) {
     if let Some(run) = post.take(rt) {
         let number = run.number;
-        let line = wait_for(alloc, run);
+        let line = wait_for(rt, alloc, runs, run);
         runs.end(rt, number);
         if let Some(line) = line {
             notices.tell(&line);
@@ -104,7 +104,7 @@ fn see_through<R: Wait, O: Notices>(rt: &R, alloc: Global, post: &Post, runs: &R
 
 /// Writes the input of a command, as far as it takes it, and waits for its end. Gives a line if it
 /// failed.
-fn wait_for(alloc: Global, run: Run) -> Option<String> {
+fn wait_for<R: Wait>(rt: &R, alloc: Global, runs: &Runs, run: Run) -> Option<String> {
     let Run {
         number: _,
         mut child,
@@ -116,7 +116,9 @@ fn wait_for(alloc: Global, run: Run) -> Option<String> {
         // A command that reads no further has closed its input, or has ended.
         let _ = pipe.write_all(input.as_slice());
     }
+    let bytes = input.len();
     drop(input);
+    runs.end_input(rt, bytes);
     // A command that cannot be waited for has no end that could be told.
     let status = child.wait().ok()?;
     if status.success() {

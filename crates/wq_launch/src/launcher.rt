@@ -116,24 +116,25 @@ impl<S: Spawn + Drop, R: Wait + Drop> Launcher<S, R> {
     fn begin(&self, start: &Start) -> io::Result<(u32, Child)>
         ensures { OnOk result (length self.now.waiting < max_runs) }
     {
-        let Some(number) = self.next_number() else {
+        let Some(number) = self.next_number(start.input.len()) else {
             return Err(io::Error::new(io::ErrorKind::ResourceBusy, "too many commands run"));
         };
         match self.spawn.spawn(self.alloc, start) {
             Ok(child) => Ok((number, child)),
             Err(error) => {
+                self.runs.end_input(&self.rt, start.input.len());
                 self.runs.end(&self.rt, number);
                 Err(error)
             }
         }
     }
 
-    /// A number for a command that is to run. There is room for it among those that wait.
-    fn next_number(&self) -> Option<u32>
+    /// A number for a command that is to run with an input of so many bytes. There is room for it among those that wait.
+    fn next_number(&self, input: usize) -> Option<u32>
         ensures { OnSome result (length self.now.waiting < max_runs) }
     {
         if self.waiting.len() < MAX_RUNS {
-            self.runs.begin(&self.rt)
+            self.runs.begin(&self.rt, input)
         } else {
             None
         }

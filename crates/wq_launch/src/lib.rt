@@ -7,6 +7,7 @@
 mod attending;
 mod command;
 mod failing;
+mod inputs;
 mod launcher;
 mod law;
 mod notices;
@@ -16,6 +17,7 @@ mod spawning;
 mod words;
 
 pub use attending::attend;
+pub use inputs::MAX_INPUT_BYTES;
 pub use launcher::Launcher;
 pub use law::numbers_are_free;
 pub use notices::Notices;

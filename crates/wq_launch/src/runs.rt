@@ -4,6 +4,7 @@ ghost use Rattle.wq_launch.specs.Limit.{max_runs};
 ghost use Rattle.wq_launch.specs.Runs.{GivesNumber, first_free, is_running, number_after};
 ghost use Rattle.wq_launch.specs.Runs.{without_run};
 
+use crate::inputs::Inputs;
 use std::alloc::{AllocError, Global};
 use std::marker::Model;
 use std::sync::{Mutex, Wait};
@@ -103,19 +104,35 @@ fn drop_number(running: &mut Vec<u32>, run: u32)
 #[derive(Drop)]
 pub struct Runs {
     table: Mutex<RunTable>,
+    inputs: Mutex<Inputs>,
 }
 
 impl Runs {
-    /// No command runs. All memory that it ever needs is taken now.
-    pub fn new(alloc: Global) -> Result<Runs, AllocError> {
+    /// No command runs, and so many inputs may wait at once until they are written. All memory that it ever needs is taken
+    /// now.
+    pub fn new(alloc: Global, most_inputs: usize) -> Result<Runs, AllocError> {
         Ok(Runs {
             table: Mutex::new(RunTable::new(alloc)?),
+            inputs: Mutex::new(Inputs::new(most_inputs)),
         })
     }
 
-    /// A number for a command that is to run, unless as many run as may.
-    pub(crate) fn begin<R: Wait>(&self, rt: &R) -> Option<u32> {
-        self.table.lock(rt).begin()
+    /// A number for a command that is to run with an input of so many bytes, unless as many run as may, or the inputs that
+    /// wait leave no room for it.
+    pub(crate) fn begin<R: Wait>(&self, rt: &R, input: usize) -> Option<u32> {
+        if !self.inputs.lock(rt).take(input) {
+            return None;
+        }
+        let number = self.table.lock(rt).begin();
+        if number.is_none() {
+            self.end_input(rt, input);
+        }
+        number
+    }
+
+    /// An input of so many bytes was written, or is not needed.
+    pub(crate) fn end_input<R: Wait>(&self, rt: &R, input: usize) {
+        self.inputs.lock(rt).end(input);
     }
 
     /// The command of this number no longer runs.

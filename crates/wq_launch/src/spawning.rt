@@ -10,23 +10,36 @@ use wq_follow::Start;
 pub trait Spawn {
     /// Starts a command. If its input is empty, then so is its standard input.
     fn spawn(&self, alloc: Global, start: &Start) -> io::Result<Child>;
+
+    /// How many commands may be there at once whose input is not written yet. Each takes a handle of the server.
+    fn most_inputs(&self) -> usize;
 }
 
 /// The system, which starts each command in the directory of its root.
 #[derive(Drop)]
 pub struct System<P: Processes<Started = SystemProcess> + Drop> {
     processes: P,
+    most_inputs: usize,
 }
 
 impl<P: Processes<Started = SystemProcess> + Drop> System<P> {
-    /// Commands are started by this handle.
-    pub fn new(processes: P) -> System<P> {
-        System { processes }
+    /// Commands are started by this handle, of a process that may have so many handles. Most of them may be pipes to
+    /// commands: a quarter is enough if there are few, and 256 stay free if there are many.
+    pub fn new(processes: P, handles: usize) -> System<P> {
+        let free = (handles - handles / 4).min(256);
+        System {
+            processes,
+            most_inputs: handles - free,
+        }
     }
 }
 
 impl<P: Processes<Started = SystemProcess> + Drop> Spawn for System<P> {
     fn spawn(&self, alloc: Global, start: &Start) -> io::Result<Child> {
         command_of(alloc, start)?.spawn(&self.processes)
+    }
+
+    fn most_inputs(&self) -> usize {
+        self.most_inputs
     }
 }

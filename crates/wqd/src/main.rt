@@ -3,9 +3,11 @@
 //! commands for it; `wq_replay` replays a script, and `wq_verify` describes program files.
 #![tactic(auto)]
 
+mod handles;
 mod lanes;
 mod machine;
 
+use handles::most_handles;
 use lanes::lanes;
 use machine::{Machine, StandardError, cannot_listen, serve};
 use std::env;
@@ -32,7 +34,7 @@ fn main(rt: HostRuntime) -> ExitCode {
                 first,
                 more,
                 notices: StandardError { rt },
-                spawn: System::new(rt),
+                spawn: System::new(rt, most_handles(&rt)),
             };
             serve(&rt, rt, machine, settings)
         }
