@@ -38,6 +38,7 @@ SAID = [
          "wq_glob max_pattern_length"),
     said("REFERENCE", "| line of a client, without its newline | {} bytes |", "wq_stream max_line"),
     said("REFERENCE", "| commands of triggers that run at once | {} |", "wq_launch max_runs"),
+    said("REFERENCE", "| one, or {} bytes together;", "wq_launch max_input_bytes"),
 ]
 
 
