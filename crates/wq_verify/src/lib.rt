@@ -16,6 +16,8 @@ mod report;
 mod rule;
 mod shape;
 mod stack;
+mod stored;
+mod weight;
 
 pub use fault::{ProgramFault, Rejection};
 pub use law::{
@@ -25,3 +27,4 @@ pub use law::{
 pub use program::{Program, verify};
 pub use report::{FAULT, LONGEST_NAME, MAX_FILE, Report, check};
 pub use shape::MAX_CELLS;
+pub use stored::{MAX_OPEN, Opened, StoredProgram};
