@@ -6,3 +6,4 @@ pub mod Budgets
 pub mod Steps
 pub mod ShortPrograms
 pub mod FirstPrograms
+mod Words
