@@ -7,3 +7,4 @@ pub mod Steps
 pub mod ShortPrograms
 pub mod FirstPrograms
 mod KeptFiles
+mod Words

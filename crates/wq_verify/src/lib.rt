@@ -14,6 +14,7 @@ mod pass;
 mod program;
 mod report;
 mod rule;
+mod same;
 mod shape;
 mod stack;
 mod stored;

@@ -1,9 +1,11 @@
 //! Programs that a server keeps for its clients. A small one is kept open, as it runs. A large one is kept as the bytes of
 //! its file, and read again when it is to run: open it takes up to fifty times as many bytes.
-ghost use Rattle.std.specs.Prelude.{◌≡◌, IfOk, IfSome};
+ghost use Rattle.std.specs.Prelude.{◌≡◌, IfOk, IfSome, IsTrue};
 ghost use Rattle.wq_verify.specs.Stored.{IsProgramFile, program_in};
+ghost use Rattle.wq_verify.specs.Typing.{IsValid};
 
 use crate::program::{Program, accept};
+use crate::same::Same;
 use crate::weight::weight_of;
 use std::alloc::{AllocError, Global};
 use std::marker::Model;
@@ -87,6 +89,27 @@ impl StoredProgram {
         match &self.form {
             Form::Open(program) => Ok(Opened::lent(program)),
             Form::File(bytes) => Ok(Opened::own(read_again(alloc, bytes.as_slice())?)),
+        }
+    }
+
+    /// A program that is kept may run. Only proofs use this call, which does nothing.
+    pub fn may_run(&self)
+        ensures { IsValid self.now }
+    {
+        if let Form::Open(program) = &self.form {
+            program.raw();
+        }
+    }
+
+    /// Whether two programs are equal. Two that are kept in different forms are not compared, so only what follows from a
+    /// yes is promised. It takes no memory, and opens nothing.
+    pub fn is_same(&self, other: &StoredProgram) -> bool
+        ensures { IsTrue result → self.now ≡ other.now }
+    {
+        match (&self.form, &other.form) {
+            (Form::Open(one), Form::Open(other)) => one.raw().is_same(other.raw()),
+            (Form::File(one), Form::File(other)) => one.as_slice() == other.as_slice(),
+            _ => false,
         }
     }
 
