@@ -179,7 +179,9 @@ pub fn decode(alloc: Global, bytes: &[u8]) -> Result<Raw, FileFault>
 #[tactic(auto, unfolding(crate::specs::Spelling::spelling_in))]
 pub fn encode(alloc: Global, raw: &Raw) -> Result<Vec<u8>, AllocError>
     requires { IsTrue (raw_fits raw.now) }
-    ensures { IfOk result (λ bytes. bytes.items ≡ spelling raw.now) }
+    ensures written { IfOk result (λ bytes. bytes.items ≡ spelling raw.now) }
+    // So the program is read back: its numbers and bytes have room in their fields.
+    ensures spelled { IfOk result (λ bytes. IsSpelling raw.now bytes.items) }
 {
     let mut out = Vec::new(alloc);
     out.extend_from_slice(b"WQPF")?;

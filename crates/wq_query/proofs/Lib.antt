@@ -8,6 +8,5 @@ mod Tokens
 mod RowTexts
 mod Places
 mod Subscribed
-mod Words
 mod Longs
 mod WrittenRows

@@ -74,7 +74,16 @@ program_in plan = (plan.program).value
 -- the data of a `Plan`: its query, its bound, and its program if the query names one
 abbrev pub planned : Plan → PlanData
 planned plan = record {
-  query = asked_of plan.query;
+  query = record {
+    expression = term_of (plan.expr).value;
+    program = (plan.program_name).value;
+    fields = (plan.fields).items;
+    since = since_data (plan.since).value;
+    suffix = (plan.generators).suffix;
+    path = (plan.generators).path;
+    glob = (plan.generators).glob;
+    empty_on_fresh_instance = plan.empty_on_fresh_instance;
+  };
   bound = plan.bound;
-  program = option_map (λ _. (plan.program).value) (plan.query).program;
+  program = option_map (λ _. (plan.program).value) (plan.program_name).value;
 }

@@ -6,22 +6,20 @@ ghost use Rattle.wq_view.specs.Limit.{max_records};
 ghost use Rattle.wq_view.specs.Position.{passes_at};
 ghost use Rattle.wq_record.specs.RecordData.{RecordData};
 
-use crate::crew::Crew;
-use crate::same::Same;
+use crate::crew::{Alone, Crew};
 use std::alloc::{AllocError, Global};
 use std::sync::Arc;
 use wq_base::Stays;
 use wq_clock::Bound;
-use wq_eval::filter;
 use wq_gen::{Generators, candidates};
-use wq_verify::Program;
+use wq_verify::StoredProgram;
 use wq_view::{View, positions_are_there};
 
 /// Which of some files of a view a program keeps, found before someone asks for it. So a plan can be answered under a
 /// lock without a run of its program there.
 #[derive(Drop)]
 pub struct Ahead {
-    pub(crate) program: Arc<Program>,
+    pub(crate) program: Arc<StoredProgram>,
     pub(crate) positions: Vec<u32>,
     pub(crate) kept: Vec<u32>,
 }
@@ -30,7 +28,7 @@ impl Ahead {
     /// What the program keeps of the files that changed after a bound, or of all files if that is fresh.
     pub fn new(
         alloc: Global,
-        program: Arc<Program>,
+        program: Arc<StoredProgram>,
         bound: Bound,
         view: &View,
     ) -> Result<Ahead, AllocError>
@@ -46,7 +44,7 @@ impl Ahead {
             glob: None,
         };
         let positions = candidates(alloc, &Stays {}, view, &changed)?;
-        let kept = filter(alloc, &Stays {}, &program, view, &positions)?;
+        let kept = kept(&Alone {}, alloc, &program, view, &positions, None)?;
         Ok(Ahead {
             program,
             positions,
@@ -55,12 +53,12 @@ impl Ahead {
     }
 
     /// What this program keeps of these positions, if it was found here.
-    fn kept_of(&self, program: &Program, positions: &[u32]) -> Option<&[u32]>
+    fn kept_of(&self, program: &StoredProgram, positions: &[u32]) -> Option<&[u32]>
         ensures { (records : List RecordData) → IsAheadAt records self.now
             → IfSome result (λ kept. kept.now
             ≡ filter (passes_at (says_yes program.now) records) positions.now) }
     {
-        if self.positions.as_slice() == positions && self.program.raw().is_same(program.raw()) {
+        if self.positions.as_slice() == positions && self.program.is_same(program) {
             Some(self.kept.as_slice())
         } else {
             None
@@ -69,11 +67,11 @@ impl Ahead {
 }
 
 /// The positions of those files for which the program answers yes: those found ahead if these are of the program and
-/// the positions, or else those that the crew finds.
+/// the positions, or else those that the crew finds. The program is opened only if the crew has to run it.
 pub(crate) fn kept<C: Crew>(
     crew: &C,
     alloc: Global,
-    program: &Program,
+    program: &StoredProgram,
     view: &View,
     positions: &[u32],
     ahead: Option<&Ahead>,
@@ -84,10 +82,14 @@ pub(crate) fn kept<C: Crew>(
     ensures { IfOk result (λ kept. kept.items
         ≡ filter (passes_at (says_yes program.now) view.now.records) positions.now) }
 {
+    if positions.is_empty() {
+        return Ok(Vec::new(alloc));
+    }
     if let Some(ahead) = ahead
         && let Some(kept) = ahead.kept_of(program, positions)
     {
         return Vec::from_slice(alloc, kept);
     }
-    crew.filter(alloc, program, view, positions)
+    let opened = program.open(alloc)?;
+    crew.filter(alloc, opened.program(), view, positions)
 }

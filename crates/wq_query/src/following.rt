@@ -41,7 +41,7 @@ pub fn print_list(
         (planned plan.now) (instance_data instance.now) view.now.tick
         (records_at view.now.records places.now))) }
 {
-    let form = Form::of(alloc, &plan.query.fields)?;
+    let form = Form::of(alloc, &plan.fields)?;
     let mut out = Writer::new(Vec::with_capacity(alloc, ROOM)?);
     put_list(&mut out, plan, instance, view, places, &form, root, name)?;
     let text = out.into_inner();

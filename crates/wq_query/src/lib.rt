@@ -19,7 +19,6 @@ mod reading;
 mod reply;
 mod room;
 mod rows;
-mod same;
 mod sending;
 mod subscription;
 
@@ -32,5 +31,5 @@ pub use law::{plans_keep_measures, subscriptions_are_plain, values_ask_what_they
 pub use long::LongReply;
 pub use query::{Plan, Query};
 pub use reading::{flag, some_fields};
-pub use reply::{ReplyText, answer, answer_text};
+pub use reply::{ReplyText, answer_text};
 pub use rows::{Printed, Rows};

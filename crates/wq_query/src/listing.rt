@@ -100,7 +100,7 @@ fn candidates_of<C: Crew>(
 fn generators(plan: &Plan) -> &Generators
     ensures { result.now ≡ generators_of (planned plan.now) }
 {
-    &plan.query.generators
+    &plan.generators
 }
 
 /// Those of these places whose files exist.
@@ -134,5 +134,5 @@ pub(crate) fn is_new(bound: Bound, file: &Record) -> bool
 pub(crate) fn is_empty(plan: &Plan) -> bool
     ensures { result ≡ lists_nothing (planned plan.now) }
 {
-    plan.bound.is_fresh() && plan.query.empty_on_fresh_instance
+    plan.bound.is_fresh() && plan.empty_on_fresh_instance
 }

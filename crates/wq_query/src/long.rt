@@ -95,7 +95,7 @@ impl LongReply {
         ensures { IfOk result (λ reply. reply
             ≡ compact_text (reply_of (planned plan.now) (instance_data instance.now) view.now)) }
     {
-        let form = Form::of(alloc, &plan.query.fields)?;
+        let form = Form::of(alloc, &plan.fields)?;
         let head = head_of(
             alloc,
             &Rows {

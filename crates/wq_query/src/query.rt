@@ -12,13 +12,14 @@ use crate::listing::listed;
 use crate::{generating, globbing, reading, subscription};
 use serde_json::Value;
 use std::alloc::{AllocError, Global};
+use std::snapshot::Snapshot;
 use std::sync::Arc;
 use wq_base::Text;
 use wq_clock::{Bound, Instance};
 use wq_eval::{answers_are_said, answers_are_within};
 use wq_gen::Generators;
 use wq_term::Expr;
-use wq_verify::Program;
+use wq_verify::StoredProgram;
 use wq_view::View;
 
 /// The point from which a query asks for changes.
@@ -50,12 +51,21 @@ pub struct Query {
 /// expression within the steps of its measure.
 #[derive(Drop)]
 pub struct Plan {
-    pub(crate) query: Query,
+    /// The query's expression, as contracts see it. A snapshot takes no memory.
+    pub(crate) expr: Snapshot<Expr>,
+    /// The name that the query has for a program, as contracts see it.
+    pub(crate) program_name: Snapshot<Option<Text>>,
+    /// The point from which the query asked for changes, as contracts see it.
+    pub(crate) since: Snapshot<Since>,
+    pub(crate) fields: Vec<Field>,
+    /// The query's suffixes, paths and patterns, and the plan's bound.
+    pub(crate) generators: Generators,
+    pub(crate) empty_on_fresh_instance: bool,
     pub(crate) bound: Bound,
-    pub(crate) program: Arc<Program>,
-    ghost since: { (query.generators).since ≡ Some bound },
-    ghost meaning: { query.program ≡ None → SaysMeaning program.value (term_of query.expr) },
-    ghost cost: { query.program ≡ None → KeepsMeasure program.value (term_of query.expr) },
+    pub(crate) program: Arc<StoredProgram>,
+    ghost from: { generators.since ≡ Some bound },
+    ghost meaning: { program_name.value ≡ None → SaysMeaning program.value (term_of expr.value) },
+    ghost cost: { program_name.value ≡ None → KeepsMeasure program.value (term_of expr.value) },
 }
 
 impl Query {
@@ -164,12 +174,13 @@ impl Query {
         }
     }
 
-    /// The plan of answering the query with this bound, whichever the query sets.
+    /// The plan of answering the query with this bound, whichever the query sets. It lets the expression go, which the
+    /// program stands for from now on.
     ///
     /// The program is the one that is kept under the name that the query has for one. Without a
     /// name, it answers the meaning of the query's expression on every record, and its budget is no
     /// more than the expression's measure.
-    pub fn plan(mut self, bound: Bound, program: Arc<Program>) -> Plan
+    pub fn plan(self, bound: Bound, program: Arc<StoredProgram>) -> Plan
         requires { (asked_of self).program ≡ None
             → AnswersWithin program.value (asked_of self).expression }
         ensures { planned result ≡ record {
@@ -180,10 +191,23 @@ impl Query {
     {
         answers_are_said();
         answers_are_within();
-        program.raw();
-        self.generators.since = Some(bound);
+        program.may_run();
+        let Query {
+            expr,
+            program: program_name,
+            fields,
+            since,
+            mut generators,
+            empty_on_fresh_instance,
+        } = self;
+        generators.since = Some(bound);
         Plan {
-            query: self,
+            expr: Snapshot::of(&expr),
+            program_name: Snapshot::of(&program_name),
+            since: Snapshot::of(&since),
+            fields,
+            generators,
+            empty_on_fresh_instance,
             bound,
             program,
         }
@@ -211,7 +235,7 @@ impl Plan {
         ensures { planned self.new ≡ with_bound (Tick tick) (planned self.old) }
     {
         let bound = Bound::Tick(tick);
-        self.query.generators.since = Some(bound);
+        self.generators.since = Some(bound);
         self.bound = bound;
     }
 
@@ -232,7 +256,7 @@ impl Plan {
     }
 
     /// Another share of the plan's program.
-    pub fn shared_program(&self) -> Result<Arc<Program>, AllocError> {
+    pub fn shared_program(&self) -> Result<Arc<StoredProgram>, AllocError> {
         self.program.clone()
     }
 }

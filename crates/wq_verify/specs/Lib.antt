@@ -10,3 +10,4 @@ pub mod Law
 pub mod ProgramFault
 pub mod FirstRules
 pub mod Report
+pub mod Stored

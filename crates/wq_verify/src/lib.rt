@@ -14,8 +14,11 @@ mod pass;
 mod program;
 mod report;
 mod rule;
+mod same;
 mod shape;
 mod stack;
+mod stored;
+mod weight;
 
 pub use fault::{ProgramFault, Rejection};
 pub use law::{
@@ -25,3 +28,4 @@ pub use law::{
 pub use program::{Program, verify};
 pub use report::{FAULT, LONGEST_NAME, MAX_FILE, Report, check};
 pub use shape::MAX_CELLS;
+pub use stored::{MAX_OPEN, Opened, StoredProgram};

@@ -1,7 +1,7 @@
 -- The tables are equal, one after the other.
 use Rattle.std.proofs.Common.{rules, ◌≡◌, sym, ◌∙◌}
-use Rattle.wq_query.proofs.Words.{one_raw}
-use Rattle.wq_query.proofs.same.RawSame.is_same.Goals as goal
+use Rattle.wq_verify.proofs.Words.{one_raw}
+use Rattle.wq_verify.proofs.same.RawSame.is_same.Goals as goal
 
 pub returns : goal.returns
 returns c = λ last.
