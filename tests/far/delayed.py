@@ -2,6 +2,7 @@
 
 import shutil
 import threading
+import time
 from pathlib import Path
 from typing import List
 
@@ -12,6 +13,10 @@ from follower import Follower, make_tree
 CALLS = "statx,openat,getdents64"
 # Of each call, in microseconds.
 DELAY = 1_000
+# A scan of so many files has one thread.
+FEW = 90
+# How much longer than without rounds a query may take beside them.
+LONGEST = 1.4
 
 
 def delayed(microseconds: int = DELAY) -> List[str]:
@@ -114,6 +119,35 @@ def check_delayed_notice(tally: built.Tally, room: Path) -> None:
         follower.hears_of("d3/new/file")
         with server.client() as last:
             same_end(tally, server, last)
+
+
+def check_a_round_gives_way(tally: built.Tally, room: Path) -> None:
+    """Rounds scan a slow root all the time. A query does not wait until the scan of a round ends: it would take up to two
+    scans, and one and a half on average."""
+    if not has_strace(tally):
+        return
+    root = room / "tree"
+    # Too few files for a second thread.
+    make_tree(root, 1, FEW)
+    with Server(room, interval=A_HOUR, through=delayed(4 * DELAY)) as server, server.client() as client:
+        client.ask("watch", str(root))
+        alone = [seconds_of_a_query(client, root) for _ in range(4)]
+        same_end(tally, server, client)
+    with Server(room, interval=10, through=delayed(4 * DELAY)) as server, server.client() as client:
+        client.ask("watch", str(root))
+        # Pauses of several lengths, so that the queries fall into different parts of a scan.
+        beside = [seconds_of_a_query(client, root, 0.05 + number * 0.07) for number in range(8)]
+        same_end(tally, server, client)
+    lines = [f"alone {sorted(alone)}, beside rounds {sorted(beside)}"]
+    tally.check("a query beside rounds of a slow tree", max(beside) < LONGEST * min(alone), lines)
+
+
+def seconds_of_a_query(client: Client, root: Path, pause: float = 0.0) -> float:
+    """How long a query takes that scans, after a pause."""
+    time.sleep(pause)
+    began = time.monotonic()
+    client.ask("query", str(root), {"expression": ["name", "no"], "fields": ["name"]})
+    return time.monotonic() - began
 
 
 def same_end(tally: built.Tally, server: Server, client: Client) -> None:
