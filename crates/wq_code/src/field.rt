@@ -38,7 +38,7 @@ pub(crate) trait Field: Drop + Sized {
     fn write(&self, out: &mut Vec<u8>) -> Result<(), AllocError>
         requires { IsTrue (within Second self.now) }
         ensures written { OnOk result (out.new.items ≡ out.old.items ++ spelling Second self.now) }
-        ensures room { has_room self.now };
+        ensures room { OnOk result (has_room self.now) };
 
     /// Whether the value keeps to the limits of the second version.
     fn fits(&self) -> bool

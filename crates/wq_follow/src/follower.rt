@@ -40,13 +40,6 @@ impl Follower {
         &self.plan
     }
 
-    /// The tick at which the last batch ended, if there was one.
-    pub fn last(&self) -> Option<u64>
-        ensures { result ≡ (follower_data self.now).last }
-    {
-        self.last
-    }
-
     /// The next batch, at a view. The follower does not move: see [`commit`](Follower::commit).
     ///
     /// At a view that is no newer than the last batch it takes no memory, and no time that grows

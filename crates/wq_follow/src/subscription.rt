@@ -1,5 +1,5 @@
 //! Subscriptions: their lists, and the line that ends each.
-ghost use Rattle.std.specs.Prelude.{◌≡◌, ◌≤◌, IfErr, IfOk, OnErr, OnOk, false, option_map};
+ghost use Rattle.std.specs.Prelude.{◌≡◌, ◌≤◌, IfErr, IfOk, OnErr, OnOk, false};
 ghost use Rattle.serde_json.specs.View.{view as data_of};
 ghost use Rattle.serde_json.specs.Written.{compact_text, has_float};
 ghost use Rattle.wq_base.specs.Limit.{max_number};
@@ -11,7 +11,7 @@ ghost use Rattle.wq_view.specs.Position.{records_at};
 ghost use Rattle.wq_follow.specs.Batch.{is_told, polled};
 ghost use Rattle.wq_follow.specs.Followed.{subscription_data};
 ghost use Rattle.wq_follow.specs.Follower.{IsBatch};
-ghost use Rattle.wq_follow.specs.Subscription.{canceled_data, caught_up, list_of, next_list};
+ghost use Rattle.wq_follow.specs.Subscription.{canceled_data, caught_up, list_of};
 ghost use Rattle.wq_follow.specs.Subscription.{sent_up_to, subscribed};
 
 use crate::batch::Batch;
@@ -134,56 +134,8 @@ impl Subscription {
         ensures stays { OnErr result (subscription_data self.new ≡ subscription_data self.old) }
     {
         let batch = self.poll(alloc, view)?;
-        self.send(alloc, instance, view, &batch)
-    }
-
-    /// The list at a view of the root, if files changed. After it the subscription is caught up with
-    /// the view; without memory it has not moved.
-    ///
-    /// At a view that is no newer than the last list it takes no memory, and no time that grows with
-    /// the view.
-    pub fn next_list(
-        &mut self,
-        alloc: Global,
-        instance: &Instance,
-        view: &View,
-    ) -> Result<Option<Vec<u8>>, AllocError>
-        ensures list { IfOk result (λ text. option_map (λ t. t.items) text
-            ≡ next_list (instance_data instance.now) view.now (subscription_data self.old)) }
-        ensures moved { OnOk result (subscription_data self.new
-            ≡ caught_up view.now (subscription_data self.old)) }
-        ensures stays { OnErr result (subscription_data self.new ≡ subscription_data self.old) }
-        ensures wants { OnErr result (
-            is_told ((subscription_data self.old).follower).last view.now.tick ≡ false) }
-    {
-        let batch = self.poll(alloc, view)?;
-        if batch.files.is_empty() {
-            self.commit(&batch);
-            return Ok(None);
-        }
-        Ok(Some(self.send(alloc, instance, view, &batch)?))
-    }
-
-    /// The list of a batch of this view, which the subscription was then told.
-    fn send(
-        &mut self,
-        alloc: Global,
-        instance: &Instance,
-        view: &View,
-        batch: &Batch,
-    ) -> Result<Vec<u8>, AllocError>
-        requires within { AreWithin view.now.records batch.now.files.items }
-        requires tick { batch.now.tick ≤ max_number }
-        ensures list { IfOk result (λ text. text.items ≡ compact_text (list_data
-            (subscription_data self.old).root (subscription_data self.old).name
-            ((subscription_data self.old).follower).plan (instance_data instance.now)
-            view.now.tick (records_at view.now.records batch.now.files.items))) }
-        ensures moved { OnOk result (subscription_data self.new
-            ≡ sent_up_to batch.now.tick (subscription_data self.old)) }
-        ensures stays { OnErr result (subscription_data self.new ≡ subscription_data self.old) }
-    {
-        let text = self.list(alloc, instance, view, batch)?;
-        self.commit(batch);
+        let text = self.list(alloc, instance, view, &batch)?;
+        self.commit(&batch);
         Ok(text)
     }
 

@@ -17,7 +17,7 @@ use std::sync::Arc;
 use wq_base::Text;
 use wq_clock::{Bound, Instance};
 use wq_query::Ahead;
-use wq_verify::Program;
+use wq_verify::StoredProgram;
 use wq_view::View;
 
 /// A command that is started when files changed.
@@ -52,7 +52,7 @@ impl Trigger {
     pub fn new(
         definition: Definition,
         root: Text,
-        program: Arc<Program>,
+        program: Arc<StoredProgram>,
         running: Option<u32>,
     ) -> Trigger
         requires { ((definition_data definition).query).program ≡ None
@@ -134,7 +134,11 @@ impl Trigger {
     ///
     /// There is nothing to find if its command runs, or it was told the changes up to this tick. The call starts
     /// nothing.
-    pub fn asks<L: Launch>(&self, tick: u64, launcher: &mut L) -> Option<(Arc<Program>, Bound)>
+    pub fn asks<L: Launch>(
+        &self,
+        tick: u64,
+        launcher: &mut L,
+    ) -> Option<(Arc<StoredProgram>, Bound)>
         ensures shown { L.shown launcher.new ≡ L.shown launcher.old }
         ensures counted { L.failures_of launcher.new ≡ L.failures_of launcher.old }
     {

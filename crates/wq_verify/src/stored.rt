@@ -124,14 +124,16 @@ impl StoredProgram {
     }
 }
 
-/// The bytes of a program's file.
+/// The bytes of a program's file, with no room after them.
 #[tactic(auto, using(crate::proofs::KeptFiles::spelled_file, crate::proofs::KeptFiles::spelled_program))]
 fn program_file(alloc: Global, program: &Program) -> Result<Vec<u8>, AllocError>
     ensures file { IfOk result (λ bytes. IsProgramFile bytes.items) }
     ensures program { IfOk result (λ bytes. program_in bytes.items ≡ program.now) }
 {
     spellings_are_read_back();
-    encode(alloc, program.raw())
+    let mut bytes = encode(alloc, program.raw())?;
+    bytes.shrink_to_fit();
+    Ok(bytes)
 }
 
 /// The program of a file that was written of one.
