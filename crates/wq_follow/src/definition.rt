@@ -1,16 +1,18 @@
 //! Reading the object of a trigger.
-ghost use Rattle.std.specs.Prelude.{◌≡◌, false, map, IfOk, OnOk};
-ghost use Rattle.serde_json.specs.Data.{no_members};
+ghost use Rattle.std.specs.Prelude.{◌≡◌, ◌≤◌, false, map, IfOk, OnOk, Some};
+ghost use Rattle.serde_json.specs.Data.{depth, no_members};
 ghost use Rattle.serde_json.specs.Find.{get};
+ghost use Rattle.serde_json.specs.Read.{max_depth, read};
 ghost use Rattle.serde_json.specs.View.{members_view, view as data_of};
 ghost use Rattle.serde_json.specs.Written.{has_float};
 ghost use Rattle.wq_follow.specs.Definition.{known_part, with_key, with_keys};
 
 use crate::fault::TriggerFault;
-use crate::law::definitions_have_no_float;
+use crate::law::{definitions_are_shallow, definitions_have_no_float};
 use crate::shape::{Shape, has_bad_length, read_shape};
 use serde_json::{Map, Value, put};
 use std::alloc::{AllocError, Global};
+use wq_base::Text;
 use wq_clock::Instance;
 use wq_query::{Query, QueryFault};
 
@@ -19,9 +21,12 @@ use wq_query::{Query, QueryFault};
 pub struct Definition {
     pub(crate) shape: Shape,
     pub(crate) query: Query,
-    /// The object with the known keys, whose text is exact since it has no float.
+    /// The object with the known keys.
     pub(crate) object: Value,
+    /// Its text, which is exact since it has no float.
+    pub(crate) text: Text,
     ghost plain: { has_float (data_of object) ≡ false },
+    ghost written: { read text ≡ Some (data_of object) },
 }
 
 /// The keys that are known, in byte order.
@@ -57,10 +62,12 @@ impl Definition {
         let shape = read_shape(alloc, object)?;
         let object = known_part(alloc, object)?;
         definitions_have_no_float();
+        definitions_are_shallow();
         match Query::read(alloc, &object, instance) {
             Ok(query) => Ok(Definition {
                 shape,
                 query,
+                text: text_of(alloc, &object)?,
                 object,
             }),
             Err(QueryFault::NoMemory) => Err(TriggerFault::NoMemory),
@@ -97,6 +104,16 @@ fn known_part(alloc: Global, object: &Value) -> Result<Value, AllocError>
     ensures { IfOk result (λ part. data_of part ≡ known_part (data_of object.now)) }
 {
     Ok(Value::Object(part_of(alloc, object, &KNOWN_KEYS)?))
+}
+
+/// The text of an object that can be read again, with no room after it.
+fn text_of(alloc: Global, object: &Value) -> Result<Text, AllocError>
+    ensures { IfOk result (λ text. depth (data_of object.now) ≤ max_depth
+        → read text ≡ Some (data_of object.now)) }
+{
+    let mut text = object.to_string(alloc)?;
+    text.shrink_to_fit();
+    Ok(Text::from_string(text))
 }
 
 /// The members of an object that have these keys.
