@@ -1,5 +1,5 @@
 -- The object of a definition is plain: each of its values is.
-use Rattle.std.proofs.Common.{◌≡◌, ◌≤◌, suc, Bool, true, false, not, List, codes, ℕ, Option, Some, None, Result, Ok, Ordering, Less, Equal, Greater, nat_cmp, bytes_eq, refl, sym, ap, subst, ◌∙◌, arith}
+use Rattle.std.proofs.Common.{◌≡◌, ◌≤◌, suc, [], unwrap_or, Bool, true, false, not, List, codes, ℕ, Option, Some, None, Result, Ok, Ordering, Less, Equal, Greater, nat_cmp, bytes_eq, refl, sym, ap, subst, ◌∙◌, arith}
 use Rattle.std.proofs.lemmas.Bool.{and_parts}
 use Rattle.std.proofs.lemmas.Bool.Decides.{not_from_Decides}
 use Rattle.std.proofs.lemmas.Slice.Eq.{bytes_eq-Decides}
@@ -22,7 +22,7 @@ use Rattle.wq_query.proofs.Names.{ReadsEach}
 use Rattle.wq_term.specs.Expr.{always, depth_of}
 use Rattle.wq_term.specs.Limit.{max_depth}
 use Rattle.wq_follow.specs.Start.{InputData}
-use Rattle.wq_follow.specs.Definition.{DefinitionData, ShapeData, argument_of, arguments_in, command_of, has_bad_length, has_left_out_trigger_key, input_of, is_text_or_absent, defines, known_part, limit_of, list_input, shape_of, trigger_name_of, with_key, with_program}
+use Rattle.wq_follow.specs.Definition.{DefinitionData, ShapeData, argument_of, arguments_in, command_in, command_of, has_bad_length, has_left_out_trigger_key, input_of, is_text_or_absent, defines, known_part, limit_of, list_input, shape_of, trigger_name_of, with_key, with_program}
 use Rattle.wq_follow.specs.Plain.{DefinitionsAreShallow, DefinitionsHaveNoFloat}
 use Rattle.wq_follow.specs.declared.fault.TriggerFault.TheVariants.{BadName, BadShape, Query}
 use Rattle.wq_follow.proofs.PlainExpressions.{written}
@@ -107,6 +107,28 @@ plain_command n (Some (array ds)) texts is = by (arguments_in ds) refl is
     by None e is = cc
     by (Some xs) e is = plain_items n argument_of arguments_in (λ d ds. refl) (plain_argument n) ds xs e
 plain_command n (Some (object ms)) texts is = cc
+
+-- a value that says a command is not deep
+pub shallow_command : (d : Data) (texts : List (List ℕ)) → command_of (Some d) ≡ Some texts → depth d ≤ text.max_depth
+shallow_command d texts is = omega (arith, plain-depth d 1 (plain_command 0 (Some d) texts is))
+
+-- the text of such a value says the command
+said_command : (d : Data) (texts : List (List ℕ)) (kept : List ℕ) → command_of (Some d) ≡ Some texts
+    → (depth d ≤ text.max_depth → text.read kept ≡ Some d) → command_of (text.read kept) ≡ Some texts
+said_command d texts kept is reads = ap command_of (reads (shallow_command d texts is)) ∙ is
+
+-- so the text is that of a command
+pub kept_command : (d : Data) (texts : List (List ℕ)) (kept : List ℕ) → command_of (Some d) ≡ Some texts
+    → (depth d ≤ text.max_depth → text.read kept ≡ Some d) → command_of (text.read kept) ≡ Some (command_in kept)
+kept_command d texts kept is reads =
+    let said = said_command d texts kept is reads in
+    said ∙ ap (λ o. Some (unwrap_or o [])) (sym said)
+
+-- which is the one that the value says
+pub kept_words : (d : Data) (texts : List (List ℕ)) (kept : List ℕ) → command_of (Some d) ≡ Some texts
+    → (depth d ≤ text.max_depth → text.read kept ≡ Some d) → Some (command_in kept) ≡ command_of (Some d)
+kept_words d texts kept is reads =
+    sym (kept_command d texts kept is reads) ∙ said_command d texts kept is reads ∙ sym is
 
 -- the name of a field
 plain_field : (n : ℕ) (d : Data) (field : Field) → field_of d ≡ Some field → is_plain d n ≡ true

@@ -1,8 +1,8 @@
 //! Reading the object of a trigger.
-ghost use Rattle.std.specs.Prelude.{◌≡◌, ◌≤◌, false, map, IfOk, OnOk, Some};
-ghost use Rattle.serde_json.specs.Data.{depth, no_members};
+ghost use Rattle.std.specs.Prelude.{◌≡◌, false, map, IfOk, OnOk, Some};
+ghost use Rattle.serde_json.specs.Data.{no_members};
 ghost use Rattle.serde_json.specs.Find.{get};
-ghost use Rattle.serde_json.specs.Read.{max_depth, read};
+ghost use Rattle.serde_json.specs.Read.{read};
 ghost use Rattle.serde_json.specs.View.{members_view, view as data_of};
 ghost use Rattle.serde_json.specs.Written.{has_float};
 ghost use Rattle.wq_follow.specs.Definition.{known_part, with_key, with_keys};
@@ -10,6 +10,7 @@ ghost use Rattle.wq_follow.specs.Definition.{known_part, with_key, with_keys};
 use crate::fault::TriggerFault;
 use crate::law::{definitions_are_shallow, definitions_have_no_float};
 use crate::shape::{Shape, has_bad_length, read_shape};
+use crate::value_text::value_text;
 use serde_json::{Map, Value, put};
 use std::alloc::{AllocError, Global};
 use wq_base::Text;
@@ -67,7 +68,7 @@ impl Definition {
             Ok(query) => Ok(Definition {
                 shape,
                 query,
-                text: text_of(alloc, &object)?,
+                text: value_text(alloc, &object)?,
                 object,
             }),
             Err(QueryFault::NoMemory) => Err(TriggerFault::NoMemory),
@@ -104,16 +105,6 @@ fn known_part(alloc: Global, object: &Value) -> Result<Value, AllocError>
     ensures { IfOk result (λ part. data_of part ≡ known_part (data_of object.now)) }
 {
     Ok(Value::Object(part_of(alloc, object, &KNOWN_KEYS)?))
-}
-
-/// The text of an object that can be read again, with no room after it.
-fn text_of(alloc: Global, object: &Value) -> Result<Text, AllocError>
-    ensures { IfOk result (λ text. depth (data_of object.now) ≤ max_depth
-        → read text ≡ Some (data_of object.now)) }
-{
-    let mut text = object.to_string(alloc)?;
-    text.shrink_to_fit();
-    Ok(Text::from_string(text))
 }
 
 /// The members of an object that have these keys.

@@ -3,6 +3,7 @@
 #![tactic(auto)]
 
 mod batch;
+mod command;
 mod definition;
 mod fault;
 mod follower;
@@ -13,8 +14,10 @@ mod shape;
 mod starting;
 mod subscription;
 mod trigger;
+mod value_text;
 
 pub use batch::Batch;
+pub use command::Command;
 pub use definition::Definition;
 pub use fault::TriggerFault;
 pub use follower::Follower;
