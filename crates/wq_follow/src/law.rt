@@ -1,7 +1,7 @@
 //! Laws of followers, each a function whose contract is the law.
 ghost use Rattle.wq_follow.specs.Interval.{IntervalsAdjoin};
 ghost use Rattle.wq_follow.specs.Missing.{NothingIsMissed, ViewsAreReached};
-ghost use Rattle.wq_follow.specs.Plain.{DefinitionsHaveNoFloat};
+ghost use Rattle.wq_follow.specs.Plain.{DefinitionsAreShallow, DefinitionsHaveNoFloat};
 ghost use Rattle.wq_follow.specs.Round.{FailedStartsStay};
 ghost use Rattle.wq_follow.specs.Start.{LongestFront};
 
@@ -36,6 +36,13 @@ pub fn nothing_is_missed()
 /// The object that a definition of a trigger keeps has no float, so its text is exact.
 pub fn definitions_have_no_float()
     ensures { DefinitionsHaveNoFloat }
+{
+    values_ask_what_they_write();
+}
+
+/// The object that a definition of a trigger keeps is so shallow that its text reads as the object again.
+pub fn definitions_are_shallow()
+    ensures { DefinitionsAreShallow }
 {
     values_ask_what_they_write();
 }

@@ -3,6 +3,7 @@
 #![tactic(auto)]
 
 mod batch;
+mod command;
 mod definition;
 mod fault;
 mod follower;
@@ -13,15 +14,17 @@ mod shape;
 mod starting;
 mod subscription;
 mod trigger;
+mod value_text;
 
 pub use batch::Batch;
+pub use command::Command;
 pub use definition::Definition;
 pub use fault::TriggerFault;
 pub use follower::Follower;
 pub use launch::{Launch, LaunchFault};
 pub use law::{
-    definitions_have_no_float, failed_starts_stay, intervals_adjoin, longest_front,
-    nothing_is_missed, views_are_reached,
+    definitions_are_shallow, definitions_have_no_float, failed_starts_stay, intervals_adjoin,
+    longest_front, nothing_is_missed, views_are_reached,
 };
 pub use order::{Input, Order};
 pub use shape::MAX_TRIGGER_NAME;

@@ -9,6 +9,7 @@ ghost use Rattle.wq_follow.specs.Definition.{limit_from, limit_of, list_input, t
 ghost use Rattle.wq_follow.specs.Definition.{names_program, shape_of, without_byte_0};
 ghost use Rattle.wq_follow.specs.Started.{input_data};
 
+use crate::command::Command;
 use crate::fault::TriggerFault;
 use crate::order::Input;
 use serde_json::Value;
@@ -23,7 +24,7 @@ pub const MAX_TRIGGER_NAME: usize = 255;
 #[derive(Drop)]
 pub(crate) struct Shape {
     pub(crate) name: Text,
-    pub(crate) command: Table<Text>,
+    pub(crate) command: Command,
     pub(crate) appends: bool,
     pub(crate) input: Input,
     pub(crate) limit: Option<u64>,
@@ -48,7 +49,7 @@ pub(crate) fn read_shape(alloc: Global, object: &Value) -> Result<Shape, Trigger
     let Some(limit) = limit(object.get("max_files_stdin")) else {
         return Err(TriggerFault::BadShape);
     };
-    let Some(command) = command(alloc, object.get("command"))? else {
+    let Some(command) = Command::read(alloc, object.get("command"))? else {
         return Err(TriggerFault::BadShape);
     };
     let Some(input) = input(alloc, object.get("stdin"))? else {
@@ -140,21 +141,21 @@ fn count(value: &Value) -> Option<u64>
     }
 }
 
-/// The command: a list of texts, of which the first names the program.
-fn command(alloc: Global, value: Option<&Value>) -> Result<Option<Table<Text>>, AllocError>
-    ensures { IfOk result (λ command. command
+/// The words of a command: a list of texts, of which the first names the program.
+pub(crate) fn words(alloc: Global, value: Option<&Value>) -> Result<Option<Table<Text>>, AllocError>
+    ensures { IfOk result (λ words. words
         ≡ command_of (option_map (λ v. data_of v.now) value.entry)) }
 {
-    let Some(Value::Array(words)) = value else {
+    let Some(Value::Array(list)) = value else {
         return Ok(None);
     };
-    let Some(command) = arguments(alloc, words)? else {
+    let Some(words) = arguments(alloc, list)? else {
         return Ok(None);
     };
-    if !names_program(command.as_slice()) {
+    if !names_program(words.as_slice()) {
         return Ok(None);
     }
-    Ok(Some(command))
+    Ok(Some(words))
 }
 
 /// The texts of a list.

@@ -75,16 +75,6 @@ fn since(instance: &Instance, from: Bound) -> Option<ClockText>
     }
 }
 
-/// Puts copies of texts after the arguments.
-fn put_texts(alloc: Global, args: &mut Table<Text>, texts: &[Text]) -> Result<(), AllocError>
-    ensures { OnOk result (args.new ≡ args.old ++ texts.now) }
-{
-    for text in texts {
-        args.push(Text::copied(alloc, text.as_str())?)?;
-    }
-    Ok(())
-}
-
 /// Puts the names of the files at these places after the arguments.
 fn put_names(
     alloc: Global,
@@ -119,8 +109,7 @@ fn args(
     ensures { IfOk result (λ args. args ≡ (order_data order.now).command
         ++ appended (order_data order.now).appends (records_at view.now.records places.now)) }
 {
-    let mut args = Table::new(alloc);
-    put_texts(alloc, &mut args, order.command.as_slice())?;
+    let mut args = order.command.words(alloc)?;
     put_names(alloc, &mut args, view, &places[..count])?;
     Ok(args)
 }

@@ -1,5 +1,6 @@
 //! A command that is started when files changed: its making, and its turn in a round.
-ghost use Rattle.std.specs.Prelude.{◌≡◌, IfSome, false};
+ghost use Rattle.std.specs.Prelude.{◌≡◌, IfOk, IfSome, Some, false};
+ghost use Rattle.serde_json.specs.Read.{read};
 ghost use Rattle.serde_json.specs.View.{view as data_of};
 ghost use Rattle.serde_json.specs.Written.{has_float};
 ghost use Rattle.wq_query.specs.Ahead.{IsAheadAt};
@@ -13,6 +14,7 @@ use crate::order::Order;
 use crate::starting::start_of;
 use serde_json::Value;
 use std::alloc::{AllocError, Global};
+use std::snapshot::Snapshot;
 use std::sync::Arc;
 use wq_base::Text;
 use wq_clock::{Bound, Instance};
@@ -25,10 +27,13 @@ use wq_view::View;
 pub struct Trigger {
     pub(crate) order: Order,
     pub(crate) follower: Follower,
-    /// The object of its definition, with the known keys.
-    pub(crate) object: Value,
+    /// The text of the object of its definition, with the known keys.
+    pub(crate) text: Text,
+    /// That object, as contracts see it. A snapshot takes no memory.
+    pub(crate) object: Snapshot<Value>,
     pub(crate) running: Option<u32>,
-    ghost plain: { has_float (data_of object) ≡ false },
+    ghost plain: { has_float (data_of object.value) ≡ false },
+    ghost written: { read text ≡ Some (data_of object.value) },
     ghost clocked: { IsClocked (planned follower.plan).bound },
 }
 
@@ -65,7 +70,8 @@ impl Trigger {
         Trigger {
             order: Order::of(definition.shape, root),
             follower: Follower::new(plan),
-            object: definition.object,
+            text: definition.text,
+            object: Snapshot::of(&definition.object),
             running,
         }
     }
@@ -77,12 +83,15 @@ impl Trigger {
         self.order.name.as_str()
     }
 
-    /// The object of its definition, with the known keys. It has no float.
-    pub fn object(&self) -> &Value
-        ensures object { data_of result.now ≡ (trigger_data self.now).object }
-        ensures floats { has_float (data_of result.now) ≡ false }
+    /// The object of its definition, with the known keys. It is read of its text, and has no float.
+    pub fn object(&self, alloc: Global) -> Result<Value, AllocError>
+        ensures object { IfOk result (λ object. data_of object ≡ (trigger_data self.now).object) }
+        ensures floats { IfOk result (λ object. has_float (data_of object) ≡ false) }
     {
-        &self.object
+        match Value::from_str(alloc, self.text.as_str()) {
+            Ok(object) => Ok(object),
+            Err(_) => Err(AllocError),
+        }
     }
 
     /// The run of its command, if that was started and no round found that it ended.

@@ -171,7 +171,7 @@ fn objects_of(alloc: Global, root: &Root<Trigger>) -> Result<Vec<Value>, AllocEr
     let mut objects = Vec::new(alloc);
     for k in 0..root.trigger_count() {
         if let Some((_, trigger)) = root.trigger_at(k) {
-            objects.push(trigger.object().clone()?)?;
+            objects.push(trigger.object(alloc)?)?;
         }
     }
     Ok(objects)
