@@ -2,6 +2,7 @@
 ghost use Rattle.std.specs.Prelude.{◌≡◌, Ok, Some, false, IfSome};
 ghost use Rattle.serde_json.specs.View.{view as data_of};
 ghost use Rattle.wq_clock.specs.Instance.{instance_data};
+ghost use Rattle.wq_query.specs.Meaning.{AnswersWithin};
 ghost use Rattle.wq_query.specs.Query.{asked_of};
 ghost use Rattle.wq_query.specs.Reading.{asks as queries};
 ghost use Rattle.wq_registry.specs.CacheKey.{Says};
@@ -55,8 +56,7 @@ impl Lookup {
     }
 
     /// The program of a query's expression: the one that was found, or one that is compiled now, and is then also given
-    /// for the cache. There is none if the query names a program, if it would be too large, or if memory ran out. One that
-    /// stays has the form in which it is kept.
+    /// for the cache. There is none if the query names a program, if it would be too large, or if memory ran out.
     pub(crate) fn compiled(
         self,
         alloc: Global,
@@ -70,35 +70,24 @@ impl Lookup {
         if query.program().is_some() || self.is_large {
             return (self, None);
         }
-        let (lookup, compiled) = match found {
+        match found {
             Some(program) => (self.with(program, query), None),
             None => self.compiled_now(alloc, query),
-        };
-        (lookup.kept(alloc), compiled)
+        }
     }
 
     /// The knowledge with the program in the form in which it is kept, if it stays. If memory runs out there is no program.
-    fn kept(self, alloc: Global) -> Lookup
+    pub(crate) fn kept(self, alloc: Global) -> Lookup
         ensures { (t : ExprData) → IsLookup t self → IsLookup t result }
     {
         if !self.stays {
             return self;
         }
-        let Lookup {
-            is_large,
-            stays,
-            key,
-            program,
-        } = self;
-        let program = match program {
-            Some(program) => kept_form(alloc, program).ok(),
-            None => None,
-        };
         Lookup {
-            is_large,
-            stays,
-            key,
-            program,
+            is_large: self.is_large,
+            stays: self.stays,
+            key: self.key,
+            program: kept_program(alloc, self.program),
         }
     }
 
@@ -145,6 +134,18 @@ impl Lookup {
             program: Some(program),
         }
     }
+}
+
+/// A program in the form in which it is kept. There is none if memory runs out.
+#[tactic(auto, using(crate::proofs::Programs::kept_answers))]
+fn kept_program(alloc: Global, program: Option<Arc<StoredProgram>>) -> Option<Arc<StoredProgram>>
+    ensures { (t : ExprData) → IfSome program (λ program. AnswersWithin program.value t)
+        → IfSome result (λ kept. AnswersWithin kept.value t) }
+{
+    let Ok(kept) = kept_form(alloc, program?) else {
+        return None;
+    };
+    Some(kept)
 }
 
 /// The key of the expression of a query that was read from this object, if it has one.

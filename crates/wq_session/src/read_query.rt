@@ -77,7 +77,7 @@ impl ReadQuery {
     }
 
     /// The query with the program of its expression, if there is one, and the program for the cache if it was compiled
-    /// now.
+    /// now. A program that stays has the form in which it is kept.
     pub(crate) fn compiled(
         self,
         alloc: Global,
@@ -90,6 +90,7 @@ impl ReadQuery {
     {
         let ReadQuery { query, lookup } = self;
         let (lookup, compiled) = lookup.compiled(alloc, &query, found);
+        let lookup = lookup.kept(alloc);
         (ReadQuery { query, lookup }, compiled)
     }
 }

@@ -35,7 +35,13 @@ impl ReadTrigger {
     {
         match Definition::read(alloc, object, instance) {
             Ok(definition) => Ok(ReadTrigger {
-                lookup: Lookup::of(alloc, definition.object(), instance, definition.query(), true),
+                lookup: Lookup::of(
+                    alloc,
+                    definition.object(),
+                    instance,
+                    definition.query(),
+                    true,
+                ),
                 definition,
             }),
             Err(TriggerFault::BadName) => Err(Refusal::BadName),
@@ -46,7 +52,7 @@ impl ReadTrigger {
     }
 
     /// The trigger with the program of its expression, if there is one, and the program for the cache if it was
-    /// compiled now.
+    /// compiled now. It has the form in which it is kept.
     pub(crate) fn compiled(
         self,
         alloc: Global,
@@ -60,6 +66,7 @@ impl ReadTrigger {
     {
         let ReadTrigger { definition, lookup } = self;
         let (lookup, compiled) = lookup.compiled(alloc, definition.query(), found);
+        let lookup = lookup.kept(alloc);
         (ReadTrigger { definition, lookup }, compiled)
     }
 }

@@ -125,7 +125,7 @@ impl StoredProgram {
 }
 
 /// The bytes of a program's file, with no room after them.
-#[tactic(auto, using(crate::proofs::KeptFiles::spelled_file, crate::proofs::KeptFiles::spelled_program))]
+#[tactic(auto, using(crate::proofs::KeptFiles::spelled_file))]
 fn program_file(alloc: Global, program: &Program) -> Result<Vec<u8>, AllocError>
     ensures file { IfOk result (λ bytes. IsProgramFile bytes.items) }
     ensures program { IfOk result (λ bytes. program_in bytes.items ≡ program.now) }
