@@ -13,8 +13,8 @@ OF_DIRECTORIES = ("dirname", "idirname")
 GROUPS = ("not", "allof", "anyof")
 # A shell would make several words of these.
 BRACES = re.compile(r"\{[^{}]*,[^{}]*\}")
-OF_QUERIES = QUERY_KEYS + LEFT_OUT_KEYS + IGNORED_KEYS
-KNOWN_KEYS = {"query": OF_QUERIES, "subscribe": OF_QUERIES, "trigger": TRIGGER_KEYS + LEFT_OUT_OF_TRIGGERS}
+OF_QUERIES = [*QUERY_KEYS, *LEFT_OUT_KEYS, *IGNORED_KEYS]
+KNOWN_KEYS = {"query": OF_QUERIES, "subscribe": OF_QUERIES, "trigger": [*TRIGGER_KEYS, *LEFT_OUT_OF_TRIGGERS]}
 
 
 def warnings_of(command: Any) -> List[str]:
