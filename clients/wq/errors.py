@@ -4,16 +4,15 @@ import os
 import re
 from typing import Any, Callable, Dict, Iterator, List
 
-from wqprogram.limits import MAX_JSON_DEPTH, MAX_LINE, MAX_ROOT
+from wqprogram.compiler import LONGEST_CODE
+from wqprogram.limits import (MAX_CURSORS, MAX_JSON_DEPTH, MAX_LINE, MAX_PROGRAM_NAME, MAX_PROGRAMS, MAX_ROOT, MAX_ROWS,
+                              MAX_SUBSCRIPTIONS, MAX_TRIGGERS)
 
 from .faults import sentences
 from .questions import Look
 from .vocabulary import COMMANDS, kind_of, meant, quoted
 
 NUMBER = re.compile(r"E([0-9]+):")
-LONGEST_NAME = 255
-# Instructions of an expression's program, with its end.
-MAX_CODE = 65_536
 
 
 def culprits(error: str, command: Any, look: Look) -> List[str]:
@@ -97,7 +96,7 @@ def unreadable(command: Any, look: Look) -> Iterator[str]:
 
 
 def many_files(command: Any, look: Look) -> Iterator[str]:
-    yield f"{command[1]} has over 1,000,000 files and directories; watch a directory below it"
+    yield f"{command[1]} has over {MAX_ROWS:,} files and directories; watch a directory below it"
 
 
 def many_roots(command: Any, look: Look) -> Iterator[str]:
@@ -119,7 +118,7 @@ def expression_and_program(command: Any, look: Look) -> Iterator[str]:
 
 
 def large_program(command: Any, look: Look) -> Iterator[str]:
-    most = f"the program of an expression has at most {MAX_CODE:,} instructions, and a list of it as many texts"
+    most = f"the program of an expression has at most {LONGEST_CODE:,} instructions, and a list of it as many texts"
     yield f"{most}; name many files by one list: [\"name\",[..]]"
 
 def no_program(command: Any, look: Look) -> Iterator[str]:
@@ -132,23 +131,23 @@ def no_program(command: Any, look: Look) -> Iterator[str]:
 def bad_name(command: Any, look: Look) -> Iterator[str]:
     name = object_of(command).get("name") if command[0] == "trigger" else command[1 if "program" in command[0] else 2]
     length = len(name.encode())
-    yield "the name is empty, and has 1 to 255 bytes" if not length else \
-        f"the name has {length:,} bytes, and at most {LONGEST_NAME} may be: {quoted(name)}"
+    yield f"the name is empty, and has 1 to {MAX_PROGRAM_NAME} bytes" if not length else \
+        f"the name has {length:,} bytes, and at most {MAX_PROGRAM_NAME} may be: {quoted(name)}"
 
 
 def full_shelf(command: Any, look: Look) -> Iterator[str]:
     if command[0] == "program-add":
-        yield "256 programs are stored; [\"program-del\",NAME] takes one out"
+        yield f"{MAX_PROGRAMS} programs are stored; [\"program-del\",NAME] takes one out"
     else:
-        yield "the root has 256 cursors; they go with its watch: `wq unwatch DIR`"
+        yield f"the root has {MAX_CURSORS} cursors; they go with its watch: `wq unwatch DIR`"
 
 
 def many_subscriptions(command: Any, look: Look) -> Iterator[str]:
-    yield "this connection has 64 subscriptions; [\"unsubscribe\",ROOT,NAME] ends one"
+    yield f"this connection has {MAX_SUBSCRIPTIONS} subscriptions; [\"unsubscribe\",ROOT,NAME] ends one"
 
 
 def many_triggers(command: Any, look: Look) -> Iterator[str]:
-    yield "the root has 64 triggers; `wq untrigger DIR NAME` takes one out"
+    yield f"the root has {MAX_TRIGGERS} triggers; `wq untrigger DIR NAME` takes one out"
 
 
 def many_sessions(command: Any, look: Look) -> Iterator[str]:

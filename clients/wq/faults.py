@@ -1,6 +1,7 @@
 """The line after an error of the object of a query, a subscription or a trigger: where the fault is, what that part
 takes, and what was perhaps meant. The server is asked where it is."""
 
+from itertools import islice
 from typing import Any, Callable, Dict, Iterator, List
 
 from wqprogram.limits import MAX_PATTERN, MAX_TERM_DEPTH
@@ -21,16 +22,13 @@ OBJECTS = {
 }
 # A trigger has to have these.
 NEEDED = ("name", "command")
-# A question with a wrong value of this key would scan the root. So it is at fault if no other key is.
-TIMEOUT = "sync_timeout"
-NOT_ASKED = (TIMEOUT, "expression")
 OF_VALUES = "E37"
 
 
 def sentences(error: str, command: List[Any], look: Look) -> List[str]:
     """One sentence; none if the server cannot say where the fault is."""
     try:
-        return list(faults_of(error, command[-1], Questions(command, look)))[:1]
+        return list(islice(faults_of(error, command[-1], Questions(command, look)), 1))
     except NoAnswer:
         return []
 
@@ -41,15 +39,22 @@ def faults_of(error: str, asked: Object, questions: Questions) -> Iterator[str]:
         yield of_expression(error, asked["expression"], questions.of_term)
     noun, keys, left_out = OBJECTS[questions.command[0]]
     for key, value in asked.items():
-        if key in NOT_ASKED or key not in keys and key not in left_out:
-            continue
         error_of = questions.of_key(key, error[:3] == OF_VALUES)
-        if error_of(value) == error:
-            refused = f"a {noun} takes no \"{key}\"; {left_out[key]}" if key in left_out else ""
-            yield refused or of_key(error, key, value, keys[key], error_of)
-    if error[:3] == OF_VALUES and TIMEOUT in asked:
-        yield told(TIMEOUT, f"\"{TIMEOUT}\" takes {keys[TIMEOUT]}", asked[TIMEOUT])
+        if key in left_out and error_of(value) == error:
+            yield f"a {noun} takes no \"{key}\"; {left_out[key]}"
+        elif key in keys and key != "expression" and error_of(value) == error:
+            yield of_key(error, key, value, keys[key], error_of)
+    if error[:3] == OF_VALUES:
+        yield from (told(key, f"\"{key}\" takes {keys[key]}", asked[key]) for key in left_over(asked))
     yield from (f"there is no \"{key}\", which is {keys[key]}" for key in NEEDED if key in keys and key not in asked)
+
+
+def left_over(asked: Object) -> Iterator[str]:
+    """The keys of values about which no question is: each has these itself. So one is at fault if no other key is."""
+    if not isinstance(asked.get("program", ""), str):
+        yield "program"
+    if "sync_timeout" in asked:
+        yield "sync_timeout"
 
 
 # Keys.

@@ -114,10 +114,9 @@ class Places:
         text = getattr(self.options, "expression", None)
         if text is not None:
             from .questions import WRONG_FLAG  # few write one
-            keys, right = WRONG_FLAG
-            command = ["query", self.places[0].root, {**keys, "expression": user_expression(text)}]
+            command = ["query", self.places[0].root, {"expression": user_expression(text), **WRONG_FLAG.refused}]
             found = self.server.reply(command)
-            if not found["error"].startswith(right):
+            if not found["error"].startswith(WRONG_FLAG.error):
                 self.server.checked(command, found)
 
     def require_known(self) -> None:

@@ -5,7 +5,7 @@ Each question is refused, if not for its part, then for a value that the server 
 nothing, lists nothing and leaves nothing behind."""
 
 import re
-from typing import Any, Callable, Dict, List
+from typing import Any, Callable, Dict, List, NamedTuple
 
 from wqclient.client import json_of
 from wqprogram.limits import MAX_LINE
@@ -21,10 +21,18 @@ MOST = 64
 # The errors of the object of a request. Any other says that the server cannot be asked about it.
 OF_OBJECTS = re.compile("E(2[0-9]|3[0-9]|4[0-9]):")
 
-# Keys of an object that is right but for the last of them, and the error for that.
-WRONG_FLAG = {"sync_timeout": 0, "empty_on_fresh_instance": 0}, "E37:"
-NO_PROGRAM = {"sync_timeout": 0, "program": ""}, "E34:"
-NO_TERM = {"name": "wq", "command": ["wq"], "expression": ""}, "E24:"
+
+class Asked(NamedTuple):
+    """The object of a question: keys that it needs, those for which it is refused at last, and the error for that."""
+
+    needed: Object
+    refused: Object
+    error: str
+
+
+WRONG_FLAG = Asked({}, {"sync_timeout": 0, "empty_on_fresh_instance": 0}, "E37:")
+NO_PROGRAM = Asked({}, {"sync_timeout": 0, "program": ""}, "E34:")
+NO_TERM = Asked({"name": "wq", "command": ["wq"]}, {"expression": ""}, "E24:")
 
 
 class NoAnswer(Exception):
@@ -41,23 +49,23 @@ class Questions:
 
     def of_term(self, term: Any) -> str:
         """The error of an expression alone."""
-        keys, right = WRONG_FLAG
-        return self.error(["query", self.command[1], {**keys, "expression": term}], right)
+        return self.error(["query", self.command[1]], WRONG_FLAG, "expression", term)
 
     def of_key(self, key: str, is_value: bool = False) -> ErrorOf:
         """Tells the error of a key alone; `is_value` says that it is one which the server looks at last."""
-        keys, right = NO_TERM if self.command[0] == "trigger" else NO_PROGRAM if is_value else WRONG_FLAG
-        return lambda value: self.error([*self.command[:-1], {**keys, key: value}], right)
+        asked = NO_TERM if self.command[0] == "trigger" else NO_PROGRAM if is_value else WRONG_FLAG
+        return lambda value: self.error(self.command[:-1], asked, key, value)
 
-    def error(self, command: List[Any], right: str) -> str:
-        """The error of a command, unless that says that its part is right."""
+    def error(self, front: List[Any], asked: Asked, key: str, value: Any) -> str:
+        """The error of a command for this key. Whatever its value is, the command is refused."""
         self.left -= 1
+        command = [*front, {**asked.needed, key: value, **asked.refused}]
         if self.left < 0 or len(json_of(command)) > MAX_LINE:
             raise NoAnswer
         found = self.look(*command).get("error", "")
         if not OF_OBJECTS.match(found):
             raise NoAnswer
-        return "" if found.startswith(right) else found
+        return "" if found.startswith(asked.error) else found
 
 
 def first_of(count: int, is_so: Callable[[int], bool]) -> int:

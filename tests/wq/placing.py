@@ -16,6 +16,8 @@ UNKNOWN = "E24: unknown term"
 SUFIX = '"sufix" is no term; did you mean "suffix"?'
 # A place inside some 60 terms, which is cut.
 DEEPEST = "at expression" + "[1]" * 6 + "[1.." + "[1]" * 10
+# A program that says yes of each file.
+YES = "V1FQRgEAAAAAAAAAAAACAQEAACMAAAA="
 Case = Tuple[str, str, str]
 
 
@@ -40,13 +42,57 @@ LONG_ONES: List[Case] = [
 ]
 
 
+class Relay:
+    """A server that hands on what one client asks of another one, keeps the replies, and ends if it does not go on."""
+
+    def __init__(self, scene: Scene, goes_on: Callable[[int], bool]) -> None:
+        self.scene = scene
+        self.goes_on = goes_on
+        self.replies: List[bytes] = []
+        self.sockname = str(scene.room / "relay")
+        self.listener = socket.socket(socket.AF_UNIX, socket.SOCK_STREAM)
+        self.listener.bind(self.sockname)
+        self.listener.listen(1)
+        self.thread = threading.Thread(target=self.serve)
+        self.thread.start()
+
+    def serve(self) -> None:
+        stream, _ = self.listener.accept()
+        with stream, stream.makefile("rb") as lines, self.scene.client() as client:
+            for line in lines:
+                client.send_bytes(line)
+                self.replies.append(client.line())
+                stream.sendall(self.replies[-1] + b"\n")
+                if not self.goes_on(len(self.replies)):
+                    return
+
+    def close(self) -> None:
+        self.thread.join()
+        self.listener.close()
+        Path(self.sockname).unlink()
+
+
+def always(count: int) -> bool:
+    return True
+
+
+def relayed(scene: Scene, text: str, goes_on: Callable[[int], bool] = always) -> Tuple[built.Ended, List[bytes]]:
+    """How `wq ask` of lines ends at a relay, and all replies that it got."""
+    relay = Relay(scene, goes_on)
+    try:
+        return scene.call(["ask", "-"], text.encode(), WQD_SOCK=relay.sockname), relay.replies
+    finally:
+        relay.close()
+
+
 def check_places(tally: built.Tally, room: Path) -> None:
-    """Each wrong line, one after the other, in one call. The questions about them leave nothing behind."""
+    """Each wrong line, in one call. The questions about them are refused too, so they change nothing."""
     with Scene(room) as scene, scene.client() as client:
         root = str(scene.tree)
         scene.wq("watch")
+        client.ask("program-add", "kept", YES)
         lines = cases()
-        ended = scene.call(["ask", "-"], "".join(line.replace("@", root) + "\n" for line, _, _ in lines).encode())
+        ended, answers = relayed(scene, "".join(line.replace("@", root) + "\n" for line, _, _ in lines))
         replies = [json.loads(line) for line in ended.output.splitlines()]
         sentences = [line[len("wq: "):] for line in ended.errors.decode().splitlines()]
         same(tally, "a reply and a sentence for each line", (len(replies), len(sentences)), (len(lines), len(lines)))
@@ -54,8 +100,9 @@ def check_places(tally: built.Tally, room: Path) -> None:
             short = line if len(line) < 80 else line[:80] + ".."
             same(tally, f"the error of {short}", reply, {"error": error, "version": "wq-1"})
             same(tally, f"the place in {short}", sentence, expected)
+        asked = [line for line in answers if not line.startswith((b'{"error":', b'{"programs":'))]
+        same(tally, "all questions are refused", asked, [])
         same(tally, "no trigger is left", client.ask("trigger-list", root)["triggers"], [])
-        same(tally, "no program is left", client.ask("program-list")["programs"], [])
 
 
 def check_places_of_commands(tally: built.Tally, room: Path) -> None:
@@ -73,46 +120,6 @@ def check_places_of_commands(tally: built.Tally, room: Path) -> None:
               "--expression, column 12: Expecting ',' delimiter", status=3)
 
 
-class Relay:
-    """A server that hands on what one client asks of another one, counts the lines, and ends if it does not go on."""
-
-    def __init__(self, scene: Scene, goes_on: Callable[[int], bool]) -> None:
-        self.scene = scene
-        self.goes_on = goes_on
-        self.count = 0
-        self.sockname = str(scene.room / "relay")
-        self.listener = socket.socket(socket.AF_UNIX, socket.SOCK_STREAM)
-        self.listener.bind(self.sockname)
-        self.listener.listen(1)
-        self.thread = threading.Thread(target=self.serve)
-        self.thread.start()
-
-    def serve(self) -> None:
-        stream, _ = self.listener.accept()
-        with stream, stream.makefile("rb") as lines, self.scene.client() as client:
-            for line in lines:
-                client.send_bytes(line)
-                reply = client.line()
-                self.count += 1
-                stream.sendall(reply + b"\n")
-                if not self.goes_on(self.count):
-                    return
-
-    def close(self) -> None:
-        self.thread.join()
-        self.listener.close()
-        Path(self.sockname).unlink()
-
-
-def relayed(scene: Scene, line: str, goes_on: Callable[[int], bool] = lambda count: True) -> Tuple[built.Ended, int]:
-    """How `wq ask` of a line ends at a relay, and how many lines it sent."""
-    relay = Relay(scene, goes_on)
-    try:
-        return scene.call(["ask", "-"], line.encode() + b"\n", WQD_SOCK=relay.sockname), relay.count
-    finally:
-        relay.close()
-
-
 def check_no_places(tally: built.Tally, room: Path) -> None:
     """A server that ends, or lets the root go, before it has said where the fault is: the error has no place."""
     with Scene(room) as scene, scene.client() as client:
@@ -120,7 +127,8 @@ def check_no_places(tally: built.Tally, room: Path) -> None:
         client.ask("watch", root)
         line = f'["query","{root}",{{"expression":["allof",["type","f"],["not",["type","dir"]]]}}]'
         reply = b'{"error":"E25: wrong term arguments","version":"wq-1"}\n'
-        whole, lines = relayed(scene, line)
+        whole, answers = relayed(scene, line)
+        lines = len(answers)
         sentence = 'at expression[2][1]: "type" takes one letter (f file, d directory, l link, b c p s D), such as ' \
                    '["type","f"], and this is ["type","dir"]; did you mean ["type","d"]?'
         same(tally, "a place through a relay", whole, built.Ended(reply, said(sentence), 3))
@@ -143,9 +151,9 @@ def check_few_questions(tally: built.Tally, room: Path) -> None:
             scene.write("new.c")
             terms = ',["type","f"]' * 9_000
             line = f'["query","{root}",{{"sync_timeout":0,"expression":["anyof"{terms},["sufix"]{terms}]}}]'
-            ended, lines = relayed(scene, line)
+            ended, answers = relayed(scene, line)
             sentence = said(f"at expression[9001]: {SUFIX}")
             same(tally, "one wrong term of 18,001", (ended.errors, ended.status), (sentence, 3))
-            tally.check("it takes few questions", lines <= 20, [str(lines)])
+            tally.check("it takes few questions", len(answers) <= 20, [str(len(answers))])
             files = client.ask("query", root, {"sync_timeout": 0, "fields": ["name"], "suffix": "c"})["files"]
             same(tally, "the root was not scanned", "new.c" in files, False)
