@@ -8,6 +8,7 @@ from typing import Any, Iterator, List
 
 from .braces import all_expanded
 from .moments import second_of
+from .names import KINDS
 from .roots import Place
 from .terminal import say
 from .trouble import WrongWords
@@ -19,7 +20,6 @@ from .warnings import of_glob, of_term
 LEFT_OUT = (".git", ".hg", "node_modules", "target")
 WITH_DOTS = {"includedotfiles": True}
 SPECIAL = "*?[\\"
-KINDS = "fdlbcpsD"
 NAMES_OF_KINDS = {
     "file": "f", "dir": "d", "directory": "d", "link": "l", "symlink": "l", "block-device": "b", "char-device": "c",
     "pipe": "p", "fifo": "p", "socket": "s",

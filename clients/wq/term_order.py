@@ -5,9 +5,8 @@ from itertools import islice
 from typing import Any, Iterator, List, NamedTuple, Tuple
 
 from .questions import ErrorOf, first_of
+from .vocabulary import GROUPS
 
-# What has terms in it.
-GROUPS = ("not", "allof", "anyof")
 # A group that may have no term.
 EMPTY = ["allof"]
 

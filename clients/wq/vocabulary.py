@@ -1,19 +1,18 @@
-"""The words of the protocol and what each takes: commands, keys of queries and triggers, fields, terms. They are for
-hints alone: the server decides what is right."""
+"""What the words of the protocol take: commands, keys of queries and triggers, terms. It is for hints alone: the server
+decides what is right."""
 
 import json
 from typing import Dict, Iterable, NamedTuple, Tuple
 
-FIELDS = ["name", "exists", "new", "size", "type", "cclock", "oclock", "mtime", "mtime_ms"]
+from .names import FIELDS, FIELDS_OF_SINCE, FLAGS_OF_MATCH, KINDS, RELATIONS, SCOPES
 
-KINDS = "f file, d directory, l link, b c p s D"
-RELATION = "a relation (eq ne gt ge lt le) and a whole number without quotes or unit"
+RELATION = f"a relation ({' '.join(RELATIONS)}) and a whole number without quotes or unit"
 MATCH = 'a pattern, "basename" or "wholename", and flags, such as ["match","*.c","basename",{"includedotfiles":true}]'
 DIRNAME = 'a directory, and a depth if you like, such as ["dirname","src",["depth","eq",0]]'
 NAME = 'a text or a list of texts, and "basename" or "wholename", such as ["name",["Makefile","a.c"]]'
 TERMS: Dict[str, str] = {
     **dict.fromkeys(("true", "false", "exists", "empty"), "nothing"),
-    "type": f"one letter ({KINDS}), such as [\"type\",\"f\"]",
+    "type": 'one letter (f file, d directory, l link, b c p s D), such as ["type","f"]',
     "size": f"{RELATION}, such as [\"size\",\"gt\",1048576]",
     "name": NAME, "iname": NAME, "match": MATCH, "imatch": MATCH, "dirname": DIRNAME, "idirname": DIRNAME,
     "suffix": 'a text or a list of texts, such as ["suffix",["c","h"]]',
@@ -22,6 +21,8 @@ TERMS: Dict[str, str] = {
     "not": 'one term, such as ["not","exists"]',
     "allof": "any number of terms", "anyof": "any number of terms",
 }
+# The terms that have terms in them.
+GROUPS = ("not", "allof", "anyof")
 # Terms of Watchman that the server does not have.
 TERMS_OF_WATCHMAN = {"pcre": "match", "ipcre": "imatch"}
 
@@ -61,8 +62,7 @@ LEFT_OUT_OF_SUBSCRIPTIONS = dict.fromkeys(("suffix", "path", "glob"), "put it in
 LEFT_OUT_OF_TRIGGERS: Dict[str, str] = dict.fromkeys(
     ("stdout", "stderr", "chdir", "relative_root"), 'the command can do that: ["sh","-c","cd src && make > log"]')
 # The words that are values of keys and terms.
-VALUES = [*FIELDS, "basename", "wholename", "includedotfiles", "noescape", "depth", "eq", "ne", "gt", "ge", "lt", "le",
-          *"fdlbcpsD", "/dev/null", "NAME_PER_LINE"]
+VALUES = [*FIELDS, *FIELDS_OF_SINCE, *SCOPES, *FLAGS_OF_MATCH, *RELATIONS, *KINDS, "depth", "/dev/null", "NAME_PER_LINE"]
 
 
 class Shape(NamedTuple):

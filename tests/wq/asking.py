@@ -9,6 +9,7 @@ from typing import List, Tuple
 import built
 from client import same
 from scene import Scene, said, wrong
+from wq import names, vocabulary
 
 
 def errors_of(root: str) -> List[Tuple[str, str, str]]:
@@ -153,7 +154,9 @@ def check_explain(tally: built.Tally, room: Path) -> None:
         ):
             same(tally, f"explain {words}", scene.names("explain", words)[1], f"  {sentence}")
         same(tally, "explain -", scene.call(["explain", "-"], b'["type","f"]').output.splitlines()[1], b"  it is a regular file")
-        same(tally, "explain --terms", len(scene.names("explain", "--terms")), 17)
+        terms = [line.split()[0] for line in scene.names("explain", "--terms")]
+        same(tally, "explain --terms", sorted(terms), sorted(names.TERMS))
+        same(tally, "each command has a shape", sorted(vocabulary.COMMANDS), sorted(names.COMMANDS))
         same(tally, "no server was started", Path(scene.sockname).exists(), False)
         wrong(tally, scene, ["explain", '["sufix"]'], "E24: unknown term",
               'at expression: "sufix" is no term; did you mean "suffix"?', status=3)
