@@ -13,8 +13,8 @@ from .vocabulary import (LEFT_OUT_KEYS, LEFT_OUT_OF_SUBSCRIPTIONS, LEFT_OUT_OF_T
                          TERMS_OF_WATCHMAN, TRIGGER_KEYS, meant, quoted)
 
 LONGEST_PLACE = 60
-# By the command: the word for its object, the keys of that, and those that are refused.
 SUBSCRIPTION_KEYS = {**QUERY_KEYS, "since": 'a clock id that a reply gave ("c:.."), or a second, and no cursor'}
+# By the command: the word for its object, the keys of that, and those that are refused.
 OBJECTS = {
     "query": ("query", QUERY_KEYS, LEFT_OUT_KEYS),
     "subscribe": ("subscription", SUBSCRIPTION_KEYS, {**LEFT_OUT_KEYS, **LEFT_OUT_OF_SUBSCRIPTIONS}),
@@ -22,6 +22,7 @@ OBJECTS = {
 }
 # A trigger has to have these.
 NEEDED = ("name", "command")
+# The error of a key that the server looks at last.
 OF_VALUES = "E37"
 
 
@@ -43,9 +44,9 @@ def faults_of(error: str, asked: Object, questions: Questions) -> Iterator[str]:
         if key in left_out and error_of(value) == error:
             yield f"a {noun} takes no \"{key}\"; {left_out[key]}"
         elif key in keys and key != "expression" and error_of(value) == error:
-            yield of_key(error, key, value, keys[key], error_of)
+            yield of_key(error, key, value, taken(key, keys[key]), error_of)
     if error[:3] == OF_VALUES:
-        yield from (told(key, f"\"{key}\" takes {keys[key]}", asked[key]) for key in left_over(asked))
+        yield from (told(key, taken(key, keys[key]), asked[key]) for key in left_over(asked))
     yield from (f"there is no \"{key}\", which is {keys[key]}" for key in NEEDED if key in keys and key not in asked)
 
 
@@ -60,15 +61,22 @@ def left_over(asked: Object) -> Iterator[str]:
 # Keys.
 
 def of_key(error: str, key: str, value: Any, takes: str, error_of: ErrorOf) -> str:
-    """The fault of a key alone. In a list it is the first entry up to which the list is wrong."""
-    place, part, whole = key, value, error_of
-    if isinstance(value, list) and value:
-        number = first_of(len(value), lambda count: bool(error_of(value[:count])))
-        place, part = f"{key}[{number - 1}]", value[number - 1]
-        whole = lambda entry: error_of([*value[:number - 1], entry])
+    """The fault of a key alone. In a list it is the entry from which on the list is wrong."""
+    if not isinstance(value, list) or not value:
+        return of_part(error, key, takes, value, error_of)
+    number = first_of(len(value), lambda count: bool(error_of(value[:count])))
+    before, part = value[:number - 1], value[number - 1]
+    return of_part(error, f"{key}[{number - 1}]", takes, part, lambda entry: error_of([*before, entry]))
+
+
+def of_part(error: str, place: str, takes: str, part: Any, error_of: ErrorOf) -> str:
     if error.startswith("E28"):
         return f"at {place}: {too_long(part)}"
-    return told(place, f"\"{key}\" takes {takes}", part) + mended_value(part, whole)
+    return told(place, takes, part) + mended_value(part, error_of)
+
+
+def taken(key: str, takes: str) -> str:
+    return f"\"{key}\" takes {takes}"
 
 
 def told(place: str, takes: str, part: Any) -> str:
@@ -102,7 +110,7 @@ def wrong_arguments(term: Any, error_of: ErrorOf) -> str:
     head = head_of(term)
     if head not in TERMS:
         return f"a term is a list that begins with its name, such as [\"suffix\",\"c\"], and this is {quoted(term)}"
-    return f"\"{head}\" takes {TERMS[head]}, and this is {quoted(term)}{mended_term(term, error_of)}"
+    return f"{taken(head, TERMS[head])}, and this is {quoted(term)}{mended_term(term, error_of)}"
 
 
 def too_deep(term: Any, error_of: ErrorOf) -> str:

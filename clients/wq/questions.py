@@ -52,7 +52,7 @@ class Questions:
         return self.error(["query", self.command[1]], WRONG_FLAG, "expression", term)
 
     def of_key(self, key: str, is_value: bool = False) -> ErrorOf:
-        """Tells the error of a key alone; `is_value` says that it is one which the server looks at last."""
+        """Gives the error of a key alone; `is_value` says that it is one which the server looks at last."""
         asked = NO_TERM if self.command[0] == "trigger" else NO_PROGRAM if is_value else WRONG_FLAG
         return lambda value: self.error(self.command[:-1], asked, key, value)
 

@@ -62,7 +62,8 @@ LEFT_OUT_OF_SUBSCRIPTIONS = dict.fromkeys(("suffix", "path", "glob"), "put it in
 LEFT_OUT_OF_TRIGGERS: Dict[str, str] = dict.fromkeys(
     ("stdout", "stderr", "chdir", "relative_root"), 'the command can do that: ["sh","-c","cd src && make > log"]')
 # The words that are values of keys and terms.
-VALUES = [*FIELDS, *FIELDS_OF_SINCE, *SCOPES, *FLAGS_OF_MATCH, *RELATIONS, *KINDS, "depth", "/dev/null", "NAME_PER_LINE"]
+VALUES = sorted({*FIELDS, *FIELDS_OF_SINCE, *SCOPES, *FLAGS_OF_MATCH, *RELATIONS, *KINDS, "depth", "/dev/null",
+                 "NAME_PER_LINE"})
 
 
 class Shape(NamedTuple):
