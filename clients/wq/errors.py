@@ -4,24 +4,26 @@ import os
 import re
 from typing import Any, Callable, Dict, Iterator, List
 
-from wqprogram.limits import MAX_LINE, MAX_ROOT
+from wqprogram.compiler import LONGEST_CODE
+from wqprogram.limits import (MAX_CURSORS, MAX_JSON_DEPTH, MAX_LINE, MAX_PROGRAM_NAME, MAX_PROGRAMS, MAX_ROOT, MAX_ROWS,
+                              MAX_SUBSCRIPTIONS, MAX_TRIGGERS)
 
-from . import query_faults
+from .faults import sentences
+from .questions import Look
 from .vocabulary import COMMANDS, kind_of, meant, quoted
 
 NUMBER = re.compile(r"E([0-9]+):")
-LONGEST_NAME = 255
-# Asks the server once more, for what it has: the reply, in which an error counts as nothing.
-Look = Callable[..., Dict[str, Any]]
 
 
 def culprits(error: str, command: Any, look: Look) -> List[str]:
     """Sentences on what is wrong with a command, one or more if there is something to be said."""
     found = NUMBER.match(error)
-    sentences = OF_ERRORS.get(int(found[1])) if found else None
+    number = int(found[1]) if found else 0
     # A value of a kind that nobody foresaw makes no second error of the first.
     try:
-        return [] if sentences is None else list(sentences(command, look))
+        if number in OF_OBJECTS:
+            return sentences(error, command, look)
+        return list(OF_ERRORS[number](command, look)) if number in OF_ERRORS else []
     except (KeyError, IndexError, TypeError, AttributeError):
         return []
 
@@ -30,23 +32,15 @@ def object_of(command: List[Any]) -> Dict[str, Any]:
     return command[-1] if isinstance(command[-1], dict) else {}
 
 
-def of_query(sentences: Callable[..., Iterator[str]]) -> Callable[[Any, Look], Iterator[str]]:
-    """The first fault of the command's object."""
-    def found(command: Any, look: Look) -> Iterator[str]:
-        yield from list(sentences(object_of(command)))[:1]
-    return found
-
-
-def of_subscription(sentences: Callable[..., Iterator[str]]) -> Callable[[Any, Look], Iterator[str]]:
-    def found(command: Any, look: Look) -> Iterator[str]:
-        yield from list(sentences(object_of(command), command[0] == "subscribe"))[:1]
-    return found
-
-
 # Lines and commands.
 
 def long_line(command: Any, look: Look) -> Iterator[str]:
     yield f"a line may have {MAX_LINE:,} bytes; ask in several"
+
+
+def no_json(command: Any, look: Look) -> Iterator[str]:
+    """What Python takes for JSON, and the server does not."""
+    yield f"values may be {MAX_JSON_DEPTH} deep inside one another, and a number has to fit a float of 64 bits"
 
 
 def no_command(command: Any, look: Look) -> Iterator[str]:
@@ -102,7 +96,7 @@ def unreadable(command: Any, look: Look) -> Iterator[str]:
 
 
 def many_files(command: Any, look: Look) -> Iterator[str]:
-    yield f"{command[1]} has over 1,000,000 files and directories; watch a directory below it"
+    yield f"{command[1]} has over {MAX_ROWS:,} files and directories; watch a directory below it"
 
 
 def many_roots(command: Any, look: Look) -> Iterator[str]:
@@ -117,7 +111,15 @@ def not_watched(command: Any, look: Look) -> Iterator[str]:
     yield f"{quoted(root)} is not watched{hint}. [\"watch\",{quoted(root)}] watches it"
 
 
-# Names and programs.
+# Expressions, names and programs.
+
+def expression_and_program(command: Any, look: Look) -> Iterator[str]:
+    yield "\"expression\" and \"program\" are both there, and a program takes the place of the expression: take one out"
+
+
+def large_program(command: Any, look: Look) -> Iterator[str]:
+    most = f"the program of an expression has at most {LONGEST_CODE:,} instructions, and a list of it as many texts"
+    yield f"{most}; name many files by one list: [\"name\",[..]]"
 
 def no_program(command: Any, look: Look) -> Iterator[str]:
     name, names = object_of(command).get("program"), look("program-list").get("programs", [])
@@ -129,23 +131,23 @@ def no_program(command: Any, look: Look) -> Iterator[str]:
 def bad_name(command: Any, look: Look) -> Iterator[str]:
     name = object_of(command).get("name") if command[0] == "trigger" else command[1 if "program" in command[0] else 2]
     length = len(name.encode())
-    yield "the name is empty, and has 1 to 255 bytes" if not length else \
-        f"the name has {length:,} bytes, and at most {LONGEST_NAME} may be: {quoted(name)}"
+    yield f"the name is empty, and has 1 to {MAX_PROGRAM_NAME} bytes" if not length else \
+        f"the name has {length:,} bytes, and at most {MAX_PROGRAM_NAME} may be: {quoted(name)}"
 
 
 def full_shelf(command: Any, look: Look) -> Iterator[str]:
     if command[0] == "program-add":
-        yield "256 programs are stored; [\"program-del\",NAME] takes one out"
+        yield f"{MAX_PROGRAMS} programs are stored; [\"program-del\",NAME] takes one out"
     else:
-        yield "the root has 256 cursors; they go with its watch: `wq unwatch DIR`"
+        yield f"the root has {MAX_CURSORS} cursors; they go with its watch: `wq unwatch DIR`"
 
 
 def many_subscriptions(command: Any, look: Look) -> Iterator[str]:
-    yield "this connection has 64 subscriptions; [\"unsubscribe\",ROOT,NAME] ends one"
+    yield f"this connection has {MAX_SUBSCRIPTIONS} subscriptions; [\"unsubscribe\",ROOT,NAME] ends one"
 
 
 def many_triggers(command: Any, look: Look) -> Iterator[str]:
-    yield "the root has 64 triggers; `wq untrigger DIR NAME` takes one out"
+    yield f"the root has {MAX_TRIGGERS} triggers; `wq untrigger DIR NAME` takes one out"
 
 
 def many_sessions(command: Any, look: Look) -> Iterator[str]:
@@ -160,15 +162,11 @@ def program_fault(command: Any, look: Look) -> Iterator[str]:
     yield "`wqasm explain FILE` says what is wrong with a program file, and where"
 
 
+# What the server is asked about.
+OF_OBJECTS = (20, 21, 22, 23, 24, 25, 26, 27, 28, 37, 43)
 OF_ERRORS: Dict[int, Callable[[Any, Look], Iterator[str]]] = {
-    1: long_line, 3: no_command, 4: unknown_command, 5: wrong_arguments,
+    1: long_line, 2: no_json, 3: no_command, 4: unknown_command, 5: wrong_arguments,
     10: not_absolute, 11: unreadable, 12: many_files, 13: many_roots, 14: not_watched, 17: many_sessions,
-    20: of_query(query_faults.left_out_key), 21: of_query(query_faults.unknown_field),
-    22: of_subscription(query_faults.bad_generator), 23: of_subscription(query_faults.bad_clock),
-    24: of_query(query_faults.expression_fault), 25: of_query(query_faults.expression_fault),
-    26: of_query(query_faults.expression_fault), 27: of_query(query_faults.expression_fault),
-    28: of_query(query_faults.pattern_too_long), 29: of_query(query_faults.expression_and_program),
-    30: of_query(query_faults.program_too_large), 31: base64_fault, 32: program_fault, 33: program_fault,
-    34: no_program, 35: full_shelf, 36: bad_name, 37: of_query(query_faults.wrong_value),
-    41: many_subscriptions, 42: many_triggers, 43: of_query(query_faults.bad_trigger),
+    29: expression_and_program, 30: large_program, 31: base64_fault, 32: program_fault, 33: program_fault,
+    34: no_program, 35: full_shelf, 36: bad_name, 41: many_subscriptions, 42: many_triggers,
 }

@@ -1,59 +1,67 @@
 """`wq explain`: what an expression means, and the program that the server makes of it."""
 
 import argparse
+import json
 import sys
 from typing import Any
 
 from wqclient.harmless import harmless
-from wqprogram.compiler import LONGEST_CODE, LONGEST_LIST, TooLarge, compiled
+from wqprogram.clocks import FIRST
+from wqprogram.command import program_of
+from wqprogram.errors import Refused
 from wqprogram.explainer import explained
-from wqprogram.errors import PROGRAM_TOO_LARGE
+from wqprogram.terms import read_term
 
+from .errors import culprits
+from .faults import OF_TERMS, of_expression
 from .home import Home
 from .sentences import lines_of
-from .term_faults import TAKES, fault_in
 from .terminal import say, show, write
 from .trouble import FOUND, Trouble, WrongWords
 from .values import NotJson, read
+from .vocabulary import TERMS
 from .warnings import of_term
-
-GROUPS = {"not": "one term", "allof": "any number of terms", "anyof": "any number of terms"}
 
 
 def explain(options: argparse.Namespace, home: Home) -> int:
     if options.terms:
-        show(f"{name:<9} {takes}" for name, takes in {**TAKES, **GROUPS}.items())
+        show(f"{name:<9} {takes}" for name, takes in TERMS.items())
         return FOUND
     if options.expression is None:
         raise WrongWords("explain takes an expression, such as '[\"suffix\",\"c\"]', or - for that of standard input")
-    value = value_of(text_of(options.expression))
-    fault = fault_in(value)
-    if fault is not None:
-        raise Trouble(fault.error, fault.sentence)
+    text = quoted_name(text_of(options.expression))
+    value = read(text, "the expression")
+    try:
+        program = program_of(text.encode("utf-8"), FIRST, True)
+    except Refused as refused:
+        of_terms = [of_expression(refused.error, value, error_of)] if refused.error[:3] in OF_TERMS else []
+        raise Trouble(refused.error, *of_terms or culprits(refused.error, None, lambda *_: {})) from None
     for sentence in of_term(value, "expression"):
         say(sentence, "yellow")
-    try:
-        program = compiled(value)
-    except TooLarge as large:
-        reason = f"the program would have {large.length + 1:,} instructions of {LONGEST_CODE:,}, or a list over " \
-                 f"{LONGEST_LIST:,} texts"
-        raise Trouble(PROGRAM_TOO_LARGE, reason) from None
-    show(["A file matches if", *map(harmless, lines_of(value, "  ")), "", "Its program, whose cost is for a name of 4,096 bytes:"])
+    words = ["A file matches if", *map(harmless, lines_of(value, "  ")), ""]
+    show([*words, "Its program, whose cost is for a name of 4,096 bytes:"])
     write(explained(program).encode("utf-8"))
     return FOUND
+
+
+def error_of(term: Any) -> str:
+    """The error of an expression, by the reader that makes its program. No server is needed here."""
+    try:
+        read_term(term)
+    except Refused as refused:
+        return refused.error
+    return ""
 
 
 def text_of(word: str) -> str:
     return sys.stdin.buffer.read().decode("utf-8", "surrogateescape") if word == "-" else word
 
 
-def value_of(text: str) -> Any:
-    """The expression. A bare name of a term needs no quotes here."""
-    if text in TAKES:
-        return text
+def quoted_name(text: str) -> str:
+    """The text of an expression. A bare name of a term needs no quotes here."""
     try:
-        return read(text, "the expression")
+        read(text, "the expression")
+        is_name = text in TERMS
     except NotJson:
-        if text.isalpha():
-            return text
-        raise
+        is_name = text.isalpha()
+    return json.dumps(text) if is_name else text

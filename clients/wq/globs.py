@@ -8,9 +8,10 @@ from typing import Any, Iterator, List
 
 from .braces import all_expanded
 from .moments import second_of
+from .names import KINDS
 from .roots import Place
 from .terminal import say
-from .trouble import Trouble, WrongWords
+from .trouble import WrongWords
 from .values import read
 from .vocabulary import quoted
 from .warnings import of_glob, of_term
@@ -19,7 +20,6 @@ from .warnings import of_glob, of_term
 LEFT_OUT = (".git", ".hg", "node_modules", "target")
 WITH_DOTS = {"includedotfiles": True}
 SPECIAL = "*?[\\"
-KINDS = "fdlbcpsD"
 NAMES_OF_KINDS = {
     "file": "f", "dir": "d", "directory": "d", "link": "l", "symlink": "l", "block-device": "b", "char-device": "c",
     "pipe": "p", "fifo": "p", "socket": "s",
@@ -181,13 +181,8 @@ def is_left_out(name: str) -> bool:
 
 
 def user_expression(text: str) -> Any:
-    """The expression that the user wrote. Its first fault is an error as the server's, with the place in what was
-    written."""
-    from .term_faults import fault_in  # few write one
+    """The expression that the user wrote, which the server reads."""
     value = read(text, "--expression")
-    fault = fault_in(value)
-    if fault is not None:
-        raise Trouble(fault.error, fault.sentence)
     for sentence in of_term(value, "expression"):
         note(sentence)
     return value

@@ -8,7 +8,7 @@ from typing import Any, Callable, Dict, List, Optional, Set, Tuple
 from wqclient.root_notes import MOMENT, STAYS, WINDOW
 
 from .braces import all_expanded, has_braces
-from .globs import any_of, expression_of, glob_term, is_left_out
+from .globs import any_of, expression_of, glob_term, is_left_out, user_expression
 from .ignored import Ignored, name_of
 from .open_roots import OpenRoots
 from .roots import Place, front_of, is_directory, is_pattern, place_of, real_path, require_utf8
@@ -41,6 +41,7 @@ class Places:
         self.ignored: List[Ignored] = []
         try:
             self.watch(watched)
+            self.require_right()
             self.require_known()
             self.ignored = [Ignored(self.asks(place), place, options) for place in self.places]
         except BaseException:
@@ -107,6 +108,16 @@ class Places:
         found["files"] = [renamed(file, place.shown(name_of(file))) for file in files]
         found.update(root=place.root, below=place.below)
         return found
+
+    def require_right(self) -> None:
+        """Asks about the expression that a person wrote, alone: so its error has a place in what was written."""
+        text = getattr(self.options, "expression", None)
+        if text is not None:
+            from .questions import WRONG_FLAG  # few write one
+            command = ["query", self.places[0].root, {"expression": user_expression(text), **WRONG_FLAG.refused}]
+            found = self.server.reply(command)
+            if not found["error"].startswith(WRONG_FLAG.error):
+                self.server.checked(command, found)
 
     def require_known(self) -> None:
         """A word that is neither a directory nor a pattern names files: some that are there, or that the server knows

@@ -1,7 +1,7 @@
 """Values of JSON that a person wrote on a command line."""
 
 import json
-from typing import Any, NoReturn
+from typing import Any, NoReturn, Union
 
 from .trouble import Trouble
 
@@ -15,7 +15,7 @@ class NotJson(Trouble):
 def read(text: str, what: str) -> Any:
     """The value of a text, with what is wrong if it is none."""
     try:
-        value = json.loads(text, parse_constant=refused)
+        value = json.loads(text, parse_constant=refused, parse_int=integer)
         json.dumps(value, ensure_ascii=False).encode("utf-8")
         return value
     except json.JSONDecodeError as error:
@@ -29,6 +29,11 @@ def read(text: str, what: str) -> Any:
     except (RecursionError, ValueError) as error:
         reason = "it is nested too deep" if isinstance(error, RecursionError) else str(error)
         raise NotJson(NOT_JSON, f"{what}: {reason}") from None
+
+
+def integer(digits: str) -> Union[int, float]:
+    """The server takes -0 for no whole number."""
+    return -0.0 if digits == "-0" else int(digits)
 
 
 def refused(name: str) -> NoReturn:

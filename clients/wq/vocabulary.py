@@ -1,23 +1,69 @@
-"""The words of the protocol: commands with their arguments, keys of queries and triggers, fields; and what a wrong one
-meant."""
+"""What the words of the protocol take: commands, keys of queries and triggers, terms. It is for hints alone: the server
+decides what is right."""
 
 import json
 from typing import Dict, Iterable, NamedTuple, Tuple
 
-FIELDS = ["name", "exists", "new", "size", "type", "cclock", "oclock", "mtime", "mtime_ms"]
-# Watchman has these, and the server sees no such thing of a file.
-FIELDS_OF_WATCHMAN = [
-    "mode", "uid", "gid", "ino", "dev", "nlink", "ctime", "ctime_ms", "symlink_target", "content.sha1hex",
-]
-QUERY_KEYS = [
-    "expression", "program", "fields", "since", "suffix", "path", "glob", "glob_includedotfiles",
-    "empty_on_fresh_instance", "sync_timeout", "case_sensitive", "dedup_results", "defer", "drop",
-]
+from .names import FIELDS, FIELDS_OF_SINCE, FLAGS_OF_MATCH, KINDS, RELATIONS, SCOPES
+
+RELATION = f"a relation ({' '.join(RELATIONS)}) and a whole number without quotes or unit"
+MATCH = 'a pattern, "basename" or "wholename", and flags, such as ["match","*.c","basename",{"includedotfiles":true}]'
+DIRNAME = 'a directory, and a depth if you like, such as ["dirname","src",["depth","eq",0]]'
+NAME = 'a text or a list of texts, and "basename" or "wholename", such as ["name",["Makefile","a.c"]]'
+TERMS: Dict[str, str] = {
+    **dict.fromkeys(("true", "false", "exists", "empty"), "nothing"),
+    "type": 'one letter (f file, d directory, l link, b c p s D), such as ["type","f"]',
+    "size": f"{RELATION}, such as [\"size\",\"gt\",1048576]",
+    "name": NAME, "iname": NAME, "match": MATCH, "imatch": MATCH, "dirname": DIRNAME, "idirname": DIRNAME,
+    "suffix": 'a text or a list of texts, such as ["suffix",["c","h"]]',
+    "since": 'a clock id that a reply gave ("c:..") or a second, and "oclock", "cclock" or "mtime", which takes a '
+             'second alone, such as ["since",1700000000,"mtime"]',
+    "not": 'one term, such as ["not","exists"]',
+    "allof": "any number of terms", "anyof": "any number of terms",
+}
+# The terms that have terms in them.
+GROUPS = ("not", "allof", "anyof")
+# Terms of Watchman that the server does not have.
+TERMS_OF_WATCHMAN = {"pcre": "match", "ipcre": "imatch"}
+
+EXPRESSION = 'an expression, such as ["suffix","c"]'
+PROGRAM = "the name of a stored program"
+QUERY_KEYS: Dict[str, str] = {
+    "expression": EXPRESSION,
+    "program": PROGRAM,
+    "fields": f"a list of one or more of {', '.join(FIELDS)}",
+    "since": 'a clock id that a reply gave ("c:.."), a cursor ("n:NAME"), or a second as a whole number from 0 to 2^62',
+    "suffix": 'a text or a list of texts, such as ["c","h"]',
+    "path": 'a list of paths, each alone or with a depth from -1 (any) on, such as ["src",{"path":"lib","depth":0}]',
+    "glob": 'a list of patterns, such as ["**/*.c"]',
+    "glob_includedotfiles": "true or false",
+    "empty_on_fresh_instance": "true or false",
+    "sync_timeout": "a whole number of milliseconds without quotes, from -2^62 to 2^62",
+    "case_sensitive": "true alone; the terms iname, imatch and idirname leave out the case of A to Z",
+    **dict.fromkeys(("dedup_results", "defer", "drop"), "any value"),
+}
 # The server takes these keys of Watchman, and they change nothing.
 IGNORED_KEYS = ["omit_changed_files", "always_include_directories", "lock_timeout", "request_id"]
-LEFT_OUT_KEYS = ["relative_root", "settle_period", "settle_timeout"]
-TRIGGER_KEYS = ["name", "command", "expression", "program", "append_files", "stdin", "max_files_stdin"]
-LEFT_OUT_OF_TRIGGERS = ["stdout", "stderr", "chdir", "relative_root"]
+TRIGGER_KEYS: Dict[str, str] = {
+    "name": "a text",
+    "command": 'a list of texts without byte 0, the program first, such as ["make","-s"]',
+    "expression": EXPRESSION,
+    "program": PROGRAM,
+    "append_files": "true or false",
+    "stdin": f'"/dev/null", "NAME_PER_LINE" or a list of {", ".join(FIELDS)}',
+    "max_files_stdin": "a whole number from 0 to 2^62",
+}
+# Keys that are refused, and what can be done instead.
+LEFT_OUT_KEYS: Dict[str, str] = {
+    "relative_root": '["dirname",..] narrows a query to a directory, and names stay those below the root',
+    **dict.fromkeys(("settle_period", "settle_timeout"), "take it out"),
+}
+LEFT_OUT_OF_SUBSCRIPTIONS = dict.fromkeys(("suffix", "path", "glob"), "put it into the expression")
+LEFT_OUT_OF_TRIGGERS: Dict[str, str] = dict.fromkeys(
+    ("stdout", "stderr", "chdir", "relative_root"), 'the command can do that: ["sh","-c","cd src && make > log"]')
+# The words that are values of keys and terms.
+VALUES = sorted({*FIELDS, *FIELDS_OF_SINCE, *SCOPES, *FLAGS_OF_MATCH, *RELATIONS, *KINDS, "depth", "/dev/null",
+                 "NAME_PER_LINE"})
 
 
 class Shape(NamedTuple):
@@ -57,8 +103,8 @@ def meant(word: object, words: Iterable[str]) -> str:
 
 
 def quoted(value: object, longest: int = 60) -> str:
-    """A value in JSON, cut if it is long."""
-    text = json.dumps(value, ensure_ascii=False)
+    """A value in JSON as one types it, cut if it is long."""
+    text = json.dumps(value, ensure_ascii=False, separators=(",", ":"))
     return text if len(text) <= longest else text[:longest] + ".."
 
 

@@ -5,16 +5,16 @@ from typing import Any, Iterator, List
 
 from wqprogram.patterns import Flags, atoms_of
 
-from .vocabulary import IGNORED_KEYS, LEFT_OUT_KEYS, LEFT_OUT_OF_TRIGGERS, QUERY_KEYS, TRIGGER_KEYS, meant, quoted
+from .vocabulary import (GROUPS, IGNORED_KEYS, LEFT_OUT_KEYS, LEFT_OUT_OF_TRIGGERS, QUERY_KEYS, TRIGGER_KEYS, meant,
+                         quoted)
 
 OF_NAMES = ("name", "iname")
 OF_PATTERNS = ("match", "imatch")
 OF_DIRECTORIES = ("dirname", "idirname")
-GROUPS = ("not", "allof", "anyof")
 # A shell would make several words of these.
 BRACES = re.compile(r"\{[^{}]*,[^{}]*\}")
-OF_QUERIES = QUERY_KEYS + LEFT_OUT_KEYS + IGNORED_KEYS
-KNOWN_KEYS = {"query": OF_QUERIES, "subscribe": OF_QUERIES, "trigger": TRIGGER_KEYS + LEFT_OUT_OF_TRIGGERS}
+OF_QUERIES = [*QUERY_KEYS, *LEFT_OUT_KEYS, *IGNORED_KEYS]
+KNOWN_KEYS = {"query": OF_QUERIES, "subscribe": OF_QUERIES, "trigger": [*TRIGGER_KEYS, *LEFT_OUT_OF_TRIGGERS]}
 
 
 def warnings_of(command: Any) -> List[str]:

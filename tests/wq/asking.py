@@ -1,4 +1,4 @@
-"""`wq ask` and `wq explain`: lines as they are, and the second line of each error."""
+"""`wq ask` and `wq explain`: lines as they are, and the second line of errors. `placing` has those of objects."""
 
 import json
 import subprocess
@@ -9,15 +9,12 @@ from typing import List, Tuple
 import built
 from client import same
 from scene import Scene, said, wrong
-
-LONG = "a" * 256
-DEEP = '["not",' * 64 + '"exists"' + "]" * 64
+from wq import names, vocabulary
 
 
 def errors_of(root: str) -> List[Tuple[str, str, str]]:
     """Lines, the errors that they are answered, and the lines that name the culprit. `@` is the root."""
-    query = '["query","@",{}]'.replace("{}", "{%s}")
-    lines: List[Tuple[str, str, str]] = [
+    return [
         ("[", "E2: not JSON",
          "the line, column 2: Expecting value; a text has double quotes, and the shell takes them away: put "
                               "single quotes around the whole"),
@@ -25,6 +22,8 @@ def errors_of(root: str) -> List[Tuple[str, str, str]]:
         ('["watch","\\ud800"]', "E2: not JSON",
          "the line: half a surrogate pair is no letter, and bytes that are not UTF-8 are none "
                                                "either"),
+        ("[" * 128 + "]" * 128, "E2: not JSON",
+         "values may be 127 deep inside one another, and a number has to fit a float of 64 bits"),
         ("7", "E3: not a command array",
          'a line is a list that begins with the name of a command, such as ["watch-list"], and this '
                                          "is the number 7"),
@@ -49,121 +48,8 @@ def errors_of(root: str) -> List[Tuple[str, str, str]]:
          f'"{root}x" is not watched; did you mean "{root}"?. ["watch","{root}x"] '
                                                        "watches it"),
     ]
-    lines += [(query % keys, error, culprit) for keys, error, culprit in OF_QUERIES]
-    lines += [(f'["query","@",{{"expression":{term}}}]', error, culprit) for term, error, culprit in OF_TERMS]
-    lines += [(f'["subscribe","@",{rest}]', error, culprit) for rest, error, culprit in OF_SUBSCRIPTIONS]
-    lines += [(f'["trigger","@",{{{keys}}}]', error, culprit) for keys, error, culprit in OF_TRIGGERS]
-    return lines
 
 
-FIELDS = "name, exists, new, size, type, cclock, oclock, mtime, mtime_ms"
-CLOCK = 'a clock id that a reply gave ("c:.."), or a second as a whole number from 0 to 2^62'
-OF_QUERIES = [
-    ('"relative_root":"src"', "E20: query key is left out",
-     'the key "relative_root" is not built; ["dirname",..] narrows a query to a directory, and names stay those below the root'),
-    ('"settle_period":1', "E20: query key is left out", 'the key "settle_period" is not built; take it out'),
-    ('"case_sensitive":false', "E20: query key is left out",
-     'the key "case_sensitive" may only be true; the terms iname, imatch and idirname leave out the case of A to Z'),
-    ('"fields":"name"', "E21: unknown field",
-     '"fields" is a list of texts, such as ["name","size"], and not a text: "name"'),
-    ('"fields":[]', "E21: unknown field", '"fields" is empty, and needs one field or more, such as ["name"]'),
-    ('"fields":["name","sise"]', "E21: unknown field", 'at fields[1]: "sise" is no field; did you mean "size"?'),
-    ('"fields":["mode"]', "E21: unknown field", f'at fields[0]: the server sees no "mode" of a file; it has {FIELDS}'),
-    ('"fields":[7]', "E21: unknown field", "at fields[0]: a field is a text, and not the number 7"),
-    ('"suffix":7', "E22: bad generator", "at suffix: the number 7 is no text: 7"),
-    ('"suffix":["c",null]', "E22: bad generator", "at suffix[1]: null is no text: null"),
-    ('"path":"src"', "E22: bad generator", '"path" is a list of paths, such as ["src"], and not a text: "src"'),
-    ('"path":[{"path":"src"}]', "E22: bad generator",
-     'at path[0]: an object has both keys, as {"path":"src","depth":0}: {"path": "src"}'),
-    ('"path":[{"path":"src","depth":-2}]', "E22: bad generator",
-     "at path[0]: the depth is a whole number from -1 (any depth) on, and not -2"),
-    ('"glob":"*.c"', "E22: bad generator", '"glob" is a list of patterns, such as ["**/*.c"], and not a text: "*.c"'),
-    ('"since":"c:1"', "E23: bad clockspec", f'at since: "c:1" is no clock spec; that is {CLOCK}'),
-    ('"since":"1700000000"', "E23: bad clockspec",
-     'at since: "1700000000" is a text; a second is a number without quotes: 1700000000'),
-    ('"since":"n:"', "E23: bad clockspec", 'at since: "n:" names no cursor: a name of 1 to 255 bytes follows "n:"'),
-    (f'"glob":["*.c","{LONG}"]', "E28: pattern too long",
-     f'at glob[1]: the pattern has 256 bytes, and at most 255 may be: "{LONG[:59]}..'),
-    ('"expression":"true","program":"p"', "E29: expression and program",
-     '"expression" and "program" are both there, and a program takes the place of the expression: take one out'),
-    ('"program":"p"', "E34: no such program",
-     'no program is stored as "p"; none is stored, and `wqasm add NAME FILE` stores one'),
-    ('"sync_timeout":"0"', "E37: wrong query value",
-     '"sync_timeout" is a whole number of milliseconds without quotes, and not "0"'),
-    ('"empty_on_fresh_instance":1', "E37: wrong query value", '"empty_on_fresh_instance" is true or false, and not 1'),
-    ('"glob_includedotfiles":"yes"', "E37: wrong query value",
-     '"glob_includedotfiles" is true or false, and not "yes"'),
-    ('"program":7', "E37: wrong query value", '"program" is the name of a stored program, and not the number 7'),
-]
-RELATION = '"size" takes a relation (eq ne gt ge lt le) and a whole number, such as ["size","gt",1048576]'
-TYPE = '"type" takes one letter (f file, d directory, l link, b c p s D), such as ["type","f"]'
-MATCH = '"match" takes a pattern, "basename" or "wholename", and flags, such as ' \
-        '["match","*.c","basename",{"includedotfiles":true}]'
-OF_TERMS = [
-    ('["allof",["sufix","c"]]', "E24: unknown term", 'at expression[1]: "sufix" is no term; did you mean "suffix"?'),
-    ('["not",["anyof","true",["True"]]]', "E24: unknown term",
-     'at expression[1][2]: "True" is no term; did you mean "true"?'),
-    ('["pcre","x"]', "E24: unknown term",
-     'at expression: the term "pcre" of Watchman is not built; take "match" with a glob'),
-    ('"zzz"', "E24: unknown term", 'at expression: "zzz" is no term; wq explain --terms lists them'),
-    ("7", "E25: wrong term arguments",
-     'at expression: a term is a list that begins with its name, such as ["suffix","c"], and this is 7'),
-    ('["allof",["type"]]', "E25: wrong term arguments", f"at expression[1]: {TYPE}; there are none"),
-    ('["type","F"]', "E25: wrong term arguments",
-     f'at expression: {TYPE}; "F" is none of these letters; did you mean "f"?'),
-    ('["size","gt","1M"]', "E25: wrong term arguments",
-     f'at expression: {RELATION}; "1M" is a text, and a number has no quotes and no unit'),
-    ('["size","gte",1]', "E25: wrong term arguments",
-     f'at expression: {RELATION}; "gte" is no relation; did you mean "gt"?'),
-    ('["suffix","c","h"]', "E25: wrong term arguments",
-     'at expression: "suffix" takes a text or a list of texts, such as ["suffix",["c","h"]]; several suffixes are one list: '
-     '["c", "h"]'),
-    ('["name","a","wholname"]', "E25: wrong term arguments",
-     'at expression: "name" takes a text or a list of texts, and "basename" or "wholename", such as '
-     '["name",["Makefile","a.c"]]; "wholname" is no scope; did you mean "wholename"?'),
-    ('["match","*","basename",{"dotfiles":true}]', "E25: wrong term arguments",
-     f'at expression: {MATCH}; "dotfiles" is no flag; did you mean "includedotfiles"?'),
-    ('["dirname","src",1]', "E25: wrong term arguments",
-     'at expression: "dirname" takes a directory, and a depth if you like, such as ["dirname","src",["depth","eq",0]]; the depth '
-     'is ["depth",RELATION,N], and this is 1'),
-    ('["exists",1]', "E25: wrong term arguments", 'at expression: "exists" takes nothing; there is 1: [1]'),
-    ('"not"', "E25: wrong term arguments",
-     'at expression: "not" takes one term, such as ["not","exists"], and there are none'),
-    ('["since",1,"ctime"]', "E25: wrong term arguments",
-     'at expression: "since" takes a clock spec, and "oclock", "cclock" or "mtime", such as ["since",1700000000,"mtime"]; "ctime" '
-     'is no field of it; did you mean "mtime"?'),
-    (DEEP, "E26: expression too deep",
-     "at expression" + "[1]" * 6 + "[1.." + "[1]" * 10 + ": 64 terms may be inside one another, and this one is the 65th"),
-    ('["since","n:k"]', "E27: cursor in a term",
-     'at expression: "n:k" is a named cursor, which the key "since" of a query takes, and no term; take a clock id, or a second as a '
-     "whole number"),
-    (f'["anyof",["match","{LONG}"]]', "E28: pattern too long",
-     f'at expression[1]: the pattern has 256 bytes, and at most 255 may be: "{LONG[:59]}..'),
-    ('["since","c:1:1","mtime"]', "E23: bad clockspec",
-     'at expression: with "mtime" a second is taken, as a whole number from 0 to 2^62, and this is "c:1:1"'),
-    ('["allof"' + ',"true"' * 21_846 + "]", "E30: program too large",
-     'the expression has a program of 65,537 instructions, and at most 65,536 may be; name many files by one list: ["name",[..]]'),
-]
-OF_SUBSCRIPTIONS = [
-    ('"",{}', "E36: bad name", "the name is empty, and has 1 to 255 bytes"),
-    ('"s",{"suffix":"c"}', "E22: bad generator", 'a subscription takes no "suffix"; put it into the expression'),
-    ('"s",{"since":"n:k"}', "E23: bad clockspec",
-     'at since: "n:k" is a named cursor, which a subscription does not take; take a clock id'),
-]
-OF_TRIGGERS = [
-    ('"command":["cc"]', "E43: bad trigger", 'there is no "name"'),
-    ('"name":"t"', "E43: bad trigger", 'there is no "command", such as ["make","-s"]'),
-    ('"name":"t","command":"make"', "E43: bad trigger",
-     '"command" is a list of texts, such as ["make","-s"], and not a text: "make"'),
-    ('"name":"t","command":["cc"],"stdin":"lines"', "E43: bad trigger",
-     '"stdin" is "/dev/null", "NAME_PER_LINE" or a list of fields, and not "lines"'),
-    ('"name":"t","command":["cc"],"stdin":["nam"]', "E43: bad trigger",
-     'at stdin[0]: "nam" is no field; did you mean "name"?'),
-    ('"name":"t","command":["cc"],"chdir":"src"', "E43: bad trigger",
-     'the key "chdir" is not built; the command can do that: ["sh","-c","cd src && make > log"]'),
-    ('"name":"t","command":["cc"],"expression":["sufix"]', "E24: unknown term",
-     'at expression: "sufix" is no term; did you mean "suffix"?'),
-]
 NOTHING = "can match nothing:"
 SLASH = "it has a slash, and the last part of a name has none; add \"wholename\""
 BELOW = "names begin below the root, without a slash"
@@ -268,7 +154,9 @@ def check_explain(tally: built.Tally, room: Path) -> None:
         ):
             same(tally, f"explain {words}", scene.names("explain", words)[1], f"  {sentence}")
         same(tally, "explain -", scene.call(["explain", "-"], b'["type","f"]').output.splitlines()[1], b"  it is a regular file")
-        same(tally, "explain --terms", len(scene.names("explain", "--terms")), 17)
+        terms = [line.split()[0] for line in scene.names("explain", "--terms")]
+        same(tally, "explain --terms", sorted(terms), sorted(names.TERMS))
+        same(tally, "each command has a shape", sorted(vocabulary.COMMANDS), sorted(names.COMMANDS))
         same(tally, "no server was started", Path(scene.sockname).exists(), False)
         wrong(tally, scene, ["explain", '["sufix"]'], "E24: unknown term",
               'at expression: "sufix" is no term; did you mean "suffix"?', status=3)

@@ -18,6 +18,8 @@ from client import PATIENCE, Client, same
 COMMAND = str(built.TOP / "wq")
 # In milliseconds: how soon the server looks again, so that nothing waits for a second.
 INTERVAL = "40"
+# So long, in seconds, a scene waits for its server to be gone.
+MOST_AT_END = 5.0
 FILES = ["Makefile", "src/a.c", "src/b b.c", "src/deep/c.h", ".git/HEAD", "node_modules/x/y.c", "target/z.c"]
 
 
@@ -47,6 +49,13 @@ class Scene:
     def __exit__(self, *_: object) -> None:
         with contextlib.suppress(OSError), self.client() as client:
             client.ask("shutdown-server")
+            self.wait_for_end()
+
+    def wait_for_end(self) -> None:
+        """Waits until the server has taken its socket away, for which it makes a directory beside it."""
+        end = time.monotonic() + MOST_AT_END
+        while time.monotonic() < end and any(map(is_of_socket, os.listdir(self.runtime))):
+            time.sleep(0.01)
 
     def client(self) -> Client:
         return Client(self.sockname)
@@ -79,6 +88,10 @@ class Scene:
         """The tick of a root: how often its files changed."""
         with self.client() as client:
             return int(client.ask("clock", str(root or self.tree), {"sync_timeout": 1})["clock"].rsplit(":", 1)[1])
+
+
+def is_of_socket(name: str) -> bool:
+    return name == "wqd.sock" or name.startswith(".wqd")
 
 
 class Going:
