@@ -40,9 +40,9 @@ stored_program (Open raw) = raw
 stored_program (File bytes) = program_of_file bytes
 
 -- what is kept as a file is the file of a program that may run
-abbrev pub IsKept : Form → Type 0
-IsKept (Open raw) = Unit {0}
-IsKept (File bytes) = IsProgramFile bytes
+abbrev pub HoldsProgram : Form → Type 0
+HoldsProgram (Open raw) = Unit {0}
+HoldsProgram (File bytes) = IsProgramFile bytes
 
 -- the program that is open
 abbrev pub opened_program : OpenForm → Raw

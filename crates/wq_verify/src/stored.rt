@@ -31,13 +31,13 @@ pub(crate) enum Form {
 
 impl Model for StoredProgram {
     ghost use Rattle.wq_code.specs.declared.raw.Raw.{Raw};
-    ghost use Rattle.wq_verify.specs.Stored.{IsKept, stored_program};
+    ghost use Rattle.wq_verify.specs.Stored.{HoldsProgram, stored_program};
 
     ghost Value = { Raw };
 
     ghost view = { λ s. stored_program s.form };
 
-    ghost invariant = { λ s. IsKept s.form };
+    ghost invariant = { λ s. HoldsProgram s.form };
 }
 
 impl StoredProgram {
