@@ -14,7 +14,7 @@ MOST = {
     "docs/ARCHITECTURE.md": 2110,
     "docs/CLIENTS.md": 3465,
     "docs/DECISIONS.md": 920,
-    "crates/*/DECISIONS.md": 7000,
+    "crates/*/DECISIONS.md": 7500,
     "docs/PROGRAMS.md": 3250,
     "docs/PROOFS.md": 2200,
     "docs/PROTOCOL.md": 5000,
