@@ -19,6 +19,8 @@ MORE_MATCHES = 20_000
 MARKS = "*" + "?" * (ATOMS - 1)
 PROGRAMS = 256
 CURSORS = 256
+# A session may have so many subscriptions, and a root so many triggers.
+FOLLOWS = 64
 TEXTS = 256
 LINES = 100_000
 MOST_ENTRIES = 65_535
@@ -91,6 +93,13 @@ def large_program() -> str:
     return base64.b64encode(written(program)).decode()
 
 
+def sets_program() -> str:
+    """A program of as many patterns of a byte as a line holds, in sets: open it takes fifty times the bytes of its file."""
+    code = [Operation(BY_NAME["basename"], 0, 0), Operation(BY_NAME["anymatch"], 0, 0), Operation(BY_NAME["ret"], 0, 0)]
+    program = Program([], [], [], [], [[(0, b"a")] * (MOST_ENTRIES - 535)] * 4, code)
+    return base64.b64encode(written(program)).decode()
+
+
 def added(program: str) -> List[bytes]:
     """Lines that add this program under as many names as there may be."""
     return [line("program-add", str(number), program) for number in range(PROGRAMS)]
@@ -104,7 +113,31 @@ def long_queries(root: str) -> List[bytes]:
 
 def long_expressions(root: str) -> List[bytes]:
     """Queries without files, each of which has an expression of a mebibyte that no other has."""
-    return [query(root, path=["x"], expression=["name", [f"{number}", *texts(60_000, 13)]]) for number in range(TEXTS)]
+    return [query(root, path=["x"], expression=long_names(number)) for number in range(TEXTS)]
+
+
+def short_expressions(root: str, names: int) -> List[bytes]:
+    """Queries without files, each of which has a term for so many names, in an order that no other has."""
+    terms = [["name", f"{number:x}"] for number in range(names)]
+    return [query(root, path=["x"], expression=["anyof", ["name", str(number)], *terms]) for number in range(TEXTS)]
+
+
+def long_names(number: int) -> object:
+    """An expression of some 60,000 names that no other number has: nearly a mebibyte."""
+    return ["name", [f"{number}", *texts(60_000, 13)]]
+
+
+def subscriptions(root: str) -> List[bytes]:
+    """As many subscriptions as a session may have, each of a mebibyte."""
+    return [line("subscribe", root, f"s{number}", {**NAMES, "expression": long_names(number)}) for number in range(FOLLOWS)]
+
+
+def triggers(roots: List[str]) -> List[bytes]:
+    """As many triggers as these roots may have, each of a mebibyte."""
+    return [
+        line("trigger", root, {"name": f"t{number}", "command": ["true"], "expression": long_names(number)})
+        for root in roots for number in range(FOLLOWS)
+    ]
 
 
 def cursors(roots: List[str]) -> List[bytes]:
@@ -140,8 +173,14 @@ def cases(root: str, roots: List[str], paths: int) -> Dict[str, Callable[[], Cas
             [query(root, program="p")], before=[line("program-add", "p", matching("wholename", MARKS, MORE_MATCHES))]),
         "256 programs of 1,365 patterns": lambda: Case(added(dear_program())),
         "256 programs of a mebibyte": lambda: Case(added(large_program())),
+        "256 programs of a mebibyte of sets": lambda: Case(added(sets_program())),
         "256 queries of a mebibyte": lambda: Case(long_queries(root)),
         "256 expressions of a mebibyte": lambda: Case(long_expressions(root)),
+        "256 expressions of 300 names": lambda: Case(short_expressions(root, 300)),
+        "256 expressions of 1,000 names": lambda: Case(short_expressions(root, 1_000)),
+        "64 subscriptions of a mebibyte": lambda: Case(subscriptions(root)),
+        "64 triggers of a mebibyte": lambda: Case(triggers([root])),
+        "64 triggers of a mebibyte at 16 roots": lambda: Case(triggers(roots), before=[line("watch", other) for other in roots]),
         "16 expressions of 1,000 patterns": lambda: Case([patterns(root, PATTERNS, first, path=["x"]) for first in range(16)]),
         "256 cursors at 16 roots": lambda: Case(cursors(roots), before=[line("watch", other) for other in roots]),
         "all files with all fields": lambda: Case([line("query", root, {"sync_timeout": 0, "fields": [

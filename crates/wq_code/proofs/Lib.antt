@@ -10,3 +10,4 @@ pub mod OpEnds
 pub mod FileEnds
 pub mod Firsts
 pub mod FirstRuns
+pub mod Rooms

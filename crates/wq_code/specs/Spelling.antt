@@ -81,14 +81,26 @@ spelling raw = spelling_in Second raw
 abbrev pub AreBytes : List ℕ → Type 0
 AreBytes bytes = All (λ b. b < 256) bytes
 
+-- a number has room in its field
+abbrev pub HasRoomNumber : ℤ → Type 0
+HasRoomNumber n = FitsSigned w64 n
+
+-- the bytes of a pattern's text have room in their fields
+abbrev pub HasRoomPattern : PatternData → Type 0
+HasRoomPattern p = AreBytes p.text
+
+-- the number of an instruction has room in its field
+abbrev pub HasRoomOp : Op → Type 0
+HasRoomOp op = b_of op < room_in Second
+
 -- each number, byte and operand has room in its field, as in every `Raw` in memory
 pub record FitsFields (raw : Raw) : Type 0 where
-  pub nums : All (λ n. FitsSigned w64 n) raw.nums
+  pub nums : All HasRoomNumber raw.nums
   pub texts : All AreBytes raw.texts
   pub lists : All (All AreBytes) raw.lists
-  pub patterns : All (λ p. AreBytes p.text) raw.patterns
-  pub sets : All (All (λ p. AreBytes p.text)) raw.sets
-  pub code : All (λ op. b_of op < room_in Second) raw.code
+  pub patterns : All HasRoomPattern raw.patterns
+  pub sets : All (All HasRoomPattern) raw.sets
+  pub code : All HasRoomOp raw.code
 
 -- the bytes are the file of this program in a version that can hold it
 pub record IsSpellingIn (version : Version) (raw : Raw) (bytes : List ℕ) : Type 0 where

@@ -1,9 +1,9 @@
 //! The fields of a program file, each read from the front of the bytes that are left and written at
 //! their end. Nothing here knows their order.
-ghost use Rattle.std.specs.Prelude.{◌≡◌, ◌≤◌, ◌++◌, length, IfOk, OnOk, IsTrue};
+ghost use Rattle.std.specs.Prelude.{◌≡◌, ◌≤◌, ◌++◌, All, length, IfOk, OnOk, IsTrue};
 ghost use Rattle.std.specs.List.{flat_map, list_all};
 ghost use Rattle.wq_code.specs.declared.version.Version.TheVariants.{Second};
-ghost use Rattle.wq_code.specs.Spelling.{short, long};
+ghost use Rattle.wq_code.specs.Spelling.{AreBytes, long, short};
 ghost use Rattle.wq_code.specs.Reading.{Gives, bytes_at, byte_at, exact_at, end_at, short_at, long_at, wide_at, count_at, many_at};
 
 use crate::fault::FileFault;
@@ -27,6 +27,9 @@ pub(crate) trait Field: Drop + Sized {
     /// It keeps to the limits of each version.
     ghost within: { Version → Self → Bool };
 
+    /// The numbers and bytes of it have room in their fields.
+    ghost has_room: { Self → Type 0 };
+
     /// Reads a value at the front of `bytes`, and gives the rest.
     fn read(alloc: Global, version: Version, bytes: &[u8]) -> Result<(Self, &[u8]), FileFault>
         ensures { Gives (λ x. (x.0, x.1.now)) result (reading version bytes.now) };
@@ -34,7 +37,8 @@ pub(crate) trait Field: Drop + Sized {
     /// Writes the value at the end of `out`, in the second version.
     fn write(&self, out: &mut Vec<u8>) -> Result<(), AllocError>
         requires { IsTrue (within Second self.now) }
-        ensures { OnOk result (out.new.items ≡ out.old.items ++ spelling Second self.now) };
+        ensures written { OnOk result (out.new.items ≡ out.old.items ++ spelling Second self.now) }
+        ensures room { OnOk result (has_room self.now) };
 
     /// Whether the value keeps to the limits of the second version.
     fn fits(&self) -> bool
@@ -187,10 +191,20 @@ pub(crate) fn put_long(out: &mut Vec<u8>, n: usize) -> Result<(), AllocError>
     out.extend_from_slice(&(n as u32).to_be_bytes())
 }
 
+/// Writes bytes at the end of `out`.
+pub(crate) fn put_bytes(out: &mut Vec<u8>, bytes: &[u8]) -> Result<(), AllocError>
+    ensures written { OnOk result (out.new.items ≡ out.old.items ++ bytes.now) }
+    ensures room { AreBytes bytes.now }
+{
+    out.extend_from_slice(bytes)
+}
+
 /// Writes fields of one form one after the other.
 pub(crate) fn put_many<F: Field>(out: &mut Vec<u8>, rows: &[F]) -> Result<(), AllocError>
     requires { IsTrue (list_all (F.within Second) rows.now) }
-    ensures { OnOk result (out.new.items ≡ out.old.items ++ flat_map (F.spelling Second) rows.now) }
+    ensures written { OnOk result (out.new.items
+        ≡ out.old.items ++ flat_map (F.spelling Second) rows.now) }
+    ensures room { OnOk result (All F.has_room rows.now) }
 {
     for row in rows {
         row.write(out)?;

@@ -4,7 +4,7 @@ ghost use Rattle.wq_code.specs.Fits.{raw_fits};
 ghost use Rattle.wq_code.specs.Reading.{Gives};
 ghost use Rattle.wq_code.specs.File.{head_at, rows_at, counts_at, tables_at, raw_at, file_at};
 ghost use Rattle.wq_code.specs.First.{FirstRaw, first_file_at, migrate};
-ghost use Rattle.wq_code.specs.Spelling.{spelling, IsSpelling};
+ghost use Rattle.wq_code.specs.Spelling.{FitsFields, IsSpelling, spelling};
 ghost use Rattle.wq_code.specs.declared.raw.Raw.{Raw};
 ghost use Rattle.wq_code.specs.declared.version.Version.TheVariants.{First, Second};
 
@@ -176,10 +176,22 @@ pub fn decode(alloc: Global, bytes: &[u8]) -> Result<Raw, FileFault>
 }
 
 /// The one file of a program that fits, in the second version.
-#[tactic(auto, unfolding(crate::specs::Spelling::spelling_in))]
 pub fn encode(alloc: Global, raw: &Raw) -> Result<Vec<u8>, AllocError>
     requires { IsTrue (raw_fits raw.now) }
-    ensures { IfOk result (λ bytes. bytes.items ≡ spelling raw.now) }
+    ensures written { IfOk result (λ bytes. bytes.items ≡ spelling raw.now) }
+    // So the program is read back: its numbers and bytes have room in their fields.
+    ensures spelled { IfOk result (λ bytes. IsSpelling raw.now bytes.items) }
+{
+    let bytes = file_bytes(alloc, raw)?;
+    Ok(bytes)
+}
+
+/// The bytes of a program that fits. Each of its numbers and bytes has room in its field.
+#[tactic(auto, unfolding(crate::specs::Spelling::spelling_in))]
+fn file_bytes(alloc: Global, raw: &Raw) -> Result<Vec<u8>, AllocError>
+    requires { IsTrue (raw_fits raw.now) }
+    ensures written { IfOk result (λ bytes. bytes.items ≡ spelling raw.now) }
+    ensures room { IfOk result (λ _. FitsFields raw.now) }
 {
     let mut out = Vec::new(alloc);
     out.extend_from_slice(b"WQPF")?;

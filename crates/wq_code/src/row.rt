@@ -5,8 +5,8 @@ ghost use Rattle.wq_code.specs.Spelling.{flags_byte};
 
 use crate::fault::FileFault;
 use crate::field::{
-    Field, all_fit, byte_of, bytes_of, count_of, many_of, put_long, put_many, put_short, short_of,
-    wide_of,
+    Field, all_fit, byte_of, bytes_of, count_of, many_of, put_bytes, put_long, put_many, put_short,
+    short_of, wide_of,
 };
 use crate::limit::{MAX_CONSTANT_TEXT, MAX_ENTRIES};
 use crate::operation::Op;
@@ -20,12 +20,15 @@ impl Field for i64 {
     ghost use Rattle.wq_code.specs.Reading.{number_at};
     ghost use Rattle.wq_code.specs.Spelling.{number};
     ghost use Rattle.wq_code.specs.Fits.{is_any};
+    ghost use Rattle.wq_code.specs.Spelling.{HasRoomNumber};
 
     ghost reading = { λ _. number_at };
 
     ghost spelling = { λ _. number };
 
     ghost within = { λ _. is_any };
+
+    ghost has_room = { HasRoomNumber };
 
     #[tactic(auto, unfolding(crate::specs::Reading::number_at, crate::specs::Reading::bytes_at))]
     fn read(_alloc: Global, _version: Version, bytes: &[u8]) -> Result<(i64, &[u8]), FileFault> {
@@ -52,12 +55,15 @@ impl Field for Table<u8> {
     ghost use Rattle.wq_code.specs.Reading.{text_at};
     ghost use Rattle.wq_code.specs.Spelling.{text};
     ghost use Rattle.wq_code.specs.Fits.{is_short_text};
+    ghost use Rattle.wq_code.specs.Spelling.{AreBytes};
 
     ghost reading = { λ _. text_at };
 
     ghost spelling = { λ _. text };
 
     ghost within = { λ _. is_short_text };
+
+    ghost has_room = { AreBytes };
 
     #[tactic(auto, unfolding(crate::specs::Reading::text_at))]
     fn read(
@@ -72,7 +78,7 @@ impl Field for Table<u8> {
 
     fn write(&self, out: &mut Vec<u8>) -> Result<(), AllocError> {
         put_short(out, self.len())?;
-        out.extend_from_slice(self.as_slice())
+        put_bytes(out, self.as_slice())
     }
 
     fn fits(&self) -> bool {
@@ -84,12 +90,16 @@ impl Field for TextList {
     ghost use Rattle.wq_code.specs.Reading.{list_at};
     ghost use Rattle.wq_code.specs.Spelling.{entries};
     ghost use Rattle.wq_code.specs.Fits.{is_list};
+    ghost use Rattle.std.specs.Prelude.{All};
+    ghost use Rattle.wq_code.specs.Spelling.{AreBytes};
 
     ghost reading = { list_at };
 
     ghost spelling = { entries };
 
     ghost within = { is_list };
+
+    ghost has_room = { All AreBytes };
 
     #[tactic(auto, unfolding(crate::specs::Reading::list_at))]
     fn read(alloc: Global, version: Version, bytes: &[u8]) -> Result<(TextList, &[u8]), FileFault> {
@@ -125,12 +135,16 @@ impl Field for Table<Pattern> {
     ghost use Rattle.wq_code.specs.Reading.{set_at};
     ghost use Rattle.wq_code.specs.Spelling.{set};
     ghost use Rattle.wq_code.specs.Fits.{is_pattern_set};
+    ghost use Rattle.std.specs.Prelude.{All};
+    ghost use Rattle.wq_code.specs.Spelling.{HasRoomPattern};
 
     ghost reading = { λ _. set_at };
 
     ghost spelling = { λ _. set };
 
     ghost within = { λ _. is_pattern_set };
+
+    ghost has_room = { All HasRoomPattern };
 
     #[tactic(auto, unfolding(crate::specs::Reading::set_at))]
     fn read(
@@ -156,12 +170,15 @@ impl Field for Pattern {
     ghost use Rattle.wq_code.specs.Reading.{pattern_at};
     ghost use Rattle.wq_code.specs.Spelling.{pattern};
     ghost use Rattle.wq_code.specs.Fits.{is_pattern};
+    ghost use Rattle.wq_code.specs.Spelling.{HasRoomPattern};
 
     ghost reading = { λ _. pattern_at };
 
     ghost spelling = { λ _. pattern };
 
     ghost within = { λ _. is_pattern };
+
+    ghost has_room = { HasRoomPattern };
 
     #[tactic(auto, unfolding(crate::specs::Reading::pattern_at))]
     fn read(alloc: Global, _version: Version, bytes: &[u8]) -> Result<(Pattern, &[u8]), FileFault> {
@@ -182,7 +199,7 @@ impl Field for Pattern {
         let text = self.text();
         out.push(bits_of_flags(self.flags()))?;
         out.push(text.len() as u8)?;
-        out.extend_from_slice(text)
+        put_bytes(out, text)
     }
 
     fn fits(&self) -> bool {
@@ -216,12 +233,15 @@ impl Field for Op {
     ghost use Rattle.wq_code.specs.Reading.{op_at};
     ghost use Rattle.wq_code.specs.Spelling.{instruction};
     ghost use Rattle.wq_code.specs.Fits.{is_op};
+    ghost use Rattle.wq_code.specs.Spelling.{HasRoomOp};
 
     ghost reading = { op_at };
 
     ghost spelling = { instruction };
 
     ghost within = { is_op };
+
+    ghost has_room = { HasRoomOp };
 
     #[tactic(auto, unfolding(crate::specs::Reading::op_at))]
     fn read(_alloc: Global, version: Version, bytes: &[u8]) -> Result<(Op, &[u8]), FileFault> {

@@ -10,13 +10,13 @@ use Rattle.wq_follow.specs.contracts.trigger.Trigger.{the_row}
 use Rattle.wq_glob.proofs.pattern.Pattern.TheSendSync as Pattern
 use Rattle.wq_query.proofs.field.Field.TheSendSync as Field
 use Rattle.wq_term.proofs.expr.Expr.TheLaws.TheKnot.{crosses as expressions}
-use Rattle.wq_verify.proofs.program.Program.TheSendSync as Program
+use Rattle.wq_verify.proofs.stored.StoredProgram.TheSendSync as StoredProgram
 
 -- a trigger may be handed to another thread
 pub trigger_send : IsSend the_row
 trigger_send = search (
-  Program.the_send,
-  Program.the_sync,
+  StoredProgram.the_send,
+  StoredProgram.the_sync,
   Table.the_send,
   Text.the_send,
   Bound.the_send,

@@ -10,7 +10,7 @@ use wq_launch::{Launcher, Runs, Spawn};
 use wq_live::{Named, Seat};
 use wq_query::Ahead;
 use wq_serve::SharedShelf;
-use wq_verify::Program;
+use wq_verify::StoredProgram;
 use wq_view::View;
 
 /// The parts for rounds of triggers. A round takes their locks while it holds the shelf, and never the other way round.
@@ -107,7 +107,7 @@ where
         number: u64,
         tick: u64,
         shelf: &Mutex<SharedShelf>,
-    ) -> Vec<Option<(Arc<Program>, Bound)>> {
+    ) -> Vec<Option<(Arc<StoredProgram>, Bound)>> {
         let shelf = shelf.lock(&self.rt);
         let mut launcher = self.launcher.lock(&self.rt);
         match shelf.asks(self.alloc, number, tick, &mut *launcher) {
@@ -117,7 +117,7 @@ where
     }
 
     /// What the programs keep at the view, each in its place. If memory runs out, what is missing is found in the round.
-    fn found(&self, asks: Vec<Option<(Arc<Program>, Bound)>>, view: &View) -> Vec<Option<Ahead>>
+    fn found(&self, asks: Vec<Option<(Arc<StoredProgram>, Bound)>>, view: &View) -> Vec<Option<Ahead>>
         ensures { AreAheadAt view.now.records result.items }
     {
         let mut ahead = Vec::new(self.alloc);
@@ -132,7 +132,7 @@ where
 
 /// What a program keeps at the view of the files that changed after a bound. It is nothing if nothing was asked, or if
 /// memory runs out.
-fn found_one(alloc: Global, ask: Option<(Arc<Program>, Bound)>, view: &View) -> Option<Ahead>
+fn found_one(alloc: Global, ask: Option<(Arc<StoredProgram>, Bound)>, view: &View) -> Option<Ahead>
     ensures { IfSome result (IsAheadAt view.now.records) }
 {
     let (program, bound) = ask?;

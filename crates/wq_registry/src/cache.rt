@@ -12,7 +12,7 @@ ghost use Rattle.wq_registry.specs.CacheKey.{Says};
 ghost use Rattle.wq_registry.specs.Kept.{StandsFor, instance_at};
 
 use crate::key::{CacheKey, Key, look_up, put};
-use crate::shelf::share;
+use crate::sharing::share;
 use lru::LruCache;
 use std::alloc::{AllocError, Global};
 use std::marker::Model;
@@ -20,22 +20,26 @@ use std::num::NonZeroUsize;
 use std::sync::Arc;
 use wq_compile::{CompileFault, compile};
 use wq_term::Expr;
-use wq_verify::Program;
+use wq_verify::StoredProgram;
 
 /// How many programs are kept.
 pub const MAX_KEPT: usize = 256;
 
-/// How many bytes the compact text of an expression may have, so that its program is kept. A program takes up to 18 times
-/// as many bytes, so 256 of them take at most some 70 megabytes.
+/// How many bytes the compact text of an expression may have, so that its program is kept. So the keys take at most 4
+/// mebibytes.
 pub const MAX_KEPT_TEXT: usize = 16_384;
 
+/// How many bytes of memory a program may take, so that it is kept. Programs are kept open, so all of them take at most 16
+/// mebibytes.
+pub const MAX_KEPT_PROGRAM: usize = 65_536;
+
 /// Programs of expressions by the number of the root and the compact text of the expression, those
-/// that were asked for last. They are of one run of the server.
+/// that were asked for last. They are of one run of the server, and take at most 20 mebibytes with their keys.
 #[derive(Drop)]
 pub struct Cache {
     start: u64,
     pid: u64,
-    kept: LruCache<Key, Arc<Program>>,
+    kept: LruCache<Key, Arc<StoredProgram>>,
     alloc: Global,
 }
 
@@ -65,7 +69,7 @@ impl Cache {
     }
 
     /// The program that is kept of an expression, which is then the one that was asked for last.
-    pub fn get(&mut self, key: &CacheKey) -> Option<Arc<Program>>
+    pub fn get(&mut self, key: &CacheKey) -> Option<Arc<StoredProgram>>
         ensures meaning { IfSome result (λ program.
             StandsFor key.now.instance key.now.text program.value) }
         ensures same { self.new ≡ self.old }
@@ -114,14 +118,14 @@ fn size() -> NonZeroUsize {
 #[derive(Drop)]
 pub struct Forgotten {
     pub(crate) key: Key,
-    pub(crate) program: Arc<Program>,
+    pub(crate) program: Arc<StoredProgram>,
 }
 
 /// A program that was compiled of an expression, and that a cache may keep.
 #[derive(Drop)]
 pub struct Compiled {
     key: CacheKey,
-    program: Arc<Program>,
+    program: Arc<StoredProgram>,
 }
 
 impl Model for Compiled {
@@ -137,8 +141,9 @@ impl Model for Compiled {
 
 impl Compiled {
     /// The entry of a program that a cache may keep: it answers the meaning of this expression, costs
-    /// no more than the expression's measure, and this key finds it. There is no entry if the program cannot be shared.
-    pub fn new(key: CacheKey, expr: &Expr, program: &Arc<Program>) -> Option<Compiled>
+    /// no more than the expression's measure, and this key finds it. There is no entry if the program takes over
+    /// [`MAX_KEPT_PROGRAM`] bytes of memory, or cannot be shared.
+    pub fn new(key: CacheKey, expr: &Expr, program: &Arc<StoredProgram>) -> Option<Compiled>
         requires says { Says key (term_of expr.now) }
         requires meaning { AnswersMeaning program.now.value (term_of expr.now) }
         requires small { is_too_large (term_of expr.now) ≡ false }
@@ -146,6 +151,9 @@ impl Compiled {
         ensures { IfSome result (λ compiled.
             compiled ≡ record { key = key; program = program.now.value }) }
     {
+        if program.weight() > MAX_KEPT_PROGRAM {
+            return None;
+        }
         let Ok(program) = Arc::try_clone(program) else {
             return None;
         };
@@ -153,11 +161,11 @@ impl Compiled {
     }
 }
 
-/// The program of an expression, which can be shared.
+/// The program of an expression, which can be shared. It is open, whatever its size.
 ///
 /// # Errors
 /// Those of [`compile`].
-pub fn compile_shared(alloc: Global, expr: &Expr) -> Result<Arc<Program>, CompileFault>
+pub fn compile_shared(alloc: Global, expr: &Expr) -> Result<Arc<StoredProgram>, CompileFault>
     requires { IsTrue (expr_fits (term_of expr.now)) }
 
     ensures code { IfOk result (λ program. program.value ≡ program_of (term_of expr.now)) }
@@ -168,5 +176,5 @@ pub fn compile_shared(alloc: Global, expr: &Expr) -> Result<Arc<Program>, Compil
         ↔ IsTrue (is_too_large (term_of expr.now)) }
 {
     let program = compile(alloc, expr)?;
-    Ok(share(alloc, program)?)
+    Ok(share(alloc, StoredProgram::running(program))?)
 }

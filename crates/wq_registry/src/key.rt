@@ -16,7 +16,7 @@ use std::marker::Model;
 use std::sync::Arc;
 use wq_clock::Instance;
 use wq_term::values_say_what_they_write;
-use wq_verify::Program;
+use wq_verify::StoredProgram;
 
 /// The key of an expression among the programs that are kept. It has the instance at which the
 /// expression was read, since clock specs in it are read there, and its compact text.
@@ -67,7 +67,7 @@ pub(crate) struct Key {
 }
 
 /// The program that is kept under a key, which is then the one that was asked for last.
-pub(crate) fn look_up(kept: &mut LruCache<Key, Arc<Program>>, key: &Key) -> Option<Arc<Program>>
+pub(crate) fn look_up(kept: &mut LruCache<Key, Arc<StoredProgram>>, key: &Key) -> Option<Arc<StoredProgram>>
     ensures found { (cache : CacheData) → KeepsMeanings cache kept.old.entries
         → IfSome result (λ program. StandsFor (instance_at cache key.now.root)
         (string_bytes key.now.text) program.value) }
@@ -82,9 +82,9 @@ pub(crate) fn look_up(kept: &mut LruCache<Key, Arc<Program>>, key: &Key) -> Opti
 /// Keeps a program under a key. If there are as many as may be, it takes the place of the one that
 /// was asked for longest ago. If memory runs out it is not kept. Given is what is not kept then.
 pub(crate) fn put(
-    kept: &mut LruCache<Key, Arc<Program>>,
+    kept: &mut LruCache<Key, Arc<StoredProgram>>,
     key: Key,
-    program: Arc<Program>,
+    program: Arc<StoredProgram>,
 ) -> Option<Forgotten>
     ensures { (cache : CacheData) → KeepsMeanings cache kept.old.entries
         → StandsFor (instance_at cache key.root) (string_bytes key.text) program.value

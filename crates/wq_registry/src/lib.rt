@@ -13,9 +13,12 @@ mod law;
 mod named;
 mod root;
 mod roots;
+mod sharing;
 mod shelf;
 
-pub use cache::{Cache, Compiled, Forgotten, MAX_KEPT, MAX_KEPT_TEXT, compile_shared};
+pub use cache::{
+    Cache, Compiled, Forgotten, MAX_KEPT, MAX_KEPT_PROGRAM, MAX_KEPT_TEXT, compile_shared,
+};
 pub use fault::ShelfFault;
 pub use key::CacheKey;
 pub use law::{
@@ -23,4 +26,5 @@ pub use law::{
     programs_are_made, programs_were_added, the_greatest_tick_counts, triggers_are_made,
 };
 pub use root::{MAX_CURSORS, MAX_TRIGGERS, Root};
+pub use sharing::kept_form;
 pub use shelf::{MAX_PROGRAMS, Shelf};

@@ -20,12 +20,13 @@ use crate::fault::ShelfFault;
 use crate::named::ByName;
 use crate::root::Root;
 use crate::roots;
+use crate::sharing::share;
 use indexmap::map::Keys;
 use std::alloc::{AllocError, Global};
 use std::marker::Model;
 use std::sync::Arc;
 use wq_base::MAX_ROOTS;
-use wq_verify::Program;
+use wq_verify::{Program, StoredProgram};
 
 /// How many programs a shelf may have.
 pub const MAX_PROGRAMS: usize = 256;
@@ -34,7 +35,7 @@ pub const MAX_PROGRAMS: usize = 256;
 /// type of a trigger.
 #[derive(Drop)]
 pub struct Shelf<T> {
-    programs: ByName<Arc<Program>>,
+    programs: ByName<Arc<StoredProgram>>,
     roots: Vec<Root<T>>,
     sockname: String,
     cache: Cache,
@@ -85,7 +86,7 @@ impl<T> Shelf<T> {
     }
 
     /// The program under a name.
-    pub fn get(&self, name: &str) -> Option<&Arc<Program>>
+    pub fn get(&self, name: &str) -> Option<&Arc<StoredProgram>>
         ensures { option_map (λ program. program.now.value) result
             ≡ under name.now self.now.programs }
     {
@@ -93,14 +94,14 @@ impl<T> Shelf<T> {
     }
 
     /// The names of the programs, in their order.
-    pub fn names(&self) -> Keys<'_, String, Arc<Program>>
+    pub fn names(&self) -> Keys<'_, String, Arc<StoredProgram>>
         ensures { map string_bytes result ≡ names self.now.programs }
     {
         self.programs.names()
     }
 
     /// Puts a program under a name; tells whether it replaced one, whose place it then takes. A new
-    /// name comes last.
+    /// name comes last. A large program is kept as its file ([`StoredProgram::kept`]).
     ///
     /// # Errors
     /// [`ShelfFault::Full`] if the name is new and there are [`MAX_PROGRAMS`];
@@ -116,7 +117,7 @@ impl<T> Shelf<T> {
         if self.has_no_place(name) {
             return Err(ShelfFault::Full);
         }
-        let program = share(self.alloc, program)?;
+        let program = share(self.alloc, StoredProgram::kept(self.alloc, program)?)?;
         Ok(self.put(name, program)?)
     }
 
@@ -128,7 +129,7 @@ impl<T> Shelf<T> {
     }
 
     /// Puts a program under a name, if there is a place for it.
-    fn put(&mut self, name: &str, program: Arc<Program>) -> Result<bool, AllocError>
+    fn put(&mut self, name: &str, program: Arc<StoredProgram>) -> Result<bool, AllocError>
         ensures replaced { IfOk result (λ replaced.
             replaced ≡ is_some (under name.now self.old.programs)) }
         ensures added { OnOk result (self.new ≡ with_program name.now program.value self.old) }
@@ -316,15 +317,5 @@ impl<T: Drop> Shelf<T> {
     {
         let root = self.root_mut(root)?;
         root.remove_trigger(name)
-    }
-}
-
-/// A program that can be shared.
-pub(crate) fn share(alloc: Global, program: Program) -> Result<Arc<Program>, AllocError>
-    ensures { IfOk result (λ shared. shared.value ≡ program) }
-{
-    match Arc::new(alloc, program) {
-        Ok(shared) => Ok(shared),
-        Err(_) => Err(AllocError),
     }
 }

@@ -6,7 +6,7 @@ use std::sync::{Arc, Mutex, Wait};
 use wq_ask::Cursor;
 use wq_registry::{CacheKey, Compiled, Forgotten};
 use wq_session::{Desk, Turn, Unset, Work};
-use wq_verify::Program;
+use wq_verify::StoredProgram;
 
 /// A desk over a shelf that threads share. It shows no shelf, and keeps none.
 #[derive(Drop)]
@@ -29,7 +29,7 @@ impl<R: Wait + Drop> Desk for LockDesk<R> {
 
     ghost shelf = { λ _. None };
 
-    fn find(&mut self, key: &CacheKey) -> Option<Arc<Program>> {
+    fn find(&mut self, key: &CacheKey) -> Option<Arc<StoredProgram>> {
         self.shelf.lock(&self.rt).find(key)
     }
 

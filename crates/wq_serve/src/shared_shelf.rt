@@ -21,7 +21,7 @@ use wq_follow::{Launch, Trigger};
 use wq_query::Ahead;
 use wq_registry::{Cache, CacheKey, Compiled, Forgotten, Root, Shelf};
 use wq_session::{Turn, Unset, Work, added_are_asked, answers_are_calls, round, rounds_are_calls};
-use wq_verify::Program;
+use wq_verify::StoredProgram;
 use wq_view::View;
 
 /// A shelf that sessions change, by the asks that they take and the cursors that they unset there, and rounds of
@@ -81,7 +81,7 @@ impl ReachedShelf<Trigger> {
     }
 
     /// The program that the cache keeps for an expression.
-    pub(crate) fn find(&mut self, key: &CacheKey) -> Option<Arc<Program>>
+    pub(crate) fn find(&mut self, key: &CacheKey) -> Option<Arc<StoredProgram>>
         ensures found { IfSome result (λ program.
             StandsFor key.now.instance key.now.text program.value) }
         ensures same { self.new ≡ self.old }
@@ -113,7 +113,7 @@ impl ReachedShelf<Trigger> {
         number: u64,
         tick: u64,
         launcher: &mut L,
-    ) -> Result<Vec<Option<(Arc<Program>, Bound)>>, AllocError>
+    ) -> Result<Vec<Option<(Arc<StoredProgram>, Bound)>>, AllocError>
         ensures shown { L.shown launcher.new ≡ L.shown launcher.old }
         ensures counted { L.failures_of launcher.new ≡ L.failures_of launcher.old }
     {

@@ -1,5 +1,5 @@
 -- The program of a query that was read answers what its expression means within its measure.
-use Rattle.std.proofs.Common.{◌≡◌, Option, Some, None, IfSome, subst}
+use Rattle.std.proofs.Common.{◌≡◌, Option, Some, None, IfSome, sym, subst}
 use Rattle.std.specs.declared.alloc.Global.{Global}
 use Rattle.std.specs.declared.sync.Arc.{Arc}
 use Rattle.wq_code.specs.declared.raw.Raw.{Raw}
@@ -23,3 +23,7 @@ pub there_answers : (t : ExprData) (lookup : Lookup) (program : Arc Raw Global) 
     → AnswersWithin program.value t
 there_answers t lookup program is there =
     subst (λ (p : Option (Arc Raw Global)). IfSome p (λ program. AnswersWithin program.value t)) there is.2
+
+-- the same program in another form does
+pub kept_answers : (t : ExprData) (program kept : Raw) → kept ≡ program → AnswersWithin program t → AnswersWithin kept t
+kept_answers t program kept same = subst (λ (raw : Raw). AnswersWithin raw t) (sym same)

@@ -12,7 +12,7 @@ use std::sync::Arc;
 use wq_ask::Cursor;
 use wq_follow::Trigger;
 use wq_registry::{CacheKey, Compiled, Forgotten, Shelf};
-use wq_verify::Program;
+use wq_verify::StoredProgram;
 
 /// A session's way to the shelf. It is held for an ask, to unset a cursor, and to find a program in the cache or keep
 /// one there. Each is a hold of its own, so that nothing is read or compiled while the shelf is held.
@@ -26,7 +26,7 @@ pub trait Desk {
     ghost shelf: { Self → Option ShelfNow };
 
     /// The program that the shelf's cache keeps for an expression ([`Cache::get`](wq_registry::Cache::get)).
-    fn find(&mut self, key: &CacheKey) -> Option<Arc<Program>>
+    fn find(&mut self, key: &CacheKey) -> Option<Arc<StoredProgram>>
         ensures found { IfSome result (λ program.
             StandsFor key.now.instance key.now.text program.value) }
         ensures same { shelf self.new ≡ shelf self.old };
@@ -55,7 +55,7 @@ impl Desk for Shelf<Trigger> {
 
     ghost shelf = { λ s. Some (shelf_data s) };
 
-    fn find(&mut self, key: &CacheKey) -> Option<Arc<Program>> {
+    fn find(&mut self, key: &CacheKey) -> Option<Arc<StoredProgram>> {
         self.cache().get(key)
     }
 

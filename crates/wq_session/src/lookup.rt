@@ -2,10 +2,12 @@
 ghost use Rattle.std.specs.Prelude.{◌≡◌, Ok, Some, false, IfSome};
 ghost use Rattle.serde_json.specs.View.{view as data_of};
 ghost use Rattle.wq_clock.specs.Instance.{instance_data};
+ghost use Rattle.wq_query.specs.Meaning.{AnswersWithin};
 ghost use Rattle.wq_query.specs.Query.{asked_of};
 ghost use Rattle.wq_query.specs.Reading.{asks as queries};
 ghost use Rattle.wq_registry.specs.CacheKey.{Says};
 ghost use Rattle.wq_session.specs.Prepared.{IsFoundFor, IsLookup};
+ghost use Rattle.wq_term.specs.Expr.{ExprData};
 ghost use Rattle.wq_term.specs.Limit.{max_depth};
 ghost use Rattle.wq_term.specs.Reading.{reads_as};
 
@@ -15,30 +17,39 @@ use std::sync::Arc;
 use wq_clock::Instance;
 use wq_compile::is_too_large;
 use wq_query::Query;
-use wq_registry::{CacheKey, Compiled, compile_shared};
-use wq_verify::Program;
+use wq_registry::{CacheKey, Compiled, compile_shared, kept_form};
+use wq_verify::StoredProgram;
 
 /// The knowledge of the program of an expression.
 #[derive(Drop)]
 pub(crate) struct Lookup {
     /// Whether the expression has no program because it would be too large.
     pub(crate) is_large: bool,
+    /// Whether the program is kept after the ask: that of a subscription or a trigger.
+    pub(crate) stays: bool,
     /// The key that keeps the program of the expression. There is none if the query asks for every file, or memory ran
     /// out.
     pub(crate) key: Option<CacheKey>,
     /// A program that answers what the expression means within its measure, once it is found or compiled.
-    pub(crate) program: Option<Arc<Program>>,
+    pub(crate) program: Option<Arc<StoredProgram>>,
 }
 
 impl Lookup {
-    /// Nothing but the key of the expression of a query, which was read from this object.
-    pub(crate) fn of(alloc: Global, object: &Value, instance: &Instance, query: &Query) -> Lookup
+    /// Nothing but the key of the expression of a query, which was read from this object, and whether its program stays.
+    pub(crate) fn of(
+        alloc: Global,
+        object: &Value,
+        instance: &Instance,
+        query: &Query,
+        stays: bool,
+    ) -> Lookup
         requires { queries (instance_data instance.now) (data_of object.now)
             ≡ Ok (asked_of query.now) }
         ensures { IsLookup (asked_of query.now).expression result }
     {
         Lookup {
             is_large: is_too_large(query.expr()),
+            stays,
             key: key_of(alloc, object, instance, query),
             program: None,
         }
@@ -50,7 +61,7 @@ impl Lookup {
         self,
         alloc: Global,
         query: &Query,
-        found: Option<Arc<Program>>,
+        found: Option<Arc<StoredProgram>>,
     ) -> (Lookup, Option<Compiled>)
         requires lookup { IsLookup (asked_of query.now).expression self }
         requires found { IsFoundFor self.key found }
@@ -65,6 +76,21 @@ impl Lookup {
         }
     }
 
+    /// The knowledge with the program in the form in which it is kept, if it stays. If memory runs out there is no program.
+    pub(crate) fn kept(self, alloc: Global) -> Lookup
+        ensures { (t : ExprData) → IsLookup t self → IsLookup t result }
+    {
+        if !self.stays {
+            return self;
+        }
+        Lookup {
+            is_large: self.is_large,
+            stays: self.stays,
+            key: self.key,
+            program: kept_program(alloc, self.program),
+        }
+    }
+
     /// A program that is compiled now, and also given for the cache.
     fn compiled_now(self, alloc: Global, query: &Query) -> (Lookup, Option<Compiled>)
         requires lookup { IsLookup (asked_of query.now).expression self }
@@ -74,7 +100,12 @@ impl Lookup {
         let Ok(program) = compile_shared(alloc, query.expr()) else {
             return (self, None);
         };
-        let Lookup { is_large, key, .. } = self;
+        let Lookup {
+            is_large,
+            stays,
+            key,
+            ..
+        } = self;
         let compiled = match key {
             Some(key) => Compiled::new(key, query.expr(), &program),
             None => None,
@@ -82,6 +113,7 @@ impl Lookup {
         (
             Lookup {
                 is_large,
+                stays,
                 key: None,
                 program: Some(program),
             },
@@ -90,17 +122,30 @@ impl Lookup {
     }
 
     /// This program, which was found under the key.
-    fn with(self, program: Arc<Program>, query: &Query) -> Lookup
+    fn with(self, program: Arc<StoredProgram>, query: &Query) -> Lookup
         requires lookup { IsLookup (asked_of query.now).expression self }
         requires found { IsFoundFor self.key (Some program) }
         ensures { IsLookup (asked_of query.now).expression result }
     {
         Lookup {
             is_large: self.is_large,
+            stays: self.stays,
             key: self.key,
             program: Some(program),
         }
     }
+}
+
+/// A program in the form in which it is kept. There is none if memory runs out.
+#[tactic(auto, using(crate::proofs::Programs::kept_answers))]
+fn kept_program(alloc: Global, program: Option<Arc<StoredProgram>>) -> Option<Arc<StoredProgram>>
+    ensures { (t : ExprData) → IfSome program (λ program. AnswersWithin program.value t)
+        → IfSome result (λ kept. AnswersWithin kept.value t) }
+{
+    let Ok(kept) = kept_form(alloc, program?) else {
+        return None;
+    };
+    Some(kept)
 }
 
 /// The key of the expression of a query that was read from this object, if it has one.

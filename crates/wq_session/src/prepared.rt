@@ -21,7 +21,7 @@ use wq_ask::{Ask, Out, RootAsk, hands_in_valid};
 use wq_clock::Instance;
 use wq_follow::Trigger;
 use wq_registry::{CacheKey, Compiled, Shelf};
-use wq_verify::Program;
+use wq_verify::StoredProgram;
 
 /// An ask, at the root that is looked at, with its object, if it has one, read there.
 #[derive(Drop)]
@@ -57,7 +57,7 @@ impl<'a> Prepared<'a> {
     pub fn compiled(
         self,
         alloc: Global,
-        found: Option<Arc<Program>>,
+        found: Option<Arc<StoredProgram>>,
     ) -> (Prepared<'a>, Option<Compiled>)
         requires prepared { IsPrepared self }
         requires found { IsFoundFor (key_in self) found }

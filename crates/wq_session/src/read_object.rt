@@ -13,7 +13,7 @@ use std::alloc::Global;
 use std::sync::Arc;
 use wq_ask::Refusal;
 use wq_registry::{CacheKey, Compiled};
-use wq_verify::Program;
+use wq_verify::StoredProgram;
 
 /// The object of an ask, read at the root that is looked at.
 #[derive(Drop)]
@@ -99,7 +99,7 @@ impl ReadObject {
     pub(crate) fn compiled(
         self,
         alloc: Global,
-        found: Option<Arc<Program>>,
+        found: Option<Arc<StoredProgram>>,
     ) -> (ReadObject, Option<Compiled>)
         requires read { AreRead self }
         requires found { IsFoundFor (key_of_read self) found }

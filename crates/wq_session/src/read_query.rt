@@ -17,7 +17,7 @@ use wq_ask::Refusal;
 use wq_clock::Instance;
 use wq_query::{Query, QueryFault};
 use wq_registry::Compiled;
-use wq_verify::Program;
+use wq_verify::StoredProgram;
 
 /// A query that was read, and the knowledge of its program.
 #[derive(Drop)]
@@ -36,12 +36,8 @@ impl ReadQuery {
         ensures { GivesRead result
             (queries (instance_data instance.now) (data_of object.now)) }
     {
-        ReadQuery::of(
-            alloc,
-            object,
-            instance,
-            Query::read(alloc, object, instance),
-        )
+        let query = Query::read(alloc, object, instance);
+        ReadQuery::of(alloc, object, instance, query, false)
     }
 
     /// The query of the object of a subscription, at this instance of the server.
@@ -54,15 +50,16 @@ impl ReadQuery {
             (subscribes (instance_data instance.now) (data_of object.now)) }
     {
         let query = Query::read_subscription(alloc, object, instance);
-        ReadQuery::of(alloc, object, instance, query)
+        ReadQuery::of(alloc, object, instance, query, true)
     }
 
-    /// The query that was read of an object, with the key of its expression.
+    /// The query that was read of an object, with the key of its expression, and whether its program stays.
     fn of(
         alloc: Global,
         object: &Value,
         instance: &Instance,
         query: Result<Query, QueryFault>,
+        stays: bool,
     ) -> Result<ReadQuery, Refusal>
         requires { IfOk query (λ query.
             queries (instance_data instance.now) (data_of object.now) ≡ Ok (asked_of query)) }
@@ -71,7 +68,7 @@ impl ReadQuery {
     {
         match query {
             Ok(query) => Ok(ReadQuery {
-                lookup: Lookup::of(alloc, object, instance, &query),
+                lookup: Lookup::of(alloc, object, instance, &query, stays),
                 query,
             }),
             Err(QueryFault::NoMemory) => Err(Refusal::NoMemory),
@@ -80,11 +77,11 @@ impl ReadQuery {
     }
 
     /// The query with the program of its expression, if there is one, and the program for the cache if it was compiled
-    /// now.
+    /// now. A program that stays has the form in which it is kept.
     pub(crate) fn compiled(
         self,
         alloc: Global,
-        found: Option<Arc<Program>>,
+        found: Option<Arc<StoredProgram>>,
     ) -> (ReadQuery, Option<Compiled>)
         requires read { IsRead self }
         requires found { IsFoundFor (self.lookup).key found }
@@ -93,6 +90,7 @@ impl ReadQuery {
     {
         let ReadQuery { query, lookup } = self;
         let (lookup, compiled) = lookup.compiled(alloc, &query, found);
+        let lookup = lookup.kept(alloc);
         (ReadQuery { query, lookup }, compiled)
     }
 }

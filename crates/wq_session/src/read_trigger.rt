@@ -14,7 +14,7 @@ use wq_ask::Refusal;
 use wq_clock::Instance;
 use wq_follow::{Definition, TriggerFault};
 use wq_registry::Compiled;
-use wq_verify::Program;
+use wq_verify::StoredProgram;
 
 /// A trigger that was read, and the knowledge of its program.
 #[derive(Drop)]
@@ -35,7 +35,13 @@ impl ReadTrigger {
     {
         match Definition::read(alloc, object, instance) {
             Ok(definition) => Ok(ReadTrigger {
-                lookup: Lookup::of(alloc, definition.object(), instance, definition.query()),
+                lookup: Lookup::of(
+                    alloc,
+                    definition.object(),
+                    instance,
+                    definition.query(),
+                    true,
+                ),
                 definition,
             }),
             Err(TriggerFault::BadName) => Err(Refusal::BadName),
@@ -46,11 +52,11 @@ impl ReadTrigger {
     }
 
     /// The trigger with the program of its expression, if there is one, and the program for the cache if it was
-    /// compiled now.
+    /// compiled now. It has the form in which it is kept.
     pub(crate) fn compiled(
         self,
         alloc: Global,
-        found: Option<Arc<Program>>,
+        found: Option<Arc<StoredProgram>>,
     ) -> (ReadTrigger, Option<Compiled>)
         requires read { IsReadTrigger self }
         requires found { IsFoundFor (self.lookup).key found }
@@ -60,6 +66,7 @@ impl ReadTrigger {
     {
         let ReadTrigger { definition, lookup } = self;
         let (lookup, compiled) = lookup.compiled(alloc, definition.query(), found);
+        let lookup = lookup.kept(alloc);
         (ReadTrigger { definition, lookup }, compiled)
     }
 }

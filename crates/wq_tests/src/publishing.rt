@@ -20,7 +20,7 @@ use wq_registry::{CacheKey, Compiled, Forgotten};
 use wq_serve::{LockDesk, SeatViews, serve};
 use wq_session::{Desk, Turn, Unset, Work};
 use wq_stream::{MemoryInbox, Splitter};
-use wq_verify::Program;
+use wq_verify::StoredProgram;
 
 /// Roots that publish twice whenever they are called.
 #[derive(Drop)]
@@ -72,7 +72,7 @@ impl<N: Named, R: Wait + Drop> Desk for Holding<N, R> {
 
     ghost shelf = { λ _. None };
 
-    fn find(&mut self, key: &CacheKey) -> Option<Arc<Program>> {
+    fn find(&mut self, key: &CacheKey) -> Option<Arc<StoredProgram>> {
         publish_twice(&mut self.roots);
         self.desk.find(key)
     }

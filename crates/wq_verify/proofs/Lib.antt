@@ -6,4 +6,5 @@ pub mod Budgets
 pub mod Steps
 pub mod ShortPrograms
 pub mod FirstPrograms
+mod KeptFiles
 mod Words

@@ -2,6 +2,8 @@
 //! known at each place, whatever way led there. Such a program ends on every file, always finds the
 //! cells and constants that it uses, and costs no more than a number known beforehand.
 //!
+//! A [`StoredProgram`] is one that is kept, a large one as the bytes of its file.
+//!
 //! `specs/Typing.antt` defines whether a program may run, by the existence of such kinds, and
 //! `specs/Fault.antt` the faults of one that may not. `check` reports on the bytes of a program file.
 //! This crate runs no programs.

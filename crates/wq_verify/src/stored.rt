@@ -9,7 +9,7 @@ use crate::same::Same;
 use crate::weight::weight_of;
 use std::alloc::{AllocError, Global};
 use std::marker::Model;
-use wq_code::{Table, decode, encode};
+use wq_code::{Table, decode, encode, spellings_are_read_back};
 
 /// How many bytes of memory a program takes at most that is kept open.
 pub const MAX_OPEN: usize = 16_384;
@@ -124,15 +124,20 @@ impl StoredProgram {
     }
 }
 
-/// The bytes of a program's file.
+/// The bytes of a program's file, with no room after them.
+#[tactic(auto, using(crate::proofs::KeptFiles::spelled_file))]
 fn program_file(alloc: Global, program: &Program) -> Result<Vec<u8>, AllocError>
     ensures file { IfOk result (λ bytes. IsProgramFile bytes.items) }
     ensures program { IfOk result (λ bytes. program_in bytes.items ≡ program.now) }
 {
-    encode(alloc, program.raw())
+    spellings_are_read_back();
+    let mut bytes = encode(alloc, program.raw())?;
+    bytes.shrink_to_fit();
+    Ok(bytes)
 }
 
 /// The program of a file that was written of one.
+#[tactic(auto, using(crate::proofs::KeptFiles::read_is, crate::proofs::KeptFiles::read_valid))]
 fn read_again(alloc: Global, bytes: &[u8]) -> Result<Program, AllocError>
     requires { IsProgramFile bytes.now }
     ensures { IfOk result (λ program. program ≡ program_in bytes.now) }

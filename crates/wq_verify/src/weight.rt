@@ -4,11 +4,14 @@
 use wq_code::{Raw, Table, TextList};
 use wq_glob::Pattern;
 
-/// The bytes of an allocation, beside those that are asked for: its place, its length and what the allocator adds.
-const ALLOCATION: usize = 56;
+/// The bytes of a text that is empty: its place in a table, which may have room for as many again, and its allocation.
+const TEXT: usize = 96;
 
-/// The bytes of a pattern that is empty: its parts, and an allocation of each.
-const PATTERN: usize = 192;
+/// The bytes of a list or a set that is empty: its place in a table, and the allocations of its tables.
+const LIST: usize = 256;
+
+/// The bytes of a pattern that is empty: its place in a table, and an allocation of each of its parts.
+const PATTERN: usize = 320;
 
 /// The bytes of a pattern for each byte of its text: a step, and a third of the set of a class.
 const PATTERN_BYTE: usize = 20;
@@ -16,8 +19,8 @@ const PATTERN_BYTE: usize = 20;
 /// The bytes of the place of a text in its list.
 const PLACE: usize = 8;
 
-/// The bytes of a number, and of an instruction.
-const ROW: usize = 16;
+/// The bytes of a number or an instruction, in a table that may have room for as many again.
+const ROW: usize = 32;
 
 /// The bytes of memory of an open program, at most.
 pub(crate) fn weight_of(raw: &Raw) -> usize {
@@ -38,7 +41,7 @@ fn rows_weight(count: usize) -> usize {
 fn texts_weight(texts: &[Table<u8>]) -> usize {
     let mut total: usize = 0;
     for text in texts {
-        total = total.saturating_add(text.len()).saturating_add(ALLOCATION);
+        total = total.saturating_add(text.len()).saturating_add(TEXT);
     }
     total
 }
@@ -48,7 +51,7 @@ fn lists_weight(lists: &[TextList]) -> usize {
     let mut total: usize = 0;
     for list in lists {
         total = total
-            .saturating_add(2 * ALLOCATION)
+            .saturating_add(LIST)
             .saturating_add(texts_weight(list.texts()))
             .saturating_add(list.len().saturating_mul(PLACE));
     }
@@ -71,7 +74,7 @@ fn sets_weight(sets: &[Table<Pattern>]) -> usize {
     let mut total: usize = 0;
     for patterns in sets {
         total = total
-            .saturating_add(ALLOCATION)
+            .saturating_add(LIST)
             .saturating_add(patterns_weight(patterns.as_slice()));
     }
     total

@@ -28,7 +28,7 @@ use wq_clock::{Bound, Instance};
 use wq_follow::Trigger;
 use wq_query::{Crew, Plan, Query, answer_text};
 use wq_registry::{Shelf, ShelfFault};
-use wq_verify::Program;
+use wq_verify::StoredProgram;
 use wq_view::View;
 
 /// `query`, of the root that is looked at, as it was read there.
@@ -77,7 +77,7 @@ pub(super) fn program_for(
     query: &Query,
     lookup: &Lookup,
     shelf: &Shelf<Trigger>,
-) -> Result<Arc<Program>, Refusal>
+) -> Result<Arc<StoredProgram>, Refusal>
     requires { IsLookup (asked_of query.now).expression lookup.now }
     ensures { FindsProgram (asked_of query.now) (shelf_data shelf.now) result }
 {
@@ -88,7 +88,7 @@ pub(super) fn program_for(
 }
 
 /// The program of a name.
-fn named(name: &str, shelf: &Shelf<Trigger>) -> Result<Arc<Program>, Refusal>
+fn named(name: &str, shelf: &Shelf<Trigger>) -> Result<Arc<StoredProgram>, Refusal>
     ensures { FindsNamed name.now (shelf_data shelf.now) result }
 {
     let Some(program) = shelf.get(name) else {
@@ -98,7 +98,7 @@ fn named(name: &str, shelf: &Shelf<Trigger>) -> Result<Arc<Program>, Refusal>
 }
 
 /// The program of the expression of a query, which was found or compiled before.
-fn compiled(query: &Query, lookup: &Lookup) -> Result<Arc<Program>, Refusal>
+fn compiled(query: &Query, lookup: &Lookup) -> Result<Arc<StoredProgram>, Refusal>
     requires { IsLookup (asked_of query.now).expression lookup.now }
     ensures { FindsCompiled (asked_of query.now) result }
 {

@@ -38,7 +38,7 @@ use wq_ask::{
 use wq_base::Text;
 use wq_follow::{Definition, Trigger};
 use wq_registry::{Root, Shelf, ShelfFault};
-use wq_verify::Program;
+use wq_verify::StoredProgram;
 
 /// `trigger`, of the root that is looked at, as its object was read there.
 pub(super) fn begin_trigger(
@@ -88,7 +88,7 @@ fn add(
     alloc: Global,
     root: Text,
     definition: Definition,
-    program: Arc<Program>,
+    program: Arc<StoredProgram>,
     number: u64,
     shelf: &mut Shelf<Trigger>,
 ) -> Result<Rest, Refusal>
@@ -171,7 +171,7 @@ fn objects_of(alloc: Global, root: &Root<Trigger>) -> Result<Vec<Value>, AllocEr
     let mut objects = Vec::new(alloc);
     for k in 0..root.trigger_count() {
         if let Some((_, trigger)) = root.trigger_at(k) {
-            objects.push(trigger.object().clone()?)?;
+            objects.push(trigger.object(alloc)?)?;
         }
     }
     Ok(objects)
