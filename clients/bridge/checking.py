@@ -5,10 +5,8 @@ from typing import Callable, Dict, List
 from bridge.clocks import BAD, CURSOR
 from bridge.expressions import BARE, DEEPEST, GROUPS, TERMS, Term
 from bridge.faults import Refused
+from wqclient.names import KINDS, RELATIONS, SCOPES
 
-COMPARISONS = ("eq", "ne", "gt", "ge", "lt", "le")
-SCOPES = ("basename", "wholename")
-KINDS = "bcdfplsD"
 OF_CLOCKS = ("oclock", "cclock")
 OF_SECONDS = ("mtime", "ctime")
 
@@ -105,7 +103,7 @@ def check_comparison(words: List[object]) -> None:
         raise unparsed("integer comparator op must be a string")
     if isinstance(words[2], bool) or not isinstance(words[2], int):
         raise unparsed("integer comparator operand must be an integer")
-    if words[1] not in COMPARISONS:
+    if words[1] not in RELATIONS:
         raise unparsed(f"integer comparator opname `{words[1]}' is invalid")
 
 

@@ -4,6 +4,7 @@ from typing import Callable, Dict, List, NamedTuple
 
 from bridge.clocks import said_clock, second_of
 from bridge.faults import Refused
+from wqclient.names import FLAGS_OF_MATCH
 
 Term = object
 BARE = ("true", "false", "exists", "empty")
@@ -20,7 +21,6 @@ DEEPEST = 64
 SPECIAL = "*?[\\"
 # The server takes no longer name, and no file has one.
 LONGEST_NAME = 4_096
-FLAGS = ("includedotfiles", "noescape")
 
 
 class Place(NamedTuple):
@@ -100,7 +100,7 @@ def said_pattern(rest: List[object], place: Place) -> List[object]:
 
 def known_flags(flags: object) -> Dict[str, bool]:
     """The flags of a pattern that Watchman knows. If one of these has no truth value, it takes none of them."""
-    found = {key: value for key, value in flags.items() if key in FLAGS} if isinstance(flags, dict) else {}
+    found = {key: value for key, value in flags.items() if key in FLAGS_OF_MATCH} if isinstance(flags, dict) else {}
     return found if all(isinstance(value, bool) for value in found.values()) else {}
 
 

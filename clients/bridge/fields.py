@@ -8,9 +8,10 @@ from typing import Callable, Dict, List, NamedTuple, Optional, cast
 from bridge.cutting import ESCAPED, Column, Columns
 from bridge.faults import Refused
 from wqclient.files import opened
+from wqclient.names import FIELDS
 
 # The server knows these at the clock that it names.
-KEPT = ("name", "exists", "new", "size", "type", "cclock", "oclock", "mtime", "mtime_ms")
+KEPT = tuple(FIELDS)
 BY_DEFAULT = ["name", "exists", "new", "size", "mode"]
 # A fresh list has files that exist alone, and each is new.
 TRUE_IF_FRESH = ("exists", "new")

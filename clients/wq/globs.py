@@ -6,9 +6,10 @@ import functools
 import re
 from typing import Any, Iterator, List
 
+from wqclient.names import KINDS
+
 from .braces import all_expanded
 from .moments import second_of
-from .names import KINDS
 from .roots import Place
 from .terminal import say
 from .trouble import WrongWords

@@ -4,7 +4,7 @@ decides what is right."""
 import json
 from typing import Dict, Iterable, NamedTuple, Tuple
 
-from .names import FIELDS, FIELDS_OF_SINCE, FLAGS_OF_MATCH, KINDS, RELATIONS, SCOPES
+from wqclient.names import FIELDS, FIELDS_OF_SINCE, FLAGS_OF_MATCH, KINDS, RELATIONS, SCOPES
 
 RELATION = f"a relation ({' '.join(RELATIONS)}) and a whole number without quotes or unit"
 MATCH = 'a pattern, "basename" or "wholename", and flags, such as ["match","*.c","basename",{"includedotfiles":true}]'

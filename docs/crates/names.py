@@ -1,4 +1,4 @@
-"""The names of the protocol, as functions of the crates list them: clients/wq/names.py has them for the command wq."""
+"""The names of the protocol, as functions of the crates list them: clients/wqclient/names.py has them for clients."""
 
 import re
 import textwrap

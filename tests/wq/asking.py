@@ -9,7 +9,8 @@ from typing import List, Tuple
 import built
 from client import same
 from scene import Scene, said, wrong
-from wq import names, vocabulary
+from wq import vocabulary
+from wqclient import names
 
 
 def errors_of(root: str) -> List[Tuple[str, str, str]]:
