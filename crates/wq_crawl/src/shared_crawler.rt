@@ -96,7 +96,6 @@ impl<N: Named, R: Wait + Drop, T: Tree + Drop, S: Seconds + Drop> SharedCrawler<
 
     /// Crawls the root of this text by a glance that looks so far, and returns whether it did. It does nothing if a client
     /// waits for a crawl of the root. No crawl for a client is left out for it.
-    #[tactic(auto, using(crate::proofs::Sharing::no_glance))]
     pub fn glance(&self, rt: &R, root: &str, reach: Reach) -> Result<bool, CrawlFault>
         ensures { GlanceAt root.now result }
     {
