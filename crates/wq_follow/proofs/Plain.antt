@@ -1,10 +1,10 @@
 -- The object of a definition is plain: each of its values is.
-use Rattle.std.proofs.Common.{◌≡◌, ◌≤◌, suc, [], unwrap_or, Bool, true, false, not, List, codes, ℕ, Option, Some, None, Result, Ok, Ordering, Less, Equal, Greater, nat_cmp, bytes_eq, refl, sym, ap, subst, ◌∙◌, arith}
+use Rattle.std.proofs.Common.{◌≡◌, ◌≤◌, suc, [], Bool, true, false, not, List, codes, ℕ, Option, Some, None, Result, Ok, Ordering, Less, Equal, Greater, nat_cmp, bytes_eq, refl, sym, ap, subst, ◌∙◌, arith}
 use Rattle.std.proofs.lemmas.Bool.{and_parts}
 use Rattle.std.proofs.lemmas.Bool.Decides.{not_from_Decides}
 use Rattle.std.proofs.lemmas.Slice.Eq.{bytes_eq-Decides}
 use Rattle.std.specs.Cmp.Lexicographic.{slice_cmp}
-use Rattle.std.specs.Option.{MatchOption, option_and_then}
+use Rattle.std.specs.Option.{MatchOption, option_and_then, unwrap_or}
 use Rattle.std.specs.Ordering.{match_ordering}
 use Rattle.serde_json.specs.Data.{Num, Data, depth, null, boolean, number, unsigned, negative, float, string, array, object, Items, no_items, item, Members, no_members, member, put}
 use Rattle.serde_json.specs.Find.{as_bool, get, get_member}

@@ -3,7 +3,7 @@
 #![tactic(auto)]
 
 mod batch;
-mod command;
+mod command_text;
 mod definition;
 mod fault;
 mod follower;
@@ -17,7 +17,7 @@ mod trigger;
 mod value_text;
 
 pub use batch::Batch;
-pub use command::Command;
+pub use command_text::CommandText;
 pub use definition::Definition;
 pub use fault::TriggerFault;
 pub use follower::Follower;

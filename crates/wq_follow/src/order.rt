@@ -4,7 +4,7 @@ ghost use Rattle.wq_follow.specs.Defined.{shape_data};
 ghost use Rattle.wq_follow.specs.Defining.{order_of};
 ghost use Rattle.wq_follow.specs.Started.{order_data};
 
-use crate::command::Command;
+use crate::command_text::CommandText;
 use crate::shape::Shape;
 use wq_base::{Table, Text};
 use wq_query::Field;
@@ -28,7 +28,7 @@ pub struct Order {
     /// The text of its root.
     pub root: Text,
     /// The program, and its first arguments.
-    pub command: Command,
+    pub command: CommandText,
     /// Whether names are appended to them.
     pub appends: bool,
     pub input: Input,

@@ -9,7 +9,7 @@ ghost use Rattle.wq_follow.specs.Definition.{limit_from, limit_of, list_input, t
 ghost use Rattle.wq_follow.specs.Definition.{names_program, shape_of, without_byte_0};
 ghost use Rattle.wq_follow.specs.Started.{input_data};
 
-use crate::command::Command;
+use crate::command_text::CommandText;
 use crate::fault::TriggerFault;
 use crate::order::Input;
 use serde_json::Value;
@@ -24,7 +24,7 @@ pub const MAX_TRIGGER_NAME: usize = 255;
 #[derive(Drop)]
 pub(crate) struct Shape {
     pub(crate) name: Text,
-    pub(crate) command: Command,
+    pub(crate) command: CommandText,
     pub(crate) appends: bool,
     pub(crate) input: Input,
     pub(crate) limit: Option<u64>,
@@ -49,7 +49,7 @@ pub(crate) fn read_shape(alloc: Global, object: &Value) -> Result<Shape, Trigger
     let Some(limit) = limit(object.get("max_files_stdin")) else {
         return Err(TriggerFault::BadShape);
     };
-    let Some(command) = Command::read(alloc, object.get("command"))? else {
+    let Some(command) = CommandText::read(alloc, object.get("command"))? else {
         return Err(TriggerFault::BadShape);
     };
     let Some(input) = input(alloc, object.get("stdin"))? else {

@@ -13,11 +13,11 @@ use wq_base::{Table, Text};
 /// A command: the program and its first arguments. It is kept as the text of their JSON list, and contracts see the
 /// words.
 #[derive(Drop)]
-pub struct Command {
+pub struct CommandText {
     text: Text,
 }
 
-impl Model for Command {
+impl Model for CommandText {
     ghost use Rattle.std.specs.Prelude.{◌≡◌, ℕ, List, Some};
     ghost use Rattle.serde_json.specs.Read.{read};
     ghost use Rattle.wq_follow.specs.Definition.{command_of, command_in};
@@ -29,9 +29,12 @@ impl Model for Command {
     ghost invariant = { λ c. command_of (read c.text) ≡ Some (command_in c.text) };
 }
 
-impl Command {
+impl CommandText {
     /// The command that a value says: a list of texts, of which the first names the program.
-    pub(crate) fn read(alloc: Global, value: Option<&Value>) -> Result<Option<Command>, AllocError>
+    pub(crate) fn read(
+        alloc: Global,
+        value: Option<&Value>,
+    ) -> Result<Option<CommandText>, AllocError>
         ensures { IfOk result (λ command. command
             ≡ command_of (option_map (λ v. data_of v.now) value.entry)) }
     {
@@ -41,7 +44,7 @@ impl Command {
         if words(alloc, Some(value))?.is_none() {
             return Ok(None);
         }
-        Ok(Some(Command {
+        Ok(Some(CommandText {
             text: value_text(alloc, value)?,
         }))
     }
