@@ -5,12 +5,12 @@ use Rattle.wq_code.specs.File.{file_at}
 use Rattle.wq_code.specs.Law.{SpellingsAreReadBack}
 use Rattle.wq_code.specs.Spelling.{IsSpelling}
 use Rattle.wq_code.specs.declared.raw.Raw.{Raw}
-use Rattle.wq_verify.specs.Stored.{IsProgramFile, program_in, read_program}
+use Rattle.wq_verify.specs.Stored.{IsProgramFile, file_program, read_program}
 use Rattle.wq_verify.specs.Typing.{IsValid}
 
 module _ (raw : Raw) (bytes : List ℕ) where
   -- a spelling is the file of its program
-  pub spelled_program : SpellingsAreReadBack → IsSpelling raw bytes → program_in bytes ≡ raw
+  pub spelled_program : SpellingsAreReadBack → IsSpelling raw bytes → file_program bytes ≡ raw
   spelled_program read spelled = ap read_program (read bytes raw spelled)
 
   -- a spelling of a program that may run is the file of one
@@ -20,7 +20,7 @@ module _ (raw : Raw) (bytes : List ℕ) where
       record { read = read bytes raw spelled ∙ ap Ok (sym same); valid = subst IsValid (sym same) valid }
 
   -- what is read of a file is its program
-  pub read_is : file_at bytes ≡ Ok raw → raw ≡ program_in bytes
+  pub read_is : file_at bytes ≡ Ok raw → raw ≡ file_program bytes
   read_is is = sym (ap read_program is)
 
   -- what is read of the file of a program that may run may run

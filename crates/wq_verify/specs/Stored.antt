@@ -26,23 +26,23 @@ read_program (Ok raw) = raw
 read_program (Err _) = no_program
 
 -- the program of a file
-abbrev pub program_in : List ℕ → Raw
-program_in bytes = read_program (file_at bytes)
+abbrev pub file_program : List ℕ → Raw
+file_program bytes = read_program (file_at bytes)
 
 -- the bytes are the file of a program that may run
 pub record IsProgramFile (bytes : List ℕ) : Type 0 where
-  pub read : file_at bytes ≡ Ok (program_in bytes)
-  pub valid : IsValid (program_in bytes)
+  pub read : file_at bytes ≡ Ok (file_program bytes)
+  pub valid : IsValid (file_program bytes)
 
 -- the program that a form stands for
 abbrev pub stored_program : Form → Raw
 stored_program (Open raw) = raw
-stored_program (File bytes) = program_in bytes
+stored_program (File bytes) = file_program bytes
 
 -- what is kept as a file is the file of a program that may run
-abbrev pub IsWhole : Form → Type 0
-IsWhole (Open raw) = Unit {0}
-IsWhole (File bytes) = IsProgramFile bytes
+abbrev pub IsStored : Form → Type 0
+IsStored (Open raw) = Unit {0}
+IsStored (File bytes) = IsProgramFile bytes
 
 -- the program that is open
 abbrev pub opened_program : OpenForm → Raw

@@ -1,7 +1,7 @@
 //! Programs that a server keeps for its clients. A small one is kept open, as it runs. A large one is kept as the bytes of
 //! its file, and read again when it is to run: open it takes up to fifty times as many bytes.
 ghost use Rattle.std.specs.Prelude.{◌≡◌, IfOk, IfSome, IsTrue};
-ghost use Rattle.wq_verify.specs.Stored.{IsProgramFile, program_in};
+ghost use Rattle.wq_verify.specs.Stored.{IsProgramFile, file_program};
 ghost use Rattle.wq_verify.specs.Typing.{IsValid};
 
 use crate::program::{Program, accept};
@@ -31,13 +31,13 @@ pub(crate) enum Form {
 
 impl Model for StoredProgram {
     ghost use Rattle.wq_code.specs.declared.raw.Raw.{Raw};
-    ghost use Rattle.wq_verify.specs.Stored.{IsWhole, stored_program};
+    ghost use Rattle.wq_verify.specs.Stored.{IsStored, stored_program};
 
     ghost Value = { Raw };
 
     ghost view = { λ s. stored_program s.form };
 
-    ghost invariant = { λ s. IsWhole s.form };
+    ghost invariant = { λ s. IsStored s.form };
 }
 
 impl StoredProgram {
@@ -128,7 +128,7 @@ impl StoredProgram {
 #[tactic(auto, using(crate::proofs::KeptFiles::spelled_file))]
 fn program_file(alloc: Global, program: &Program) -> Result<Vec<u8>, AllocError>
     ensures file { IfOk result (λ bytes. IsProgramFile bytes.items) }
-    ensures program { IfOk result (λ bytes. program_in bytes.items ≡ program.now) }
+    ensures program { IfOk result (λ bytes. file_program bytes.items ≡ program.now) }
 {
     spellings_are_read_back();
     let mut bytes = encode(alloc, program.raw())?;
@@ -140,7 +140,7 @@ fn program_file(alloc: Global, program: &Program) -> Result<Vec<u8>, AllocError>
 #[tactic(auto, using(crate::proofs::KeptFiles::read_is, crate::proofs::KeptFiles::read_valid))]
 fn read_again(alloc: Global, bytes: &[u8]) -> Result<Program, AllocError>
     requires { IsProgramFile bytes.now }
-    ensures { IfOk result (λ program. program ≡ program_in bytes.now) }
+    ensures { IfOk result (λ program. program ≡ file_program bytes.now) }
 {
     let Ok(raw) = decode(alloc, bytes) else {
         return Err(AllocError);
