@@ -213,5 +213,6 @@ mutual
   all_written instance no_terms (item d ds) h = absurd h
   all_written instance (term t ts) no_items h = absurd h
   all_written instance (term t ts) (item d ds) h =
-      rw (plain-more d (suc (depth_of t)) _ (omega (arith, le-max_left (depth_of t) (greatest_depth ts))) (written instance t d h.0))
-      (items-more ds (suc (greatest_depth ts)) _ (omega (arith, le-max_right (depth_of t) (greatest_depth ts))) (all_written instance ts ds h.1))
+      let most = suc (max (depth_of t) (greatest_depth ts)) in
+      rw (plain-more d (suc (depth_of t)) most (omega (arith, le-max_left (depth_of t) (greatest_depth ts))) (written instance t d h.0))
+      (items-more ds (suc (greatest_depth ts)) most (omega (arith, le-max_right (depth_of t) (greatest_depth ts))) (all_written instance ts ds h.1))

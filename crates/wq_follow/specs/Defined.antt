@@ -1,9 +1,9 @@
 -- The outcome of reading the object of a trigger in the code, in which memory may run out. It is
 -- this server's own.
 use Rattle.std.specs.Prelude.{◌≡◌, Result, Ok, Err}
-use Rattle.serde_json.specs.View.{view as data_of}
 use Rattle.wq_query.specs.Query.{asked_of}
 use Rattle.wq_follow.specs.Definition.{DefinitionData, ShapeData}
+use Rattle.wq_follow.specs.Kept.{data_in}
 use Rattle.wq_follow.specs.Started.{input_data}
 use Rattle.wq_follow.specs.declared.definition.Definition.{Definition}
 use Rattle.wq_follow.specs.declared.fault.TriggerFault.{TriggerFault}
@@ -25,7 +25,7 @@ abbrev pub definition_data : Definition → DefinitionData
 definition_data d = record {
   shape = shape_data d.shape;
   query = asked_of d.query;
-  object = data_of d.object;
+  object = data_in d.object;
 }
 
 -- the code read this of a command, or memory ran out

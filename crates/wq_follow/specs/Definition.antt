@@ -3,14 +3,13 @@
 -- are this server's own.
 use Rattle.std.specs.Prelude.{ℕ, zero, suc, Bool, true, false, not, ◌&&◌, ◌||◌, ◌==◌, nat_le}
 use Rattle.std.specs.Prelude.{List, [], ◌∷◌, length, codes, if◌then◌else◌}
-use Rattle.std.specs.Prelude.{Option, Some, None, is_some, option_map, unwrap_or, Result, Ok}
+use Rattle.std.specs.Prelude.{Option, Some, None, is_some, option_map, Result, Ok}
 use Rattle.std.specs.List.{list_any}
 use Rattle.std.specs.Option.{option_and_then}
 use Rattle.std.specs.Str.{bytes_eq}
 use Rattle.serde_json.specs.Data.{Data, number, unsigned, string, array, object}
 use Rattle.serde_json.specs.Data.{Items, no_items, item, Members, no_members, put as with_member}
 use Rattle.serde_json.specs.Find.{get}
-use Rattle.serde_json.specs.Read.{read}
 use Rattle.wq_base.specs.Fault.{or_fault, or_its_fault, or_own_fault, unless_fault, with_first}
 use Rattle.wq_base.specs.Limit.{max_number}
 use Rattle.wq_clock.specs.Instance.{InstanceData}
@@ -72,10 +71,6 @@ with_program texts = if names_program texts then Some texts else None
 abbrev pub command_of : Option Data → Option (List (List ℕ))
 command_of (Some (array ds)) = option_and_then with_program (arguments_in ds)
 command_of _ = None
-
--- the command of a text, which is empty if the text says none
-abbrev pub command_in : List ℕ → List (List ℕ)
-command_in text = unwrap_or (command_of (read text)) []
 
 -- the input that a word names
 abbrev pub input_named : List ℕ → Option InputData

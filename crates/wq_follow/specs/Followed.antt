@@ -1,8 +1,8 @@
 -- The meaning of the types `Follower`, `Subscription` and `Trigger`.
 -- It is this server's own.
-use Rattle.serde_json.specs.View.{view as data_of}
 use Rattle.wq_query.specs.Query.{planned}
 use Rattle.wq_follow.specs.Batch.{FollowerData}
+use Rattle.wq_follow.specs.Kept.{data_in}
 use Rattle.wq_follow.specs.Round.{TriggerData}
 use Rattle.wq_follow.specs.Started.{order_data}
 use Rattle.wq_follow.specs.Subscription.{SubscriptionData}
@@ -28,6 +28,6 @@ abbrev pub trigger_data : Trigger → TriggerData
 trigger_data t = record {
   order = order_data t.order;
   follower = follower_data t.follower;
-  object = data_of (t.object).value;
+  object = data_in t.object;
   running = t.running;
 }

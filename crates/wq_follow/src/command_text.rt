@@ -3,8 +3,8 @@ ghost use Rattle.std.specs.Prelude.{◌≡◌, IfOk, option_map};
 ghost use Rattle.serde_json.specs.View.{view as data_of};
 ghost use Rattle.wq_follow.specs.Definition.{command_of};
 
+use crate::object_text::value_text;
 use crate::shape::words;
-use crate::value_text::value_text;
 use serde_json::Value;
 use std::alloc::{AllocError, Global};
 use std::marker::Model;
@@ -20,7 +20,8 @@ pub struct CommandText {
 impl Model for CommandText {
     ghost use Rattle.std.specs.Prelude.{◌≡◌, ℕ, List, Some};
     ghost use Rattle.serde_json.specs.Read.{read};
-    ghost use Rattle.wq_follow.specs.Definition.{command_of, command_in};
+    ghost use Rattle.wq_follow.specs.Definition.{command_of};
+    ghost use Rattle.wq_follow.specs.Kept.{command_in};
 
     ghost Value = { List (List ℕ) };
 

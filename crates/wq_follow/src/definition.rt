@@ -1,19 +1,17 @@
 //! Reading the object of a trigger.
-ghost use Rattle.std.specs.Prelude.{◌≡◌, false, map, IfOk, OnOk, Some};
+ghost use Rattle.std.specs.Prelude.{◌≡◌, false, map, IfOk, OnOk};
 ghost use Rattle.serde_json.specs.Data.{no_members};
 ghost use Rattle.serde_json.specs.Find.{get};
-ghost use Rattle.serde_json.specs.Read.{read};
 ghost use Rattle.serde_json.specs.View.{members_view, view as data_of};
 ghost use Rattle.serde_json.specs.Written.{has_float};
 ghost use Rattle.wq_follow.specs.Definition.{known_part, with_key, with_keys};
 
 use crate::fault::TriggerFault;
 use crate::law::{definitions_are_shallow, definitions_have_no_float};
+use crate::object_text::Object;
 use crate::shape::{Shape, has_bad_length, read_shape};
-use crate::value_text::value_text;
 use serde_json::{Map, Value, put};
 use std::alloc::{AllocError, Global};
-use wq_base::Text;
 use wq_clock::Instance;
 use wq_query::{Query, QueryFault};
 
@@ -23,11 +21,7 @@ pub struct Definition {
     pub(crate) shape: Shape,
     pub(crate) query: Query,
     /// The object with the known keys.
-    pub(crate) object: Value,
-    /// Its text, which is exact since it has no float.
-    pub(crate) text: Text,
-    ghost plain: { has_float (data_of object) ≡ false },
-    ghost written: { read text ≡ Some (data_of object) },
+    pub(crate) object: Object,
 }
 
 /// The keys that are known, in byte order.
@@ -68,8 +62,7 @@ impl Definition {
             Ok(query) => Ok(Definition {
                 shape,
                 query,
-                text: value_text(alloc, &object)?,
-                object,
+                object: Object::of(alloc, object)?,
             }),
             Err(QueryFault::NoMemory) => Err(TriggerFault::NoMemory),
             Err(fault) => Err(TriggerFault::Query(fault)),
@@ -96,7 +89,7 @@ impl Definition {
         ensures object { data_of result.now ≡ (definition_data self.now).object }
         ensures floats { has_float (data_of result.now) ≡ false }
     {
-        &self.object
+        self.object.value()
     }
 }
 

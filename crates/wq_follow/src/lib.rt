@@ -9,12 +9,12 @@ mod fault;
 mod follower;
 mod launch;
 mod law;
+mod object_text;
 mod order;
 mod shape;
 mod starting;
 mod subscription;
 mod trigger;
-mod value_text;
 
 pub use batch::Batch;
 pub use command_text::CommandText;

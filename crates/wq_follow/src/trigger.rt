@@ -1,6 +1,5 @@
 //! A command that is started when files changed: its making, and its turn in a round.
-ghost use Rattle.std.specs.Prelude.{◌≡◌, IfOk, IfSome, Some, false};
-ghost use Rattle.serde_json.specs.Read.{read};
+ghost use Rattle.std.specs.Prelude.{◌≡◌, IfOk, IfSome, false};
 ghost use Rattle.serde_json.specs.View.{view as data_of};
 ghost use Rattle.serde_json.specs.Written.{has_float};
 ghost use Rattle.wq_query.specs.Ahead.{IsAheadAt};
@@ -10,11 +9,11 @@ ghost use Rattle.wq_follow.specs.Started.{IsClocked};
 use crate::definition::Definition;
 use crate::follower::Follower;
 use crate::launch::Launch;
+use crate::object_text::ObjectText;
 use crate::order::Order;
 use crate::starting::start_of;
 use serde_json::Value;
 use std::alloc::{AllocError, Global};
-use std::snapshot::Snapshot;
 use std::sync::Arc;
 use wq_base::Text;
 use wq_clock::{Bound, Instance};
@@ -27,13 +26,9 @@ use wq_view::View;
 pub struct Trigger {
     pub(crate) order: Order,
     pub(crate) follower: Follower,
-    /// The text of the object of its definition, with the known keys.
-    pub(crate) text: Text,
-    /// That object, as contracts see it. A snapshot takes no memory.
-    pub(crate) object: Snapshot<Value>,
+    /// The object of its definition, with the known keys.
+    pub(crate) object: ObjectText,
     pub(crate) running: Option<u32>,
-    ghost plain: { has_float (data_of object.value) ≡ false },
-    ghost written: { read text ≡ Some (data_of object.value) },
     ghost clocked: { IsClocked (planned follower.plan).bound },
 }
 
@@ -70,8 +65,7 @@ impl Trigger {
         Trigger {
             order: Order::of(definition.shape, root),
             follower: Follower::new(plan),
-            text: definition.text,
-            object: Snapshot::of(&definition.object),
+            object: definition.object.into_text(),
             running,
         }
     }
@@ -88,10 +82,7 @@ impl Trigger {
         ensures object { IfOk result (λ object. data_of object ≡ (trigger_data self.now).object) }
         ensures floats { IfOk result (λ object. has_float (data_of object) ≡ false) }
     {
-        match Value::from_str(alloc, self.text.as_str()) {
-            Ok(object) => Ok(object),
-            Err(_) => Err(AllocError),
-        }
+        self.object.read(alloc)
     }
 
     /// The run of its command, if that was started and no round found that it ended.

@@ -1,4 +1,4 @@
--- The part that is kept has no float, and its text reads as it again, by the laws.
+-- The part that is kept has no float and is not deep, by the laws.
 use Rattle.std.proofs.Common.{◌≡◌, false, codes, rules}
 use Rattle.serde_json.specs.Find.{get}
 use Rattle.serde_json.specs.View.{view as data_of}
@@ -9,18 +9,18 @@ use Rattle.wq_follow.specs.Definition.{has_bad_length}
 use Rattle.wq_follow.proofs.Plain.{plain_read, shallow_read}
 use Rattle.wq_follow.proofs.definition.Definition.read.Goals as goal
 
-pub invariant_of-result-clause-plain : goal.invariant_of-result-clause-plain
-invariant_of-result-clause-plain c =
+pub of-requires-clause-floats : goal.of-requires-clause-floats
+of-requires-clause-floats c =
     let d = data_of c.args.object.now in
     let fits : has_bad_length (get (codes "name") d) ≡ false = search rules in
     plain_read c.definitions_have_no_float.ensures (instance_data c.args.instance.now) d
     (data_of c.in_ok-object.object) (shape_data c.in_ok-shape.shape) (asked_of c.in-Ok.query)
     fits c.in_ok-shape.ensures c.in_ok-object.ensures c.in-Ok.ensures
 
-pub invariant_of-result-clause-written : goal.invariant_of-result-clause-written
-invariant_of-result-clause-written c =
+pub of-requires-clause-depth : goal.of-requires-clause-depth
+of-requires-clause-depth c =
     let d = data_of c.args.object.now in
     let fits : has_bad_length (get (codes "name") d) ≡ false = search rules in
-    c.in_ok-text.ensures (shallow_read c.definitions_are_shallow.ensures (instance_data c.args.instance.now) d
+    shallow_read c.definitions_are_shallow.ensures (instance_data c.args.instance.now) d
     (data_of c.in_ok-object.object) (shape_data c.in_ok-shape.shape) (asked_of c.in-Ok.query)
-    fits c.in_ok-shape.ensures c.in_ok-object.ensures c.in-Ok.ensures)
+    fits c.in_ok-shape.ensures c.in_ok-object.ensures c.in-Ok.ensures
