@@ -9,6 +9,7 @@ from typing import Callable, List, Tuple
 import built
 from client import same
 from scene import Scene, said, wrong
+from wqprogram.limits import MAX_LINE
 
 LONG = "a" * 256
 TOO_LONG = f'the pattern has 256 bytes, and at most 255 may be: "{LONG[:59]}..'
@@ -139,6 +140,17 @@ def check_no_places(tally: built.Tally, room: Path) -> None:
             client.ask("watch", root)
             found, _ = relayed(scene, line, lambda count: count != last or bool(client.ask("watch-del", root)))
             same(tally, f"a root that goes after {last} of {lines} lines", found, built.Ended(reply, b"", 3))
+        client.ask("watch", root)
+        check_longest(tally, scene, root)
+
+
+def check_longest(tally: built.Tally, scene: Scene, root: str) -> None:
+    """A question may not be longer than a line, since the session would end."""
+    start, end = f'["query","{root}",{{"expression":["allof"', ',["sufix"]]}]'
+    terms = ',"true"' * ((MAX_LINE - len(start) - len(end)) // 7)
+    found = scene.call(["ask", "-"], f'{start}{terms}{end}\n["version"]\n'.encode())
+    replies = b'{"error":"E24: unknown term","version":"wq-1"}\n{"version":"wq-1"}\n'
+    same(tally, "the longest line", found, built.Ended(replies, b"", 3))
 
 
 def check_few_questions(tally: built.Tally, room: Path) -> None:
