@@ -117,7 +117,11 @@ where
     }
 
     /// What the programs keep at the view, each in its place. If memory runs out, what is missing is found in the round.
-    fn found(&self, asks: Vec<Option<(Arc<StoredProgram>, Bound)>>, view: &View) -> Vec<Option<Ahead>>
+    fn found(
+        &self,
+        asks: Vec<Option<(Arc<StoredProgram>, Bound)>>,
+        view: &View,
+    ) -> Vec<Option<Ahead>>
         ensures { AreAheadAt view.now.records result.items }
     {
         let mut ahead = Vec::new(self.alloc);

@@ -67,7 +67,10 @@ pub(crate) struct Key {
 }
 
 /// The program that is kept under a key, which is then the one that was asked for last.
-pub(crate) fn look_up(kept: &mut LruCache<Key, Arc<StoredProgram>>, key: &Key) -> Option<Arc<StoredProgram>>
+pub(crate) fn look_up(
+    kept: &mut LruCache<Key, Arc<StoredProgram>>,
+    key: &Key,
+) -> Option<Arc<StoredProgram>>
     ensures found { (cache : CacheData) → KeepsMeanings cache kept.old.entries
         → IfSome result (λ program. StandsFor (instance_at cache key.now.root)
         (string_bytes key.now.text) program.value) }

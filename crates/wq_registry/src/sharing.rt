@@ -6,10 +6,7 @@ use std::sync::Arc;
 use wq_verify::StoredProgram;
 
 /// A program that can be shared.
-pub(crate) fn share(
-    alloc: Global,
-    program: StoredProgram,
-) -> Result<Arc<StoredProgram>, AllocError>
+pub(crate) fn share(alloc: Global, program: StoredProgram) -> Result<Arc<StoredProgram>, AllocError>
     ensures { IfOk result (λ shared. shared.value ≡ program) }
 {
     match Arc::new(alloc, program) {

@@ -23,6 +23,8 @@ pub(crate) fn most_handles(rt: &HostRuntime) -> usize {
 
 /// The first number in the row of open files: the limit that holds. The second one is how far it may be raised.
 fn handles_in(table: &str) -> Option<usize> {
-    let row = table.lines().find(|line| line.starts_with("Max open files"))?;
+    let row = table
+        .lines()
+        .find(|line| line.starts_with("Max open files"))?;
     row.split_ascii_whitespace().nth(3)?.parse().ok()
 }
