@@ -114,22 +114,22 @@ pub shallow_command : (d : Data) (texts : List (List ℕ)) → command_of (Some 
 shallow_command d texts is = omega (arith, plain-depth d 1 (plain_command 0 (Some d) texts is))
 
 -- the text of such a value says the command
-said_command : (d : Data) (texts : List (List ℕ)) (kept : List ℕ) → command_of (Some d) ≡ Some texts
+said_command : (d : Data) (texts : List (List ℕ)) (kept : List ℕ) → Some texts ≡ command_of (Some d)
     → (depth d ≤ text.max_depth → text.read kept ≡ Some d) → command_of (text.read kept) ≡ Some texts
-said_command d texts kept is reads = ap command_of (reads (shallow_command d texts is)) ∙ is
+said_command d texts kept is reads = ap command_of (reads (shallow_command d texts (sym is))) ∙ sym is
 
 -- so the text is that of a command
-pub kept_command : (d : Data) (texts : List (List ℕ)) (kept : List ℕ) → command_of (Some d) ≡ Some texts
+pub kept_command : (d : Data) (texts : List (List ℕ)) (kept : List ℕ) → Some texts ≡ command_of (Some d)
     → (depth d ≤ text.max_depth → text.read kept ≡ Some d) → command_of (text.read kept) ≡ Some (command_in kept)
 kept_command d texts kept is reads =
     let said = said_command d texts kept is reads in
     said ∙ ap (λ o. Some (unwrap_or o [])) (sym said)
 
 -- which is the one that the value says
-pub kept_words : (d : Data) (texts : List (List ℕ)) (kept : List ℕ) → command_of (Some d) ≡ Some texts
+pub kept_words : (d : Data) (texts : List (List ℕ)) (kept : List ℕ) → Some texts ≡ command_of (Some d)
     → (depth d ≤ text.max_depth → text.read kept ≡ Some d) → Some (command_in kept) ≡ command_of (Some d)
 kept_words d texts kept is reads =
-    sym (kept_command d texts kept is reads) ∙ said_command d texts kept is reads ∙ sym is
+    sym (kept_command d texts kept is reads) ∙ said_command d texts kept is reads ∙ is
 
 -- the name of a field
 plain_field : (n : ℕ) (d : Data) (field : Field) → field_of d ≡ Some field → is_plain d n ≡ true

@@ -32,6 +32,7 @@ impl Model for CommandText {
 
 impl CommandText {
     /// The command that a value says: a list of texts, of which the first names the program.
+    #[tactic(auto, using(crate::proofs::Plain::kept_command, crate::proofs::Plain::kept_words))]
     pub(crate) fn read(
         alloc: Global,
         value: Option<&Value>,
@@ -42,15 +43,16 @@ impl CommandText {
         let Some(value) = value else {
             return Ok(None);
         };
-        if words(alloc, Some(value))?.is_none() {
+        let Some(_) = words(alloc, Some(value))? else {
             return Ok(None);
-        }
+        };
         Ok(Some(CommandText {
             text: value_text(alloc, value)?,
         }))
     }
 
     /// The words, which are read of the text.
+    #[tactic(auto, using(crate::proofs::KeptTexts::words_in))]
     pub(crate) fn words(&self, alloc: Global) -> Result<Table<Text>, AllocError>
         ensures { IfOk result (λ words. words ≡ self.now) }
     {
