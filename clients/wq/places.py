@@ -116,7 +116,7 @@ class Places:
             from .questions import WRONG_FLAG  # few write one
             command = ["query", self.places[0].root, {"expression": user_expression(text), **WRONG_FLAG.refused}]
             found = self.server.reply(command)
-            if not found["error"].startswith(WRONG_FLAG.error):
+            if not found.get("error", WRONG_FLAG.error).startswith(WRONG_FLAG.error):
                 self.server.checked(command, found)
 
     def require_known(self) -> None:
