@@ -1,5 +1,5 @@
 -- The answer under a lane's lock is the answer of some crawler.
-use Rattle.std.proofs.Common.{◌≡◌, ℕ, pos, List, Option, Some, None, Result, Ok, Err, IfOk, IsTrue, MatchResult, true, inl, inr, refl, sym, subst}
+use Rattle.std.proofs.Common.{◌≡◌, ℕ, pos, List, Option, Some, None, Result, Ok, Err, IfOk, IsTrue, MatchResult, true, false, Bool, [], inl, inr, refl, sym, subst}
 use Rattle.wq_live.specs.Event.{number_of, passes_over}
 use Rattle.wq_live.specs.declared.event.RootEvent.{RootEvent}
 use Rattle.wq_view.specs.History.{last_stats}
@@ -9,8 +9,8 @@ use Rattle.wq_crawl.specs.declared.fault.CrawlFault.TheVariants.{NoMemory}
 use Rattle.wq_crawl.specs.declared.lane.LastCrawl.{LastCrawl}
 use Rattle.wq_crawl.specs.Crawl.{ListerData, crawler_at, tells}
 use Rattle.wq_crawl.specs.Publish.{EndsRoot}
-use Rattle.wq_crawl.specs.Shared.{CrawledBetween, CrawledOnce, SharesLast, told_in}
-use Rattle.wq_crawl.specs.Roots.{RootsGive, ending, passing}
+use Rattle.wq_crawl.specs.Shared.{CrawledBetween, CrawledOnce, GlancedBetween, SharesLast, made_in, told_in}
+use Rattle.wq_crawl.specs.Roots.{GlanceAt, RootsGive, ending, passing}
 
 -- a lister that shows nothing
 abbrev blind : ListerData
@@ -61,6 +61,30 @@ pub once_gives : (text : List ℕ) (asked : ℕ) (last : Option LastCrawl) (befo
 once_gives text asked last before after result (inl (answer, is, crawled, whole)) =
     subst (λ r. RootsGive None (passing text) r None) (sym is) (crawled_gives text before after answer crawled whole)
 once_gives text asked last before after result (inr (same, shares)) = shared_gives text asked last result shares
+
+-- no glance was made
+pub no_glance : (text : List ℕ) → GlanceAt text (Ok false)
+no_glance text = (crawler_at [] blind, crawler_at [] blind, inl (refl, refl))
+
+-- a glance for which memory ran out: it is as if it had for the pass
+lacking_glance : (text : List ℕ) (events : List RootEvent) (number : ℕ) → number_of text events ≡ Some number → GlanceAt text (Err NoMemory)
+lacking_glance text events number shown = (
+  crawler_at events blind,
+  crawler_at events blind,
+  inr (number, Err NoMemory, shown, refl, (refl, inr (same_again number events, (tt, tt), inr (refl, (λ wants. wants.0.1 refl))))),
+)
+
+made_gives : (text : List ℕ) (before after : ListerData) (answer : Result (Option (ℕ × List RootEvent)) CrawlFault) → CrawledBetween text before answer after → GlanceAt text (made_in answer)
+made_gives text before after (Ok None) crawled = no_glance text
+made_gives text before after (Ok (Some (number, told))) (began, events, from, shown, crawled) =
+    (crawler_at events began, crawler_at told after, inr (number, Ok told, shown, refl, crawled))
+made_gives text before after (Err fault) (began, events, number, from, shown, crawled) =
+    (crawler_at events began, crawler_at events after, inr (number, Err fault, shown, refl, crawled))
+
+pub glanced_gives : (text : List ℕ) (before after : ListerData) (result : Result Bool CrawlFault) → GlancedBetween text before result after → GlanceAt text result
+glanced_gives text before after result (inl (answer, is, crawled)) = subst (GlanceAt text) (sym is) (made_gives text before after answer crawled)
+glanced_gives text before after result (inr (same, inl is)) = subst (GlanceAt text) (sym is) (no_glance text)
+glanced_gives text before after result (inr (same, inr (events, number, shown, is))) = subst (GlanceAt text) (sym is) (lacking_glance text events number shown)
 
 -- a root that was ended
 pub ended_gives : (number : ℕ) (events : List RootEvent) (result : Result (List RootEvent) CrawlFault) → MatchResult result (λ told. EndsRoot events number told) (λ fault. fault ≡ NoMemory)

@@ -114,12 +114,14 @@ made_in (Ok (Some it)) = Ok true
 made_in (Err fault) = Err fault
 
 -- a glance was made at a root: it, or a part of it, was crawled. Or there was no glance, since there
--- is nothing to look at, or memory ran out for the present list
+-- is nothing to look at; or since memory ran out for the present list, which shows the root
 abbrev pub GlancedBetween : List ℕ → ListerData → Result Bool CrawlFault → ListerData → Type 0
 GlancedBetween text before result after =
     ((answer : Result (Option (ℕ × List RootEvent)) CrawlFault) × (result ≡ made_in answer)
     × CrawledBetween text before answer after)
-    ⊎ ((after ≡ before) × ((result ≡ Ok false) ⊎ (result ≡ Err NoMemory)))
+    ⊎ ((after ≡ before) × ((result ≡ Ok false)
+    ⊎ ((events : List RootEvent) × (number : ℕ) × (number_of text events ≡ Some number)
+    × (result ≡ Err NoMemory))))
 
 -- a lane watched a root by a listing that it began after this state of its lister
 abbrev pub WatchedBetween : List ℕ → ListerData → Result (List RootEvent) CrawlFault → ListerData

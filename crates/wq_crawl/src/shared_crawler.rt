@@ -2,7 +2,7 @@
 //! other, and the list of one also serves those that asked before it began.
 ghost use Rattle.std.specs.Prelude.{◌≡◌, None};
 ghost use Rattle.wq_crawl.specs.Crawl.{tells};
-ghost use Rattle.wq_crawl.specs.Roots.{RootsGive, ending, passing, showing};
+ghost use Rattle.wq_crawl.specs.Roots.{GlanceAt, RootsGive, SayIfShown, ending, passing, showing};
 
 use crate::begun::{Asked, Begun, Counts};
 use crate::fault::CrawlFault;
@@ -59,7 +59,9 @@ impl<N: Named, R: Wait + Drop, T: Tree + Drop, S: Seconds + Drop> SharedCrawler<
 
     /// Crawls the root of this text for nobody who waits, and says whether it is shown. A crawl that began after somebody
     /// asked at an earlier moment serves too.
-    pub fn crawl_since(&self, rt: &R, asked: Asked, root: &str) -> Result<bool, CrawlFault> {
+    pub fn crawl_since(&self, rt: &R, asked: Asked, root: &str) -> Result<bool, CrawlFault>
+        ensures { SayIfShown root.now result }
+    {
         let place = self.lanes.come(rt, root);
         let at = self.lanes.at(place);
         let told = crawl_in(&self.begun, &self.shared, &at.lane, rt, asked, root);
@@ -68,7 +70,9 @@ impl<N: Named, R: Wait + Drop, T: Tree + Drop, S: Seconds + Drop> SharedCrawler<
     }
 
     /// Crawls the root of this text as [`SharedCrawler::crawl_since`] does, and as soon as for a client.
-    pub fn crawl_soon(&self, rt: &R, asked: Asked, root: &str) -> Result<bool, CrawlFault> {
+    pub fn crawl_soon(&self, rt: &R, asked: Asked, root: &str) -> Result<bool, CrawlFault>
+        ensures { SayIfShown root.now result }
+    {
         Ok(self.crawl_for_client(rt, asked, root)?.is_some())
     }
 
@@ -92,14 +96,16 @@ impl<N: Named, R: Wait + Drop, T: Tree + Drop, S: Seconds + Drop> SharedCrawler<
 
     /// Crawls the root of this text by a glance that looks so far, and returns whether it did. It does nothing if a client
     /// waits for a crawl of the root. No crawl for a client is left out for it.
-    pub fn glance(&self, rt: &R, root: &str, reach: Reach) -> Result<bool, CrawlFault> {
+    pub fn glance(&self, rt: &R, root: &str, reach: Reach) -> Result<bool, CrawlFault>
+        ensures { GlanceAt root.now result }
+    {
         let place = self.lanes.come(rt, root);
         let at = self.lanes.at(place);
         // The crawl for a client brings all changes.
         let made = if at.callers.is_any() {
             Ok(false)
         } else {
-            at.lane.lock(rt).glance(&self.shared, rt, root, reach)
+            glance_in(&self.shared, &at.lane, rt, root, reach)
         };
         self.lanes.go(rt, place);
         made
@@ -181,6 +187,24 @@ where
     ensures { RootsGive None (passing root.now) result None }
 {
     lane.lock(rt).crawl(begun, shared, rt, asked, root)
+}
+
+/// Makes a glance at a root, in a lane that the thread waits for.
+fn glance_in<N, R, T, S>(
+    shared: &SharedPublisher<N, R>,
+    lane: &Mutex<Lane<T, S>>,
+    rt: &R,
+    root: &str,
+    reach: Reach,
+) -> Result<bool, CrawlFault>
+where
+    N: Named,
+    R: Wait + Drop,
+    T: Tree + Drop,
+    S: Seconds + Drop,
+    ensures { GlanceAt root.now result }
+{
+    lane.lock(rt).glance(shared, rt, root, reach)
 }
 
 /// Watches a root, in a lane that the thread waits for.
