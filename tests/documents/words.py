@@ -18,7 +18,7 @@ MOST = {
     "docs/PROGRAMS.md": 3250,
     "docs/PROOFS.md": 2200,
     "docs/PROTOCOL.md": 5000,
-    "docs/REFERENCE.md": 2450,
+    "docs/REFERENCE.md": 2500,
     "docs/RECIPES.md": 1400,
     "docs/SCRIPTS.md": 1100,
     "docs/SECURITY.md": 2200,
