@@ -23,7 +23,7 @@ use Rattle.wq_term.specs.Expr.{always, depth_of}
 use Rattle.wq_term.specs.Limit.{max_depth}
 use Rattle.wq_follow.specs.Start.{InputData}
 use Rattle.wq_follow.specs.Definition.{DefinitionData, ShapeData, argument_of, arguments_in, command_of, has_bad_length, has_left_out_trigger_key, input_of, is_text_or_absent, defines, known_part, limit_of, list_input, shape_of, trigger_name_of, with_key, with_program}
-use Rattle.wq_follow.specs.Kept.{command_in, data_in}
+use Rattle.wq_follow.specs.Kept.{command_in}
 use Rattle.wq_follow.specs.Plain.{DefinitionsAreShallow, DefinitionsHaveNoFloat}
 use Rattle.wq_follow.specs.declared.fault.TriggerFault.TheVariants.{BadName, BadShape, Query}
 use Rattle.wq_follow.proofs.PlainExpressions.{written}
