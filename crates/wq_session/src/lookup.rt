@@ -137,7 +137,6 @@ impl Lookup {
 }
 
 /// A program in the form in which it is kept. There is none if memory runs out.
-#[tactic(auto, using(crate::proofs::Programs::kept_answers))]
 fn kept_program(alloc: Global, program: Option<Arc<StoredProgram>>) -> Option<Arc<StoredProgram>>
     ensures { (t : ExprData) → IfSome program (λ program. AnswersWithin program.value t)
         → IfSome result (λ kept. AnswersWithin kept.value t) }
