@@ -33,7 +33,6 @@ QUOTES = [
     Quote("docs/SERVER.md", "At the default interval {} was measured for 100,000 files", "| idle | .. | {} | .. |"),
     Quote("docs/SERVER.md", "| one view, after a scan that found nothing new | {} |",
           "| memory of a view, in bytes an entry, with names of 33 bytes | {} | .. |"),
-    Quote("docs/SECURITY.md", "| one that keeps 256 programs | | {} until they are deleted |", "| 256 programs of a mebibyte keep {} | .. |"),
     Quote("docs/REFERENCE.md", "of `{\"\":0},` in a list: .. s and {} |", "| .. | {} for `{\"\":0},` | .. |"),
 ]
 # How many of the first unit of its kind each unit is.

@@ -6,6 +6,8 @@ use Rattle.serde_json.proofs.value.Value.TheLaws.TheKnot.{crosses as values}
 use Rattle.wq_base.proofs.table.Table.TheSendSync as Table
 use Rattle.wq_base.proofs.text.Text.TheSendSync as Text
 use Rattle.wq_clock.proofs.bound.Bound.TheSendSync as Bound
+use Rattle.wq_follow.proofs.command_text.CommandText.TheSendSync as CommandText
+use Rattle.wq_follow.proofs.object_text.ObjectText.TheSendSync as ObjectText
 use Rattle.wq_follow.specs.contracts.trigger.Trigger.{the_row}
 use Rattle.wq_glob.proofs.pattern.Pattern.TheSendSync as Pattern
 use Rattle.wq_query.proofs.field.Field.TheSendSync as Field
@@ -20,6 +22,8 @@ trigger_send = search (
   Table.the_send,
   Text.the_send,
   Bound.the_send,
+  CommandText.the_send,
+  ObjectText.the_send,
   Field.the_send,
   Pattern.the_send,
   values,
