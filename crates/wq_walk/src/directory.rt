@@ -7,8 +7,13 @@ ghost use Rattle.wq_walk.specs.Walk.{fresh};
 
 use crate::names::{Names, Place};
 use crate::new_names::NewNames;
+use crate::part::Part;
+use crate::path::TreePath;
 use std::alloc::{AllocError, Global};
-use wq_view::SharedBytes;
+use wq_view::{MAX_NAME, SharedBytes, is_valid_name};
+
+/// The greatest number of bytes of an entry's name on Linux.
+const MOST_OF_ENTRY: usize = 255;
 
 /// A directory with its names.
 #[derive(Drop)]
@@ -84,6 +89,55 @@ impl Directory {
             Some(bytes) => Ok(bytes),
             None => SharedBytes::from_slice(alloc, name),
         }
+    }
+
+    /// How many of the names that the walk has not looked at yet are in a part, and are such that a pass takes them. The
+    /// root's path has so many bytes.
+    pub(crate) fn count_in(
+        &self,
+        alloc: Global,
+        root_len: usize,
+        part: Part<'_>,
+    ) -> Result<usize, AllocError> {
+        let mut path = TreePath::new(alloc, root_len);
+        if self.are_valid(root_len) && self.are_in(&mut path, part)? {
+            return Ok(self.names.len());
+        }
+        let mut count = 0usize;
+        for place in self.names.places() {
+            path.set(&self.path, self.names.at(*place))?;
+            if part.has(path.name()) && is_valid_name(path.name()) {
+                count = count.saturating_add(1);
+            }
+        }
+        Ok(count)
+    }
+
+    /// Whether a pass surely takes each of its names: they are in UTF-8 and short enough.
+    fn are_valid(&self, root_len: usize) -> bool {
+        let most = self.below(root_len).len().saturating_add(MOST_OF_ENTRY);
+        most <= MAX_NAME && self.names.are_text()
+    }
+
+    /// Whether all names that the walk has not looked at yet are in a part. They are if the first one and the last one
+    /// are. The path is used for both.
+    fn are_in(&self, path: &mut TreePath, part: Part<'_>) -> Result<bool, AllocError> {
+        let places = self.names.places();
+        Ok(self.is_in(path, part, places.first())? && self.is_in(path, part, places.last())?)
+    }
+
+    /// Whether the name at a place, if there is one, is in a part.
+    fn is_in(
+        &self,
+        path: &mut TreePath,
+        part: Part<'_>,
+        place: Option<&Place>,
+    ) -> Result<bool, AllocError> {
+        let Some(place) = place else {
+            return Ok(true);
+        };
+        path.set(&self.path, self.names.at(*place))?;
+        Ok(part.has(path.name()))
     }
 
     /// The name at a place.

@@ -33,7 +33,7 @@ pub trait Disk {
 
     /// The names of all entries in the directory of this path, each once, or nothing if it cannot be read. If a path
     /// ends in a slash, the disk may follow a link there. A path without that slash is not read if it ends in a link.
-    fn names_in(&self, block: &mut Block, path: &str) -> Result<Option<Names>, TreeFault>
+    fn names_in(&self, block: &mut Block<'_>, path: &str) -> Result<Option<Names>, TreeFault>
         ensures told { IfOk result (λ names. has self.now path.now (option_map names_given names)) }
         ensures entries { IfOk result (λ names. IfSome names AllAreLeft) }
         ensures fault { IfErr result (IsFailure (fails self.now)) };
@@ -111,7 +111,7 @@ impl Disk for FileDisk {
 
     ghost fails = { λ _. fails_here };
 
-    fn names_in(&self, block: &mut Block, path: &str) -> Result<Option<Names>, TreeFault> {
+    fn names_in(&self, block: &mut Block<'_>, path: &str) -> Result<Option<Names>, TreeFault> {
         names_in(&self.files, block, self.from_here(path))
     }
 

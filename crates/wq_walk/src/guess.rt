@@ -6,6 +6,7 @@ use crate::disk::Disk;
 use crate::names::{Block, Names};
 use crate::path::TreePath;
 use crate::piece::MOST_PIECES;
+use crate::progress::Progress;
 use std::alloc::{AllocError, Global};
 use wq_crawl::TreeFault;
 
@@ -20,13 +21,14 @@ const ONE_IN: usize = 16;
 /// its directories. The names rise. The root's path ends in a slash.
 pub(crate) fn names_at_top<D: Disk>(
     disk: &D,
+    progress: &Progress<'_>,
     alloc: Global,
     root: &str,
 ) -> Result<Vec<Vec<u8>>, TreeFault>
     ensures { IfErr result
         (IsRootFault (D.says disk.now) (D.has disk.now) (D.fails disk.now) root.now) }
 {
-    let mut block = Block::new(alloc)?;
+    let mut block = Block::new(alloc, progress)?;
     let Some(top) = disk.names_in(&mut block, root)? else {
         return Err(TreeFault::Unreadable);
     };
@@ -37,7 +39,7 @@ pub(crate) fn names_at_top<D: Disk>(
 /// rise.
 fn names_around<D: Disk>(
     disk: &D,
-    block: &mut Block,
+    block: &mut Block<'_>,
     root: &str,
     top: Names,
 ) -> Result<Vec<Vec<u8>>, AllocError> {
@@ -71,7 +73,7 @@ fn some_of(alloc: Global, names: Vec<Vec<u8>>) -> Result<Vec<Vec<u8>>, AllocErro
 /// Adds whole names of entries of the directories of these names.
 fn add_names_below<D: Disk>(
     disk: &D,
-    block: &mut Block,
+    block: &mut Block<'_>,
     root: &str,
     names: &mut Vec<Vec<u8>>,
 ) -> Result<(), AllocError> {

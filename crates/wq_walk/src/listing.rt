@@ -43,7 +43,7 @@ pub(crate) fn first_rows<T: Threads + CpuClock, D: Disk + Sync>(
         (IsUnread (D.says disk.now) (D.has disk.now) (D.fails disk.now) root.now) }
 {
     let path = with_slash(alloc, root)?;
-    let names = names_at_top(disk, alloc, &path)?;
+    let names = names_at_top(disk, progress, alloc, &path)?;
     let pieces = first_pieces(alloc, walkers, &names)?;
     rows_of(threads, walkers, progress, disk, alloc, &path, &pieces)
 }

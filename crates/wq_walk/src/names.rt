@@ -9,14 +9,17 @@ ghost use Rattle.std.specs.Ordering.{is_lt};
 ghost use Rattle.wq_walk.specs.Unseen.{HasMissed, IsCallFault};
 
 use crate::new_names::MOST_SHARED;
+use crate::progress::Progress;
 use crate::unseen::walk_fault;
 use memchr::memchr;
 use std::alloc::{AllocError, Global};
 use std::cmp::Ordering;
 use std::fs::Files;
 use std::io::{Error, ErrorKind, Read};
+use std::str;
 use std::sync::ArcSlice;
 use wq_crawl::TreeFault;
+use wq_view::{MAX_LISTING_ROWS, MAX_NAME};
 
 /// The number of bytes of names that one call asks for.
 const BLOCK: usize = 32_768;
@@ -24,17 +27,19 @@ const BLOCK: usize = 32_768;
 /// The number of bytes of a head.
 const HEAD: usize = 16;
 
-/// Memory for names that the system gives. All directories of a walk use it in turn.
+/// Memory for names that the system gives, and the walk that reads them. All directories of a walk use it in turn.
 #[derive(Drop)]
-pub struct Block {
+pub struct Block<'p> {
     bytes: Vec<u8>,
+    progress: &'p Progress<'p>,
     ghost room: { 0 < length bytes.items },
 }
 
-impl Block {
-    pub(crate) fn new(alloc: Global) -> Result<Block, AllocError> {
+impl<'p> Block<'p> {
+    pub(crate) fn new(alloc: Global, progress: &'p Progress<'p>) -> Result<Block<'p>, AllocError> {
         Ok(Block {
             bytes: vec![in alloc; 0; BLOCK]?,
+            progress,
         })
     }
 
@@ -94,6 +99,16 @@ impl Names {
         self.places.len()
     }
 
+    /// The places of the names that were not taken yet, in falling order.
+    pub(crate) fn places(&self) -> &[Place] {
+        &self.places
+    }
+
+    /// Whether all names are in UTF-8.
+    pub(crate) fn are_text(&self) -> bool {
+        str::from_utf8(&self.bytes).is_ok()
+    }
+
     /// The first name that was not taken yet.
     pub(crate) fn first(&self) -> Option<&[u8]>
         ensures none { IfNone result (self.now.places.items ≡ []) }
@@ -149,7 +164,7 @@ impl Names {
 /// follow a link there. A path without that slash is not read if it ends in a link.
 pub(crate) fn names_in<R: Files>(
     files: &R,
-    block: &mut Block,
+    block: &mut Block<'_>,
     path: &str,
 ) -> Result<Option<Names>, TreeFault>
     ensures entries { IfOk result (λ names. IfSome names (λ names.
@@ -158,13 +173,18 @@ pub(crate) fn names_in<R: Files>(
     ensures fault { IfErr result IsCallFault }
 {
     match files.open_dir(path) {
-        Ok(mut directory) => names_of(&mut directory, block),
+        Ok(mut directory) => names_of(&mut directory, block, path.len()),
         Err(error) => nothing(&error),
     }
 }
 
-/// The names that a directory gives, or nothing if it cannot be read to its end.
-fn names_of<D: Read>(directory: &mut D, block: &mut Block) -> Result<Option<Names>, TreeFault>
+/// The names that a directory gives, whose path has so many bytes, or nothing if it cannot be read to its end. Before each
+/// block of names the walk may give way. It fails as soon as the directory has more names than a listing has rows.
+fn names_of<D: Read>(
+    directory: &mut D,
+    block: &mut Block<'_>,
+    path_len: usize,
+) -> Result<Option<Names>, TreeFault>
     // If the directory tells its text, this is the text of the names:
     ensures text { IfOk result (λ names. IfSome names (λ names.
         IfSome (D.remaining directory.old) (λ text. names.bytes.items ≡ text))) }
@@ -174,16 +194,79 @@ fn names_of<D: Read>(directory: &mut D, block: &mut Block) -> Result<Option<Name
     ensures fault { IfErr result IsCallFault }
 {
     let mut text = Vec::new(block.allocator());
+    let mut read = ReadNames::none();
     for _ in 0..u64::MAX {
+        block.progress.keep_on()?;
         match directory.read(&mut block.bytes) {
             Ok(0) => return Ok(Some(Names::of_text(text)?)),
-            Ok(count) => text.extend_from_slice(&block.bytes[..count])?,
+            Ok(count) => {
+                text.extend_from_slice(&block.bytes[..count])?;
+                read.add(&block.bytes[..count]);
+                read.test(block.allocator(), &text, path_len)?;
+            }
             Err(error) if error.kind() == ErrorKind::Interrupted => {}
             Err(error) => return nothing(&error),
         }
     }
     // No directory has a longer text.
     Err(TreeFault::NoMemory)
+}
+
+/// How many names of a directory were read.
+#[derive(Drop)]
+struct ReadNames {
+    count: usize,
+    /// The number of names above which those are counted of which each gives a row.
+    most: usize,
+}
+
+impl ReadNames {
+    fn none() -> ReadNames {
+        ReadNames {
+            count: 0,
+            // The directory itself and the one above it may be there too.
+            most: MAX_LISTING_ROWS + 2,
+        }
+    }
+
+    /// Counts the names that end in these bytes.
+    fn add(&mut self, bytes: &[u8]) {
+        for byte in bytes {
+            if *byte == 0 {
+                self.count = self.count.saturating_add(1);
+            }
+        }
+    }
+
+    /// Fails if so far the text of the directory, whose path has so many bytes, has more names than a listing has rows.
+    /// A name that a pass never takes does not count.
+    fn test(&mut self, alloc: Global, text: &[u8], path_len: usize) -> Result<(), TreeFault>
+        ensures { IfErr result IsCallFault }
+    {
+        if self.count <= self.most {
+            return Ok(());
+        }
+        if rows_of(alloc, text, path_len)? > MAX_LISTING_ROWS {
+            return Err(TreeFault::TooManyRows);
+        }
+        self.most = self.count.saturating_add(self.count / 16);
+        Ok(())
+    }
+}
+
+/// How many rows the names in the text of a directory give at least, whose path has so many bytes, if no file is deleted
+/// meanwhile.
+fn rows_of(alloc: Global, text: &[u8], path_len: usize) -> Result<usize, AllocError> {
+    let places = each_once(text, places_in(alloc, text)?);
+    let mut count = 0usize;
+    for place in &places {
+        let name = text_at(text, *place);
+        // The path has one byte more than the name at the least, that of the slash after the directory.
+        if path_len.saturating_add(name.len()) < MAX_NAME && str::from_utf8(name).is_ok() {
+            count = count.saturating_add(1);
+        }
+    }
+    Ok(count)
 }
 
 /// The places of the names of entries in a text, in which byte 0 ends each name.

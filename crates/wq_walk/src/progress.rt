@@ -3,17 +3,11 @@ ghost use Rattle.std.specs.Prelude.{◌≡◌, IfErr};
 ghost use Rattle.wq_crawl.specs.declared.tree.TreeFault.TheVariants.{GaveWay, TooManyRows};
 
 use crate::piece::MOST_PIECES;
-use crate::rows::Rows;
 use std::io;
 use std::sync::atomic::{AtomicU64, AtomicUsize, Ordering};
 use std::time::Duration;
 use wq_crawl::{LeftOut, TreeFault};
 use wq_view::MAX_LISTING_ROWS;
-
-/// The number of rows of a piece that are counted at once. So no single row costs a write to memory that other
-/// threads write too. Rows are not counted before they fill a batch. So a walk may hold up to this many rows more for
-/// each piece.
-const BATCH: usize = 1024;
 
 /// Whether a walk goes on to its end.
 #[derive(Clone, Copy)]
@@ -29,8 +23,8 @@ pub(crate) enum Way<'a> {
 pub(crate) struct Progress<'a> {
     /// The place of the piece that is drawn next. If no piece is left, it is the number of all pieces, or more.
     next: AtomicUsize,
-    /// The number of rows of all pieces that were counted. Names of different pieces are different, so these are rows
-    /// of the tree.
+    /// The number of rows of all pieces, and of names that were read and not looked at yet. Names of different pieces are
+    /// different, so these are files of the tree.
     counted: AtomicUsize,
     way: Way<'a>,
     /// The number of names that are not UTF-8.
@@ -113,20 +107,22 @@ impl<'a> Progress<'a> {
         self.next.fetch_add(MOST_PIECES, Ordering::SeqCst);
     }
 
-    /// Counts the last rows of a piece, each time that they fill a batch.
+    /// Counts the names in a directory that was read, each of which gives a row when the walk looks at it.
     ///
-    /// The call fails if more rows were counted than a pass takes. The walk lists each row before it counts it. So the
-    /// call never fails for a tree that has no more rows.
-    pub(crate) fn count(&self, rows: &Rows<'_>) -> Result<(), TreeFault>
+    /// The call fails if the rows and the names that were read and not looked at are more than a pass takes. A name gives
+    /// one row at most, so the call never fails for a tree that has no more rows, unless names go meanwhile.
+    pub(crate) fn count(&self, names: usize) -> Result<(), TreeFault>
         ensures { IfErr result (λ fault. fault ≡ TooManyRows) }
     {
-        if !rows.len().is_multiple_of(BATCH) {
-            return Ok(());
-        }
-        let counted = self.counted.fetch_add(BATCH, Ordering::SeqCst);
-        if counted.saturating_add(BATCH) > MAX_LISTING_ROWS {
+        let counted = self.counted.fetch_add(names, Ordering::SeqCst);
+        if counted.saturating_add(names) > MAX_LISTING_ROWS {
             return Err(TreeFault::TooManyRows);
         }
         Ok(())
+    }
+
+    /// Counts a name no longer that was counted, since it gave no row.
+    pub(crate) fn count_less(&self) {
+        self.counted.fetch_sub(1, Ordering::SeqCst);
     }
 }

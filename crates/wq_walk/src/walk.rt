@@ -29,7 +29,7 @@ use wq_view::{Seen, SharedBytes, is_valid_name};
 #[derive(Drop)]
 pub(crate) struct Walk<'a, 'p> {
     pub(crate) alloc: Global,
-    block: Block,
+    block: Block<'p>,
     pub(crate) path: TreePath,
     /// The directories above the one in which the walk is, from the root down.
     pub(crate) above: Vec<Directory>,
@@ -47,8 +47,8 @@ pub(crate) struct Walk<'a, 'p> {
 /// be opened, the error says nothing of the directory, and the walk fails. The walk does not read directories below
 /// which no name is in the part.
 ///
-/// The walk also fails as soon as more rows of the whole tree were counted than a pass takes, and
-/// before the next name if it gives way.
+/// The walk also fails as soon as the whole tree has more rows, and names that were read and not looked at, than a pass
+/// takes. It fails before the next name, or the next block of names, if it gives way.
 pub(crate) fn rows_in<'a, D: Disk>(
     disk: &D,
     alloc: Global,
@@ -75,7 +75,7 @@ pub(crate) fn rows_in<'a, D: Disk>(
 fn top<D: Disk>(
     disk: &D,
     alloc: Global,
-    block: &mut Block,
+    block: &mut Block<'_>,
     root: &str,
 ) -> Result<Directory, TreeFault>
     ensures read { IfOk result (λ top. (names : List (List ℕ))
@@ -109,7 +109,7 @@ impl<'a, 'p> Walk<'a, 'p> {
         ensures fault { IfErr result
             (IsRootFault (D.says disk.now) (D.has disk.now) (D.fails disk.now) root.now) }
     {
-        let mut block = Block::new(alloc)?;
+        let mut block = Block::new(alloc, progress)?;
         let top = top(disk, alloc, &mut block, root)?;
         let walk = Walk {
             alloc,
@@ -119,6 +119,7 @@ impl<'a, 'p> Walk<'a, 'p> {
             rows: Rows::of(alloc, piece),
             progress,
         };
+        walk.count_names(&top)?;
         Ok((walk, top))
     }
 
@@ -211,7 +212,7 @@ impl<'a, 'p> Walk<'a, 'p> {
             return Ok(false);
         }
         let Some(stat) = stat_at(disk, &self.path)? else {
-            self.count_name();
+            self.pass_over();
             return Ok(false);
         };
         if !self.add(here, &stat)? {
@@ -220,10 +221,25 @@ impl<'a, 'p> Walk<'a, 'p> {
         Ok(reaches && stat.is_directory())
     }
 
-    /// Counts the name at the path, which no pass takes, if it is in the part and not UTF-8.
-    fn count_name(&self) {
-        if self.path.text().is_none() && self.rows.part().has(self.path.name()) {
+    /// Counts the names in a directory that was read, of those that are in the part and that a pass takes.
+    fn count_names(&self, read: &Directory) -> Result<(), TreeFault>
+        ensures { IfErr result (λ fault. is_of_device fault ≡ false) }
+    {
+        let count = read.count_in(self.alloc, self.path.root_len(), self.rows.part())?;
+        self.progress.count(count)
+    }
+
+    /// Passes over the name at the path, at which the disk cannot look. If the name is in the part and not UTF-8, it
+    /// counts as left out. Another one that is in the part counts as a row no longer.
+    fn pass_over(&self) {
+        let name = self.path.name();
+        if !self.rows.part().has(name) {
+            return;
+        }
+        if self.path.text().is_none() {
             self.progress.leave_out_name();
+        } else if is_valid_name(name) {
+            self.progress.count_less();
         }
     }
 
@@ -261,7 +277,6 @@ impl<'a, 'p> Walk<'a, 'p> {
         if !self.rows.keep(self.path.name(), stat)? && !self.add_new(here, stat)? {
             return Ok(false);
         }
-        self.progress.count(&self.rows)?;
         Ok(true)
     }
 
@@ -314,6 +329,7 @@ impl<'a, 'p> Walk<'a, 'p> {
         let counted = self.counts_directories();
         let names = names_at(disk, self.alloc, &mut self.block, &self.path, counted)?;
         let below = Directory::new(self.alloc, self.path.directory(self.alloc)?, names);
+        self.count_names(&below)?;
         let above = mem::replace(here, below);
         self.above.push(above).map_err(AllocError::from)?;
         Ok(())
@@ -364,7 +380,7 @@ pub(crate) fn stat_at<D: Disk>(disk: &D, path: &TreePath) -> Result<Option<Stat>
 fn names_at<D: Disk>(
     disk: &D,
     alloc: Global,
-    block: &mut Block,
+    block: &mut Block<'_>,
     path: &TreePath,
     counted: Option<&Progress<'_>>,
 ) -> Result<Names, TreeFault>

@@ -121,8 +121,9 @@ impl<T: Threads + Clock + Drop, D: Disk + Drop> Walker<T, D> {
         ensures disk { self.new.disk ≡ self.old.disk }
         ensures failures { self.new.failures ≡ self.old.failures }
     {
-        let (Ok(path), Ok(mut block)) = (with_slash(self.alloc, root), Block::new(self.alloc))
-        else {
+        let progress = Progress::new(Way::Keeps);
+        let path = with_slash(self.alloc, root);
+        let (Ok(path), Ok(mut block)) = (path, Block::new(self.alloc, &progress)) else {
             return;
         };
         let Ok(began) = Instant::now(&self.threads) else {
