@@ -22,6 +22,7 @@ ABOUT = """wqd {version}, a file watch server with proved answers, for Linux on 
 
 Unpack it below ~/.local, so that the commands are in ~/.local/bin:
 
+    mkdir -p ~/.local
     tar -xzf wqd-{version}-linux-x86_64.tar.gz -C ~/.local --strip-components=1
 
 Then `wq find .` lists files, `man wq` and `man wqd` say the rest, and share/doc/wqd has the changes and the licences.
@@ -38,14 +39,15 @@ def seconds() -> int:
     return int(last.stdout) if last.returncode == 0 and last.stdout.strip() else int(time.time())
 
 
-def tar_of(found: List[File], second: int) -> bytes:
-    """The files and the directories that they are in, all of root, compressed."""
+def tar_of(found: List[File], second: int, front: str = "./") -> bytes:
+    """The files and the directories that they are in, all of root, compressed. Each name begins with this front. Debian
+    has `./` there and an entry for the directory itself; tar counts that as a component of each name."""
     written = io.BytesIO()
-    above = {str(path) for file in found for path in Path(file.path).parents}
+    above = {str(path) for file in found for path in Path(file.path).parents if front or str(path) != "."}
     entries = [File(path, 0o755, b"") for path in above] + found
     with tarfile.open(fileobj=written, mode="w", format=tarfile.GNU_FORMAT) as tar:
         for entry in sorted(entries):
-            info = tarfile.TarInfo("." if entry.path == "." else "./" + entry.path)
+            info = tarfile.TarInfo("." if entry.path == "." else front + entry.path)
             info.type = tarfile.DIRTYPE if entry.path in above else tarfile.REGTYPE
             info.mode, info.size, info.mtime = entry.mode, len(entry.data), second
             info.uname = info.gname = "root"
@@ -58,7 +60,7 @@ def archive(second: int) -> File:
     home = f"wqd-{version()}"
     found = [File(f"{home}/{file.path}", file.mode, file.data) for file in files(str(PREFIX))]
     found.append(File(f"{home}/share/doc/wqd/README", 0o644, ABOUT.format(version=version()).encode()))
-    return File(f"{home}-linux-x86_64.tar.gz", 0o644, tar_of(found, second))
+    return File(f"{home}-linux-x86_64.tar.gz", 0o644, tar_of(found, second, front=""))
 
 
 def proof() -> File:

@@ -75,8 +75,11 @@ def run(words: List[str], home: Home) -> int:
     if command not in FORMS:
         from .foreign import COMMANDS
         from .vocabulary import meant
-        hint = f"; use `wq {COMMANDS[command]}`" if command in COMMANDS else meant(command, FORMS).replace('"', "")
-        raise WrongWords(f"there is no command {command}{hint}; `wq --help` says which there are")
+        is_option = command.startswith("-")
+        known = ("--help", "--version") if is_option else FORMS
+        hint = f"; use `wq {COMMANDS[command]}`" if command in COMMANDS else meant(command, known).replace('"', "")
+        kind = "option" if is_option else "command"
+        raise WrongWords(f"there is no {kind} {command}{hint}; `wq --help` says which there are")
     return function_of(command)(read(command, words[1:]), home)
 
 

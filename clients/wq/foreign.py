@@ -24,7 +24,7 @@ OF_LISTS: Hints = [
     ("use --newer", "--change-newer-than --changed-after -newer"),
     ("use --older", "--change-older-than"),
     # find
-    ("a word is a glob, such as '*.c'", "-g --glob --regex -F --fixed-strings -name -regex"),
+    ("a word is a glob, such as '*.c'", "-g --glob --regex -F --fixed-strings -name --name -regex"),
     ("a glob with a slash is for the whole name", "-p --full-path -path -wholename"),
     ("use -i with a glob", "-iname"),
     ("use -t KINDS", "-type"),

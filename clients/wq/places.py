@@ -126,6 +126,8 @@ class Places:
             if not is_pattern(word) and not has_braces(word) and not word.startswith("./") and not self.is_known(word):
                 if os.path.isabs(word):
                     raise WrongWords(f"{word} is no directory here")
+                if os.path.lexists(word):
+                    raise WrongWords(f"{word} is a file here, and names are looked for below {', '.join(self.directories)}")
                 raise WrongWords(f"{word} is no directory here; write './{word}' for a file of that name")
 
     def is_known(self, word: str) -> bool:

@@ -14,7 +14,9 @@ TERMS: Dict[str, str] = {
     **dict.fromkeys(("true", "false", "exists", "empty"), "nothing"),
     "type": 'one letter (f file, d directory, l link, b c p s D), such as ["type","f"]',
     "size": f"{RELATION}, such as [\"size\",\"gt\",1048576]",
-    "name": NAME, "iname": NAME, "match": MATCH, "imatch": MATCH, "dirname": DIRNAME, "idirname": DIRNAME,
+    "name": NAME, "match": MATCH, "dirname": DIRNAME,
+    **{own: words.replace(f'["{plain}"', f'["{own}"') for plain, own, words in (
+        ("name", "iname", NAME), ("match", "imatch", MATCH), ("dirname", "idirname", DIRNAME))},
     "suffix": 'a text or a list of texts, such as ["suffix",["c","h"]]',
     "since": 'a clock id that a reply gave ("c:..") or a second, and "oclock", "cclock" or "mtime", which takes a '
              'second alone, such as ["since",1700000000,"mtime"]',

@@ -47,8 +47,8 @@ IGNORE_CASE = flag("--ignore-case", help="the case of A to Z does not count in g
 MAX_DEPTH = value("--max-depth", metavar="N", type=int, help="at most so deep; 1 is directly in DIR")
 OTHERS = [
     value("-t", "--type", metavar="KINDS", dest="type", action="append",
-          help="kinds of files: f or file, d or dir, l or link, as -t f,d"),
-    value("-e", "--extension", metavar="EXT", dest="ext", action="append", help="suffixes, as -e c,h or -e c -e h"),
+          help="kinds of files: f or file, d or dir, l or link, such as -t f,d"),
+    value("-e", "--extension", metavar="EXT", dest="ext", action="append", help="suffixes, such as -e c,h or -e c -e h"),
     value("-E", "--exclude", metavar="GLOB", dest="exclude", action="append",
           help="leave out what fits, and all below it"),
     value("--min-depth", metavar="N", type=int, help="at least so deep"),
@@ -89,7 +89,7 @@ FORMS: Dict[str, Form] = {
         value("--size", metavar="SIZE", 
               help="+1M at least, -10k at most, 0 exactly; k is 1,024 bytes, kB is 1,000"),
         value("--newer", "--changed-within", metavar="WHEN", dest="newer",
-              help="modified within this time, as 30s, 10min, 2h, 3d, 1w, or since a date, as 2026-11-28"),
+              help="modified within this time, such as 30s, 10min, 2h, 3d, 1w, or since a date, such as 2026-11-28"),
         value("--older", "--changed-before", metavar="WHEN", dest="older", help="modified before that"),
         value("--expression", metavar="JSON", help="an expression of the protocol, beside the other words"),
         value("--program", metavar="NAME", help="a stored program; globs or -e beside it say which files it is asked about"),
@@ -112,7 +112,7 @@ FORMS: Dict[str, Form] = {
         value("--delay", metavar="MS", type=int, default=0, help="waits so long before a run for a change"),
         flag("--restart", help="a change ends the running one by SIGTERM, and after 5 seconds by SIGKILL"),
         value("--on-busy", metavar="HOW", help="what a change does to a running one: wait, restart, ignore, signal"),
-        value("--stop-signal", metavar="SIG", default="TERM", help="the signal of restart and signal, as INT; TERM"),
+        value("--stop-signal", metavar="SIG", default="TERM", help="the signal of restart and signal, such as INT; TERM"),
         flag("--no-self", help="leaves out what changes while the command runs"),
         flag("--shell", help="the words are a text for sh, in which {} is for the names"),
         flag("--notify", help="the terminal says that a run ended, or rings"),
@@ -208,12 +208,20 @@ def with_joined_sizes(words: List[str]) -> List[str]:
     return found
 
 
+def no_option(command: str, word: str) -> str:
+    """That there is no such option, with the one that was probably meant."""
+    import difflib  # few are mistyped
+    given = word.partition("=")[0]
+    like = difflib.get_close_matches(given, [name for name in options_of(command) if name.startswith("--")], 1)
+    return f"there is no option {given}" + (f"; did you mean {like[0]}?" if like else "")
+
+
 def read_any_order(parser: Parser, command: str, words: List[str], rest: Any = ()) -> argparse.Namespace:
     """Options may be before, between and after the other words. The rest has none."""
     found, left = parser.parse_known_intermixed_args(words)
     if left:
         is_option = left[0].startswith("-") and len(left[0]) > 1
-        parser.error(f"there is no option {left[0]}" if is_option else f"{command} takes no further words: {left[0]}")
+        parser.error(no_option(command, left[0]) if is_option else f"{command} takes no further words: {left[0]}")
     for word in rest:
         if hasattr(found, "words"):
             found.words = [*found.words, word]

@@ -28,15 +28,25 @@ def check_archive(tally: built.Tally, room: Path) -> None:
     tally.check("it is the same each time", paths[0].read_bytes() == paths[1].read_bytes())
     with tarfile.open(paths[0]) as archive:
         owners = {(entry.uid, entry.gid, entry.uname, entry.gname) for entry in archive.getmembers()}
-        archive.extractall(room / "unpacked")
     same(tally, "its owner", owners, {(0, 0, "root", "root")})
-    top = room / "unpacked" / f"wqd-{version}"
+    top = unpacked(paths[0], room)
     found = {str(path.relative_to(top)): path.stat().st_mode & 0o777 for path in top.rglob("*") if path.is_file()}
     expected = {path: mode for path, mode in FILES.items() if path != LIST}
     same(tally, "its files", found, {**expected, "share/doc/wqd/README": 0o644})
     for name, says in (("wqd", f"wqd {version}\n"), ("wq", f"wq {version}\n")):
         ended = subprocess.run([str(top / "bin" / name), "--version"], stdout=subprocess.PIPE)
         same(tally, f"its command {name}", ended.stdout.decode().splitlines(True)[:1], [says])
+
+
+def unpacked(path: Path, room: Path) -> Path:
+    """Where the archive is after the commands that its own README has for that."""
+    top = room / "user" / ".local"
+    top.parent.mkdir()
+    says = subprocess.run(["tar", "-xzOf", str(path), "--wildcards", "*/share/doc/wqd/README"], stdout=subprocess.PIPE)
+    commands = [line for line in says.stdout.decode().splitlines() if line.startswith("    ")]
+    environment = {"PATH": "/usr/bin:/bin", "HOME": str(top.parent)}
+    subprocess.run(["sh", "-e", "-c", "\n".join(commands)], cwd=path.parent, env=environment, check=True)
+    return top
 
 
 def check_release(tally: built.Tally, room: Path) -> None:

@@ -157,6 +157,8 @@ def check_foreign(tally: built.Tally, scene: Scene) -> None:
         (["find", "--color=never"], "no option --color; the variable NO_COLOR takes colours away"),
         (["follow", "-m"], "no option -m; it goes on until you stop it"),
         (["find", "--frob"], "there is no option --frob; see `wq find --help`"),
+        (["find", "--expresion", "7"], "there is no option --expresion; did you mean --expression?; see `wq find --help`"),
+        (["--hlep"], "there is no option --hlep; did you mean --help?; `wq --help` says which there are"),
         (["watch-del", "."], "there is no command watch-del; use `wq unwatch`; `wq --help` says which there are"),
         (["version"], "there is no command version; use `wq --version`; `wq --help` says which there are"),
     ):
