@@ -41,7 +41,7 @@ def check_units(tally: built.Tally, room: Path) -> None:
 
 
 def said_of(path: Path) -> str:
-    ended = subprocess.run(["systemd-analyze", "verify", str(path)], stdout=subprocess.PIPE, stderr=subprocess.STDOUT,
+    ended = subprocess.run(["systemd-analyze", "verify", "--man=no", str(path)], stdout=subprocess.PIPE, stderr=subprocess.STDOUT,
                            timeout=PATIENCE)
     return ended.stdout.decode()
 
