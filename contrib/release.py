@@ -1,4 +1,4 @@
-"""What a release has beside the packages: an archive of the files that ./install puts below a prefix, a note of how the
+"""The parts of a release beside its packages: an archive of the files that ./install puts below a prefix, a note of how the
 program was proved, and the checksums of all of it. Each is the same on every machine, if its files are."""
 
 import gzip
@@ -35,7 +35,8 @@ def seconds() -> int:
     said = os.environ.get("SOURCE_DATE_EPOCH")
     if said is not None:
         return int(said)
-    last = subprocess.run(["git", "-C", str(TOP), "log", "-1", "--format=%ct"], stdout=subprocess.PIPE, stderr=subprocess.DEVNULL)
+    command = ["git", "-C", str(TOP), "log", "-1", "--format=%ct"]
+    last = subprocess.run(command, stdout=subprocess.PIPE, stderr=subprocess.DEVNULL)
     return int(last.stdout) if last.returncode == 0 and last.stdout.strip() else int(time.time())
 
 

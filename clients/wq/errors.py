@@ -39,7 +39,7 @@ def long_line(command: Any, look: Look) -> Iterator[str]:
 
 
 def no_json(command: Any, look: Look) -> Iterator[str]:
-    """What Python takes for JSON, and the server does not."""
+    """A text that Python takes for JSON, and the server does not."""
     yield f"values may be {MAX_JSON_DEPTH} deep inside one another, and a number has to fit a float of 64 bits"
 
 
@@ -162,7 +162,7 @@ def program_fault(command: Any, look: Look) -> Iterator[str]:
     yield "`wqasm explain FILE` says what is wrong with a program file, and where"
 
 
-# What the server is asked about.
+# The requests about whose parts the server is asked.
 OF_OBJECTS = (20, 21, 22, 23, 24, 25, 26, 27, 28, 37, 43)
 OF_ERRORS: Dict[int, Callable[[Any, Look], Iterator[str]]] = {
     1: long_line, 2: no_json, 3: no_command, 4: unknown_command, 5: wrong_arguments,

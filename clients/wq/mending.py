@@ -1,4 +1,4 @@
-"""What was meant by a wrong value: one like it that the server takes."""
+"""A value that may have been meant by a wrong one: it is like that, and the server takes it."""
 
 import json
 from itertools import chain, islice

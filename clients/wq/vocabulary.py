@@ -1,4 +1,4 @@
-"""What the words of the protocol take: commands, keys of queries and triggers, terms. It is for hints alone: the server
+"""The arguments that words of the protocol take: commands, keys of queries and triggers, terms. It is for hints alone: the server
 decides what is right."""
 
 import json

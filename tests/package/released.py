@@ -1,4 +1,4 @@
-"""What `./package --archive` and `--release` make: an archive that is unpacked below a home, the same each time, and a release
+"""The files of `./package --archive` and `--release`: an archive that is unpacked below a home, the same each time, and a release
 of a program alone that was proved here."""
 
 import hashlib
@@ -13,7 +13,7 @@ from client import same
 from command import bare
 from installed import FILES, LIST, call, version_of
 
-# What a release is made of beside the scripts and clients at the top.
+# The sources of a release beside the scripts and clients at the top.
 PARTS = ("docs", "examples", "LICENSE-MIT", "LICENSE-APACHE", "package", "install", "verify")
 CLIENTS = ("bridge", "node", "wqasm", "watchdog", "watchman")
 
@@ -39,7 +39,7 @@ def check_archive(tally: built.Tally, room: Path) -> None:
 
 
 def unpacked(path: Path, room: Path) -> Path:
-    """Where the archive is after the commands that its own README has for that."""
+    """The place of the archive after the commands that its own README has for that."""
     top = room / "user" / ".local"
     top.parent.mkdir()
     says = subprocess.run(["tar", "-xzOf", str(path), "--wildcards", "*/share/doc/wqd/README"], stdout=subprocess.PIPE)
@@ -75,7 +75,7 @@ def check_release(tally: built.Tally, room: Path) -> None:
 
 
 def make_clone(place: Path) -> bytes:
-    """What a release is made of, with the program where `./wqd --build` puts it."""
+    """The sources of a release, with the program in the place to which `./wqd --build` writes it."""
     bare(place)
     for name in PARTS:
         copy(built.TOP / name, place / name)

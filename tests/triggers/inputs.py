@@ -75,4 +75,4 @@ def finish(tally: built.Tally, scene: Scene, count: int) -> None:
     tally.check("each command runs in the end", scene.has_lines(count), [f"{len(scene.lines())} of {count}"])
     lengths: List[str] = sorted(set(scene.lines()))
     tally.check("each reads the whole input", len(lengths) == 1, lengths)
-    tally.check("the operator is told", b"too many commands run" in scene.server.errors(), [])
+    tally.check("the operator hears of it", b"too many commands run" in scene.server.errors(), [])

@@ -42,7 +42,7 @@ def drawn(draws: Draws) -> Any:
 
 
 def first_fault(term: Any, depth: int = 1) -> Optional[Tuple[int, ...]]:
-    """Where the first fault of an expression is: of a term before those in it, and of these from left to right."""
+    """The place of the first fault of an expression: of a term before those in it, and of these from left to right."""
     if depth > MOST_DEEP:
         return ()
     head = term[0] if isinstance(term, list) and term else None

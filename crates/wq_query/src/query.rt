@@ -175,7 +175,7 @@ impl Query {
     }
 
     /// The plan of answering the query with this bound, whichever the query sets. It lets the expression go, which the
-    /// program stands for from now on.
+    /// program replaces from now on.
     ///
     /// The program is the one that is kept under the name that the query has for one. Without a
     /// name, it answers the meaning of the query's expression on every record, and its budget is no

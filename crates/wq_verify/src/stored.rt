@@ -158,7 +158,7 @@ pub struct Opened<'a> {
     form: OpenForm<'a>,
 }
 
-/// Who keeps an open program.
+/// The owner of an open program.
 #[derive(Drop)]
 pub(crate) enum OpenForm<'a> {
     /// The one who stored it.

@@ -179,7 +179,7 @@ pub(crate) fn names_in<R: Files>(
 }
 
 /// The names that a directory gives, whose path has so many bytes, or nothing if it cannot be read to its end. Before each
-/// block of names the walk may give way. It fails as soon as the directory has more names than a listing has rows.
+/// block of names the walk may give way. It fails soon after the directory has more names than a listing has rows.
 fn names_of<D: Read>(
     directory: &mut D,
     block: &mut Block<'_>,
