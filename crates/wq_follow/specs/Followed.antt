@@ -28,6 +28,6 @@ abbrev pub trigger_data : Trigger → TriggerData
 trigger_data t = record {
   order = order_data t.order;
   follower = follower_data t.follower;
-  object = data_in t.object;
+  object = data_in (t.object).value;
   running = t.running;
 }

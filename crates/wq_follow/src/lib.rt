@@ -26,6 +26,7 @@ pub use law::{
     definitions_are_shallow, definitions_have_no_float, failed_starts_stay, intervals_adjoin,
     longest_front, nothing_is_missed, views_are_reached,
 };
+pub use object_text::ObjectText;
 pub use order::{Input, Order};
 pub use shape::MAX_TRIGGER_NAME;
 pub use starting::{Env, MAX_APPENDED, Start};

@@ -9,11 +9,12 @@ ghost use Rattle.wq_follow.specs.Kept.{data_in};
 use serde_json::Value;
 use std::alloc::{AllocError, Global};
 use std::marker::Model;
+use std::sync::Arc;
 use wq_base::Text;
 
-/// The text of an object that reads as it, and has no float. Contracts see the text.
+/// The text of an object that can be read again, and has no float. Contracts see the text.
 #[derive(Drop)]
-pub(crate) struct ObjectText {
+pub struct ObjectText {
     text: Text,
 }
 
@@ -32,9 +33,9 @@ impl Model for ObjectText {
 }
 
 impl ObjectText {
-    /// The object.
+    /// The object, read from its text.
     #[tactic(auto, using(crate::proofs::KeptTexts::text_says, crate::proofs::KeptTexts::read_is_plain))]
-    pub(crate) fn read(&self, alloc: Global) -> Result<Value, AllocError>
+    pub fn read(&self, alloc: Global) -> Result<Value, AllocError>
         ensures data { IfOk result (λ object. data_of object ≡ data_in self.now) }
         ensures floats { IfOk result (λ object. has_float (data_of object) ≡ false) }
     {
@@ -49,39 +50,41 @@ impl ObjectText {
 #[derive(Drop)]
 pub(crate) struct Object {
     value: Value,
-    text: Text,
+    text: Arc<ObjectText>,
 }
 
 impl Model for Object {
     ghost use Rattle.std.specs.Prelude.{◌≡◌, ℕ, List, Some, false};
-    ghost use Rattle.serde_json.specs.Read.{read};
     ghost use Rattle.serde_json.specs.View.{view as data_of};
     ghost use Rattle.serde_json.specs.Written.{has_float};
+    ghost use Rattle.wq_follow.specs.Kept.{data_in};
 
     ghost Value = { List ℕ };
 
-    ghost view = { λ o. o.text };
+    ghost view = { λ o. o.text.value };
 
-    ghost invariant = { λ o. (read o.text ≡ Some (data_of o.value))
+    ghost invariant = { λ o. (data_in o.text.value ≡ data_of o.value)
         × (has_float (data_of o.value) ≡ false) };
 }
 
 impl Object {
     /// The object of a value.
-    #[tactic(auto, using(crate::proofs::KeptTexts::text_says))]
+    #[tactic(auto, using(crate::proofs::KeptTexts::text_says, crate::proofs::KeptTexts::text_reads, crate::proofs::KeptTexts::text_is_plain))]
     pub(crate) fn of(alloc: Global, value: Value) -> Result<Object, AllocError>
         requires depth { depth (data_of value) ≤ max_depth }
         requires floats { has_float (data_of value) ≡ false }
         ensures { IfOk result (λ object. data_in object ≡ data_of value) }
     {
-        Ok(Object {
+        let text = ObjectText {
             text: value_text(alloc, &value)?,
+        };
+        Ok(Object {
+            text: Arc::new(alloc, text)?,
             value,
         })
     }
 
     /// The value.
-    #[tactic(auto, using(crate::proofs::KeptTexts::text_says))]
     pub(crate) fn value(&self) -> &Value
         ensures data { data_of result.now ≡ data_in self.now }
         ensures floats { has_float (data_of result.now) ≡ false }
@@ -90,11 +93,10 @@ impl Object {
     }
 
     /// The text alone.
-    #[tactic(auto, using(crate::proofs::KeptTexts::text_reads, crate::proofs::KeptTexts::text_is_plain))]
-    pub(crate) fn into_text(self) -> ObjectText
-        ensures { result ≡ self }
+    pub(crate) fn into_text(self) -> Arc<ObjectText>
+        ensures { result.value ≡ self }
     {
-        ObjectText { text: self.text }
+        self.text
     }
 }
 

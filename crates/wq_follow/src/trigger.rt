@@ -1,7 +1,5 @@
 //! A command that is started when files changed: its making, and its turn in a round.
-ghost use Rattle.std.specs.Prelude.{◌≡◌, IfOk, IfSome, false};
-ghost use Rattle.serde_json.specs.View.{view as data_of};
-ghost use Rattle.serde_json.specs.Written.{has_float};
+ghost use Rattle.std.specs.Prelude.{◌≡◌, IfOk, IfSome};
 ghost use Rattle.wq_query.specs.Ahead.{IsAheadAt};
 ghost use Rattle.wq_query.specs.Query.{planned};
 ghost use Rattle.wq_follow.specs.Started.{IsClocked};
@@ -12,7 +10,6 @@ use crate::launch::Launch;
 use crate::object_text::ObjectText;
 use crate::order::Order;
 use crate::starting::start_of;
-use serde_json::Value;
 use std::alloc::{AllocError, Global};
 use std::sync::Arc;
 use wq_base::Text;
@@ -27,7 +24,7 @@ pub struct Trigger {
     pub(crate) order: Order,
     pub(crate) follower: Follower,
     /// The object of its definition, with the known keys.
-    pub(crate) object: ObjectText,
+    pub(crate) object: Arc<ObjectText>,
     pub(crate) running: Option<u32>,
     ghost clocked: { IsClocked (planned follower.plan).bound },
 }
@@ -40,6 +37,7 @@ impl Trigger {
     ghost use Rattle.wq_follow.specs.Defined.{definition_data};
     ghost use Rattle.wq_follow.specs.Defining.{triggered};
     ghost use Rattle.wq_follow.specs.Followed.{trigger_data};
+    ghost use Rattle.wq_follow.specs.Kept.{data_in};
     ghost use Rattle.wq_follow.specs.Launcher.{AsksRun};
     ghost use Rattle.wq_follow.specs.Round.{Agrees, CountsFailure, FiredData, Fires, is_short};
 
@@ -77,12 +75,11 @@ impl Trigger {
         self.order.name.as_str()
     }
 
-    /// The object of its definition, with the known keys. It is read of its text, and has no float.
-    pub fn object(&self, alloc: Global) -> Result<Value, AllocError>
-        ensures object { IfOk result (λ object. data_of object ≡ (trigger_data self.now).object) }
-        ensures floats { IfOk result (λ object. has_float (data_of object) ≡ false) }
+    /// The object of its definition, with the known keys, as it is kept.
+    pub fn object(&self) -> Result<Arc<ObjectText>, AllocError>
+        ensures { IfOk result (λ object. data_in object.value ≡ (trigger_data self.now).object) }
     {
-        self.object.read(alloc)
+        self.object.clone()
     }
 
     /// The run of its command, if that was started and no round found that it ended.

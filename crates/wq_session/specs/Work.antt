@@ -1,19 +1,23 @@
 -- The part of an answer that needs the shelf: the output at once, or the way to list files; and the
 -- shelf then.
 -- It is this server's own.
-use Rattle.std.specs.Prelude.{◌≡◌, ℕ, List, Option, Result, Ok, Err}
+use Rattle.std.specs.Prelude.{◌≡◌, ℕ, List, Option, Result, Ok, Err, map}
+use Rattle.std.specs.declared.alloc.Global.{Global}
+use Rattle.std.specs.declared.sync.Arc.{Arc}
 use Rattle.serde_json.specs.Data.{Data}
 use Rattle.serde_json.specs.View.{view as data_of}
 use Rattle.wq_follow.specs.Followed.{subscription_data}
+use Rattle.wq_follow.specs.Kept.{data_in}
 use Rattle.wq_follow.specs.Subscription.{SubscriptionData}
 use Rattle.wq_query.specs.Query.{PlanData, planned}
 use Rattle.wq_ask.specs.Out.{OutData}
+use Rattle.wq_ask.specs.Trigger.{triggers_reply}
 use Rattle.wq_ask.specs.declared.cursor.Cursor.{Cursor}
 use Rattle.wq_ask.specs.declared.refusal.Refusal.{Refusal}
 use Rattle.wq_ask.specs.declared.refusal.Refusal.TheVariants.{NoMemory}
 use Rattle.wq_session.specs.At.{ShelfNow}
 use Rattle.wq_session.specs.declared.work.Rest.{Rest}
-use Rattle.wq_session.specs.declared.work.Rest.TheVariants.{Says, Prints, Evaluates}
+use Rattle.wq_session.specs.declared.work.Rest.TheVariants.{Says, Prints, ListsTriggers, Evaluates}
 use Rattle.wq_session.specs.declared.work.Rest.TheVariants.{Begins as BeginsFollowing, Drops}
 use Rattle.wq_session.specs.declared.work.Work.{Work}
 
@@ -43,10 +47,15 @@ saying out shelf = record { work = says out; shelf = shelf }
 abbrev pub printing : Data → ShelfNow → BegunData
 printing d shelf = record { work = prints d; shelf = shelf }
 
+-- the objects of triggers in their texts
+abbrev pub objects_in : List (Arc (List ℕ) Global) → List Data
+objects_in objects = map (λ object. data_in object.value) objects
+
 -- the rest of the work
 abbrev pub rest_data : Rest → WorkData
 rest_data (Says out) = says out
 rest_data (Prints reply) = prints (data_of reply.value)
+rest_data (ListsTriggers objects) = prints (triggers_reply (objects_in objects.items))
 rest_data (Evaluates plan cursor) = evaluates (planned plan) cursor
 rest_data (BeginsFollowing s) = begins (subscription_data s)
 rest_data (Drops root name) = drops root name

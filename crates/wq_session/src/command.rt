@@ -27,6 +27,7 @@ pub(crate) use query::listed;
 use server::begin_socket;
 use std::alloc::Global;
 use subscribe::{begin_subscribe, begin_unsubscribe};
+pub(crate) use trigger::listed_triggers;
 use trigger::{begin_delete_trigger, begin_list_triggers, begin_trigger};
 use watch::{begin_list, begin_unwatch, begin_watch};
 use wq_ask::{Ask, LoneAsk, Out, Refusal, RootAsk, RootText, ShelfAsk};

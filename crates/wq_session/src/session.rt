@@ -15,7 +15,7 @@ ghost use Rattle.wq_session.specs.Views.{ReadyData, Replies, root_at_data};
 ghost use Rattle.wq_session.specs.Work.{evaluates, work_data};
 
 use crate::at::At;
-use crate::command::listed;
+use crate::command::{listed, listed_triggers};
 use crate::crawl::crawl_refusal;
 use crate::desk::Desk;
 use crate::prepared::Prepared;
@@ -76,6 +76,7 @@ impl Session {
                 out
             }
             Rest::Prints(reply) => printed(alloc, &reply),
+            Rest::ListsTriggers(objects) => listed_triggers(alloc, objects.as_slice()),
             Rest::Evaluates(plan, cursor) => match at {
                 Some(
                     At {

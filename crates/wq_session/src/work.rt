@@ -1,9 +1,10 @@
 //! The rest of the work of an answer, when the shelf is no longer held.
 
 use crate::plain::Plain;
+use std::sync::Arc;
 use wq_ask::{Cursor, Out, RootAsk};
 use wq_base::Text;
-use wq_follow::Subscription;
+use wq_follow::{ObjectText, Subscription};
 use wq_query::Plan;
 
 /// The rest of the work of an answer, and its ask if that is of a root. The object of the ask is freed when the work is
@@ -21,6 +22,8 @@ pub(crate) enum Rest {
     Says(Out),
     /// Printing this reply, which may be long.
     Prints(Plain),
+    /// Reading these objects of triggers, which may be long, and printing the list of them.
+    ListsTriggers(Vec<Arc<ObjectText>>),
     /// Listing the files of a plan; this cursor was moved for it.
     Evaluates(Plan, Option<Cursor>),
     /// Beginning a subscription, and making its first list.

@@ -1,32 +1,34 @@
 //! `trigger`, `trigger-list` and `trigger-del`: the server starts commands if files of a root changed. The object of
 //! `trigger` is read, and its expression compiled, before the shelf is held. The shelf is held to look up a program by
 //! its name, and to put the trigger under its own.
-ghost use Rattle.std.specs.Prelude.{◌≡◌, ◌⊎◌, None, Ok, Some, false, is_none, is_some, map, option_map, true};
+ghost use Rattle.std.specs.Prelude.{◌≡◌, ◌⊎◌, List, None, Ok, Option, Some, false, is_none, is_some, option_map, true};
 ghost use Rattle.std.specs.Prelude.{IfErr, IfOk, OnErr, OnOk};
 ghost use Rattle.serde_json.specs.Data.{Data};
-ghost use Rattle.serde_json.specs.View.{items_of, view as data_of};
-ghost use Rattle.serde_json.specs.Written.{items_have_float};
+ghost use Rattle.serde_json.specs.View.{view as data_of};
 ghost use Rattle.wq_follow.specs.Defined.{definition_data};
 ghost use Rattle.wq_query.specs.Meaning.{AnswersWithin};
 ghost use Rattle.wq_registry.specs.Root.{numbered};
 ghost use Rattle.wq_follow.specs.Followed.{trigger_data};
+ghost use Rattle.wq_follow.specs.Subscription.{SubscriptionData};
 ghost use Rattle.wq_registry.specs.Shelf.{trigger_added, triggers_of};
 ghost use Rattle.wq_ask.specs.Out.{replies};
 ghost use Rattle.wq_ask.specs.declared.refusal.Refusal.TheVariants.{NoMemory, TooManyTriggers};
 ghost use Rattle.wq_ask.specs.Trigger.{trigger_deleted_reply, trigger_reply, triggers_reply};
-ghost use Rattle.wq_session.specs.At.{at_data};
+ghost use Rattle.wq_session.specs.Answer.{Finishes};
+ghost use Rattle.wq_session.specs.At.{AtData, at_data};
 ghost use Rattle.wq_session.specs.Prepared.{AreRead, IsReadAt, IsReadTrigger, asks_trigger};
-ghost use Rattle.wq_session.specs.Shelved.{shelf_data};
+ghost use Rattle.wq_session.specs.Shelved.{each, shelf_data};
 ghost use Rattle.wq_session.specs.Objects.{AreObjects};
 ghost use Rattle.wq_session.specs.Trigger.{begun_trigger, has_no_trigger_place, objects_of, put_trigger};
 ghost use Rattle.wq_session.specs.Trigger.{listing_triggers, trigger_called, try_delete_trigger, try_trigger};
-ghost use Rattle.wq_session.specs.Work.{Begins};
+ghost use Rattle.wq_session.specs.Work.{Begins, objects_in, prints};
 
 use crate::at::At;
 use crate::command::query::program_for;
 use crate::plain::Plain;
 use crate::read_object::ReadObject;
 use crate::read_trigger::ReadTrigger;
+use crate::reply::printed;
 use crate::shelving::{add_trigger, has_trigger, remove_trigger, run_of};
 use crate::work::Rest;
 use serde_json::Value;
@@ -36,7 +38,7 @@ use wq_ask::{
     Out, Refusal, RootText, is_name, print, trigger_deleted_reply, trigger_reply, triggers_reply,
 };
 use wq_base::Text;
-use wq_follow::{Definition, Trigger};
+use wq_follow::{Definition, ObjectText, Trigger};
 use wq_registry::{Root, Shelf, ShelfFault};
 use wq_verify::StoredProgram;
 
@@ -135,8 +137,7 @@ fn put(name: &str, trigger: Trigger, number: u64, shelf: &mut Shelf<Trigger>) ->
     }
 }
 
-/// `trigger-list`. The reply is printed when the shelf is no longer held.
-#[tactic(auto, using(crate::proofs::Triggers::plain_triggers))]
+/// `trigger-list`. The objects are read from their texts, and printed, when the shelf is no longer held.
 pub(super) fn begin_list_triggers(
     alloc: Global,
     at: At<'_>,
@@ -147,16 +148,17 @@ pub(super) fn begin_list_triggers(
         result (shelf_data shelf.now) }
 {
     let objects = objects_on(alloc, shelf, at.instance.root)?;
-    let value = triggers_reply(alloc, objects)?;
-    Ok(Rest::Prints(Plain { value }))
+    Ok(Rest::ListsTriggers(objects))
 }
 
 /// The objects of the triggers of the root of this number.
-fn objects_on(alloc: Global, shelf: &Shelf<Trigger>, number: u64) -> Result<Vec<Value>, AllocError>
-    ensures same { IfOk result (λ values. map data_of values.items
+fn objects_on(
+    alloc: Global,
+    shelf: &Shelf<Trigger>,
+    number: u64,
+) -> Result<Vec<Arc<ObjectText>>, AllocError>
+    ensures { IfOk result (λ objects. objects_in objects.items
         ≡ objects_of (triggers_of number (shelf_data shelf.now))) }
-    ensures plain { IfOk result (λ values.
-        items_have_float (items_of (map data_of values.items)) ≡ false) }
 {
     match shelf.root(number) {
         Some(root) => objects_of(alloc, root),
@@ -165,16 +167,53 @@ fn objects_on(alloc: Global, shelf: &Shelf<Trigger>, number: u64) -> Result<Vec<
 }
 
 /// The objects of the triggers of a root.
-fn objects_of(alloc: Global, root: &Root<Trigger>) -> Result<Vec<Value>, AllocError>
-    ensures { IfOk result (λ values. AreObjects root.now.triggers values.items) }
+fn objects_of(
+    alloc: Global,
+    root: &Root<Trigger>,
+) -> Result<Vec<Arc<ObjectText>>, AllocError>
+    ensures { IfOk result (λ objects. objects_in objects.items
+        ≡ objects_of (each trigger_data root.now.triggers)) }
 {
     let mut objects = Vec::new(alloc);
     for k in 0..root.trigger_count() {
         if let Some((_, trigger)) = root.trigger_at(k) {
-            objects.push(trigger.object(alloc)?)?;
+            objects.push(trigger.object()?)?;
         }
     }
     Ok(objects)
+}
+
+/// The reply that lists the triggers with these objects.
+pub(crate) fn listed_triggers(alloc: Global, objects: &[Arc<ObjectText>]) -> Out
+    ensures { (at : Option AtData) (follows : List SubscriptionData)
+        → Finishes (prints (triggers_reply (objects_in objects.now))) at follows result follows }
+{
+    match list_of(alloc, objects) {
+        Ok(list) => printed(alloc, &list),
+        Err(_) => Out::runs_out(None),
+    }
+}
+
+/// The list of the triggers with these objects.
+#[tactic(auto, using(crate::proofs::Triggers::plain_triggers))]
+fn list_of(alloc: Global, objects: &[Arc<ObjectText>]) -> Result<Plain, AllocError>
+    ensures { IfOk result (λ list. data_of list.value
+        ≡ triggers_reply (objects_in objects.now)) }
+{
+    let values = values_of(alloc, objects)?;
+    let value = triggers_reply(alloc, values)?;
+    Ok(Plain { value })
+}
+
+/// The objects, read from their texts.
+fn values_of(alloc: Global, objects: &[Arc<ObjectText>]) -> Result<Vec<Value>, AllocError>
+    ensures { IfOk result (λ values. AreObjects (objects_in objects.now) values.items) }
+{
+    let mut values = Vec::new(alloc);
+    for object in objects {
+        values.push(object.read(alloc)?)?;
+    }
+    Ok(values)
 }
 
 /// `trigger-del`. The reply is made first, so that the trigger stays if memory runs out.

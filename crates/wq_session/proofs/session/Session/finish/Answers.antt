@@ -16,3 +16,9 @@ returns-in-Prints g c =
     subst (λ (w : WorkData). Finishes w (option_map at_data c.args.at) (follows_of c.args.self.now) c.printed.result
     (follows_of c.args.self.now)) (sym (ap rest_data c.in-Prints.is))
     (c.printed.ensures (option_map at_data c.args.at) (follows_of c.args.self.now))
+
+pub returns-in-ListsTriggers : goal.returns-in-ListsTriggers
+returns-in-ListsTriggers g c =
+    subst (λ (w : WorkData). Finishes w (option_map at_data c.args.at) (follows_of c.args.self.now) c.listed_triggers.result
+    (follows_of c.args.self.now)) (sym (ap rest_data c.in-ListsTriggers.is))
+    (c.listed_triggers.ensures (option_map at_data c.args.at) (follows_of c.args.self.now))
