@@ -25,10 +25,8 @@ ghost use Rattle.wq_session.specs.Work.{Begins, objects_in, prints};
 
 use crate::at::At;
 use crate::command::query::program_for;
-use crate::plain::Plain;
 use crate::read_object::ReadObject;
 use crate::read_trigger::ReadTrigger;
-use crate::reply::printed;
 use crate::shelving::{add_trigger, has_trigger, remove_trigger, run_of};
 use crate::work::Rest;
 use serde_json::Value;
@@ -189,20 +187,18 @@ pub(crate) fn listed_triggers(alloc: Global, objects: &[Arc<ObjectText>]) -> Out
         → Finishes (prints (triggers_reply (objects_in objects.now))) at follows result follows }
 {
     match list_of(alloc, objects) {
-        Ok(list) => printed(alloc, &list),
+        Ok(out) => out,
         Err(_) => Out::runs_out(None),
     }
 }
 
-/// The list of the triggers with these objects.
+/// The list of the triggers with these objects, as text.
 #[tactic(auto, using(crate::proofs::Triggers::plain_triggers))]
-fn list_of(alloc: Global, objects: &[Arc<ObjectText>]) -> Result<Plain, AllocError>
-    ensures { IfOk result (λ list. data_of list.value
-        ≡ triggers_reply (objects_in objects.now)) }
+fn list_of(alloc: Global, objects: &[Arc<ObjectText>]) -> Result<Out, AllocError>
+    ensures { IfOk result (λ out. out ≡ replies (triggers_reply (objects_in objects.now))) }
 {
     let values = values_of(alloc, objects)?;
-    let value = triggers_reply(alloc, values)?;
-    Ok(Plain { value })
+    print(alloc, &triggers_reply(alloc, values)?)
 }
 
 /// The objects, read from their texts.
