@@ -1,9 +1,10 @@
 -- The end is the result of the work.
-use Rattle.std.proofs.Common.{ap, option_map, subst, sym}
+use Rattle.std.proofs.Common.{rules, ◌≡◌, ◌∙◌, ap, option_map, subst, sym}
+use Rattle.wq_ask.specs.Trigger.{triggers_reply}
 use Rattle.wq_session.specs.Answer.{Finishes}
 use Rattle.wq_session.specs.At.{at_data}
 use Rattle.wq_session.specs.Followed.{follows_of}
-use Rattle.wq_session.specs.Work.{WorkData, rest_data}
+use Rattle.wq_session.specs.Work.{WorkData, objects_in, prints, rest_data}
 use Rattle.wq_session.proofs.session.Session.finish.Goals as goal
 
 pub returns : goal.returns
@@ -19,6 +20,8 @@ returns-in-Prints g c =
 
 pub returns-in-ListsTriggers : goal.returns-in-ListsTriggers
 returns-in-ListsTriggers g c =
+    let same : c.as_slice.result.now ≡ c.in-ListsTriggers.objects.items = search rules in
     subst (λ (w : WorkData). Finishes w (option_map at_data c.args.at) (follows_of c.args.self.now) c.listed_triggers.result
-    (follows_of c.args.self.now)) (sym (ap rest_data c.in-ListsTriggers.is))
+    (follows_of c.args.self.now))
+    (ap (λ objects. prints (triggers_reply (objects_in objects))) same ∙ sym (ap rest_data c.in-ListsTriggers.is))
     (c.listed_triggers.ensures (option_map at_data c.args.at) (follows_of c.args.self.now))
