@@ -2,6 +2,7 @@
 //! share it. Other crates walk trees and serve sessions.
 #![tactic(auto)]
 
+mod at;
 mod begun;
 mod callers;
 mod clock;
@@ -11,17 +12,25 @@ mod lane;
 mod lanes;
 mod lister;
 mod lock_roots;
+mod looking;
+mod meeting;
 mod memory_roots;
+mod need;
 mod occupants;
 mod place;
+mod refused;
 mod relisted;
 mod roots;
+mod seat_views;
 mod seconds;
 mod shared_crawler;
 mod shared_publisher;
 mod shared_seconds;
+mod table_views;
 mod tree;
+mod views;
 
+pub use at::At;
 pub use begun::Asked;
 pub use clock::MachineClock;
 pub use crawler::Crawler;
@@ -30,9 +39,14 @@ pub use lanes::LaneParts;
 pub use lister::Lister;
 pub use lock_roots::LockRoots;
 pub use memory_roots::MemoryRoots;
+pub use need::Need;
 pub use place::{Place, place_for};
+pub use refused::Refused;
 pub use roots::Roots;
+pub use seat_views::SeatViews;
 pub use seconds::Seconds;
 pub use shared_crawler::SharedCrawler;
 pub use shared_seconds::SharedSeconds;
+pub use table_views::TableViews;
 pub use tree::{LeftOut, Listing, Tree, TreeFault};
+pub use views::{RootAt, Views};

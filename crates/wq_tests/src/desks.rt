@@ -13,9 +13,9 @@ use std::sync::{Arc, Mutex, Wait};
 use std::thread::{Threads, join};
 use wq_base::Stays;
 use wq_clock::Run;
-use wq_crawl::{Crawler, MemoryRoots};
+use wq_crawl::{Crawler, MemoryRoots, SeatViews};
 use wq_live::{Blank, Named};
-use wq_serve::{LockDesk, SeatViews, SharedShelf, serve};
+use wq_serve::{LockDesk, SharedShelf, serve};
 use wq_stream::{Event, Inbox, MemoryInbox, Splitter};
 
 /// How often a client looks whether the other one got a reply.

@@ -10,9 +10,9 @@ use std::test::Fail;
 use std::thread::Threads;
 use wq_base::Stays;
 use wq_clock::Run;
-use wq_crawl::{Crawler, MemoryRoots, Roots};
+use wq_crawl::{Crawler, MemoryRoots, Roots, SeatViews};
 use wq_live::{Blank, Named, Seat};
-use wq_serve::{LockDesk, SeatViews, serve};
+use wq_serve::{LockDesk, serve};
 use wq_session::Desk;
 use wq_stream::{MemoryInbox, Splitter};
 

@@ -1,7 +1,7 @@
 -- The end is the result of the work.
 use Rattle.std.proofs.Common.{ap, option_map, subst, sym}
 use Rattle.wq_session.specs.Answer.{Finishes}
-use Rattle.wq_session.specs.At.{at_data}
+use Rattle.wq_crawl.specs.At.{at_data}
 use Rattle.wq_session.specs.Followed.{follows_of}
 use Rattle.wq_session.specs.Work.{WorkData, rest_data}
 use Rattle.wq_session.proofs.session.Session.finish.Goals as goal
