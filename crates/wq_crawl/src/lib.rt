@@ -1,9 +1,11 @@
 //! Crawling: the crawler lists roots, publishes their passes, and starts and ends roots. One caller has it, or threads
-//! share it. Other crates walk trees and serve sessions.
+//! share it. Views do what an ask needs of a root, and look at it: those of a session that is served, and those of a
+//! world of scripts. Other crates walk trees and answer asks.
 #![tactic(auto)]
 
 mod at;
 mod begun;
+mod caller;
 mod callers;
 mod clock;
 mod crawler;
@@ -14,9 +16,9 @@ mod lister;
 mod lock_roots;
 mod looking;
 mod meeting;
-mod memory_roots;
 mod need;
 mod occupants;
+mod own_roots;
 mod place;
 mod refused;
 mod relisted;
@@ -32,13 +34,13 @@ mod views;
 
 pub use at::At;
 pub use begun::Asked;
+pub use caller::Caller;
 pub use clock::MachineClock;
 pub use crawler::Crawler;
 pub use fault::CrawlFault;
 pub use lanes::LaneParts;
 pub use lister::Lister;
 pub use lock_roots::LockRoots;
-pub use memory_roots::MemoryRoots;
 pub use need::Need;
 pub use place::{Place, place_for};
 pub use refused::Refused;
