@@ -5,7 +5,6 @@ pub mod Command
 pub mod Argument
 pub mod Words
 pub mod Need
-pub mod Needed
 pub mod Reply
 pub mod Out
 pub mod Line

@@ -1,22 +1,9 @@
--- What the server does before it answers an ask: nothing; a look at the view of a root, perhaps
--- after a crawl of it, or after it was opened; or the retirement of a root.
+-- The need of an ask: the step that comes before its answer.
 -- From Watchman's documentation of synchronisation (`sync_timeout`), `watch` and `watch-del`.
 use Rattle.std.specs.Prelude.{ℕ, Bool, true, false, List}
+use Rattle.wq_crawl.specs.Need.{NeedData, none, look, crawl, watch, unwatch}
 use Rattle.wq_ask.specs.declared.ask.Ask.{Ask}
 use Rattle.wq_ask.specs.declared.ask.Ask.TheVariants.{OfRoot, Unwatch, Watch}
-
--- the first step
-pub data NeedData : Type 0 where
-  -- nothing
-  none : NeedData
-  -- a look at the current view of a root
-  look : (root : List ℕ) → NeedData
-  -- a crawl of a root, and then a look at its view
-  crawl : (root : List ℕ) → NeedData
-  -- listing and showing a root, unless it is shown, and then a look at its view
-  watch : (root : List ℕ) → NeedData
-  -- a look at a root, which is then no longer shown
-  unwatch : (root : List ℕ) → NeedData
 
 -- the view of a root, crawled first or not
 abbrev pub seen : Bool → List ℕ → NeedData

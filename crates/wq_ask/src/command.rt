@@ -5,7 +5,7 @@ ghost use Rattle.serde_json.specs.View.{items_view};
 ghost use Rattle.wq_ask.specs.Argument.{behind};
 ghost use Rattle.wq_ask.specs.Command.{command_named};
 ghost use Rattle.wq_ask.specs.Need.{need_of, seen};
-ghost use Rattle.wq_ask.specs.Needed.{need_data};
+ghost use Rattle.wq_crawl.specs.Need.{need_data};
 ghost use Rattle.wq_ask.specs.Reading.{Requests, request_of};
 
 mod clock;
@@ -17,7 +17,6 @@ mod trigger;
 mod watch;
 
 use crate::ask::Ask;
-use crate::need::Need;
 use crate::refusal::Refusal;
 use crate::root::RootText;
 use clock::ask_clock;
@@ -35,6 +34,7 @@ pub use trigger::{trigger_deleted_reply, trigger_reply, triggers_reply};
 use trigger::{ask_delete_trigger, ask_list_triggers, ask_trigger};
 pub use watch::{unwatch_reply, watch_reply};
 use watch::{ask_list, ask_unwatch, ask_watch};
+use wq_crawl::Need;
 
 /// A command, by its name alone.
 #[derive(Clone, Copy, PartialEq, Eq)]

@@ -10,7 +10,6 @@ mod fixed;
 mod giving;
 mod law;
 mod line;
-mod need;
 mod outcome;
 mod reading;
 mod refusal;
@@ -27,7 +26,6 @@ pub use command::{
 pub use cursor::Cursor;
 pub use law::{asks_hand_in_valid, hands_in_valid};
 pub use line::Line;
-pub use need::Need;
 pub use outcome::{Out, ReplyLine};
 pub use refusal::Refusal;
 pub use reply::print;

@@ -5,3 +5,12 @@ pub mod Crawl
 pub mod Shared
 pub mod Roots
 pub mod Second
+pub mod At
+pub mod Need
+pub mod Views
+pub mod Basis
+pub mod Run
+pub mod Ready
+pub mod Meeting
+pub mod Meets
+pub mod Tables

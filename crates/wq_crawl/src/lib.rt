@@ -1,8 +1,11 @@
 //! Crawling: the crawler lists roots, publishes their passes, and starts and ends roots. One caller has it, or threads
-//! share it. Other crates walk trees and serve sessions.
+//! share it. Views do what an ask needs of a root, and look at it: those of a session that is served, and those of a
+//! world of scripts. Other crates walk trees and answer asks.
 #![tactic(auto)]
 
+mod at;
 mod begun;
+mod caller;
 mod callers;
 mod clock;
 mod crawler;
@@ -11,28 +14,41 @@ mod lane;
 mod lanes;
 mod lister;
 mod lock_roots;
-mod memory_roots;
+mod looking;
+mod meeting;
+mod need;
 mod occupants;
+mod own_roots;
 mod place;
+mod refused;
 mod relisted;
 mod roots;
+mod seat_views;
 mod seconds;
 mod shared_crawler;
 mod shared_publisher;
 mod shared_seconds;
+mod table_views;
 mod tree;
+mod views;
 
+pub use at::At;
 pub use begun::Asked;
+pub use caller::Caller;
 pub use clock::MachineClock;
 pub use crawler::Crawler;
 pub use fault::CrawlFault;
 pub use lanes::LaneParts;
 pub use lister::Lister;
 pub use lock_roots::LockRoots;
-pub use memory_roots::MemoryRoots;
+pub use need::Need;
 pub use place::{Place, place_for};
+pub use refused::Refused;
 pub use roots::Roots;
+pub use seat_views::SeatViews;
 pub use seconds::Seconds;
 pub use shared_crawler::SharedCrawler;
 pub use shared_seconds::SharedSeconds;
+pub use table_views::TableViews;
 pub use tree::{LeftOut, Listing, Tree, TreeFault};
+pub use views::{RootAt, Views};

@@ -1,6 +1,7 @@
 //! Roots that many sessions share.
 ghost use Rattle.std.specs.Prelude.{◌≡◌};
 
+use crate::caller::Caller;
 use crate::fault::CrawlFault;
 use crate::roots::Roots;
 use crate::seconds::Seconds;
@@ -10,25 +11,43 @@ use std::sync::{Arc, Wait};
 use wq_base::Workers;
 use wq_live::{Named, Told};
 
-/// Roots over a crawler that threads share. They show no crawler.
+/// The roots of one session, over a crawler that threads share. They show no crawler. The session hears of each call
+/// before it.
 #[derive(Drop)]
-pub struct LockRoots<N: Named, R: Wait + Drop, T: Tree + Drop, S: Seconds + Drop> {
+pub struct LockRoots<'a, N, R, T, S, A>
+where
+    N: Named,
+    R: Wait + Drop,
+    T: Tree + Drop,
+    S: Seconds + Drop,
+    A: Caller,
+{
+    caller: &'a A,
     crawler: Arc<SharedCrawler<N, R, T, S>>,
     rt: R,
     workers: Workers,
 }
 
-impl<N: Named, R: Wait + Drop, T: Tree + Drop, S: Seconds + Drop> LockRoots<N, R, T, S> {
-    /// Roots over this crawler. They wait for it by this handle, and say that so many threads may
-    /// look for the files of a query.
+impl<'a, N, R, T, S, A> LockRoots<'a, N, R, T, S, A>
+where
+    N: Named,
+    R: Wait + Drop,
+    T: Tree + Drop,
+    S: Seconds + Drop,
+    A: Caller,
+{
+    /// Roots of this session over this crawler. They wait for it by this handle, and say that so many threads may look
+    /// for the files of a query.
     pub fn new(
+        caller: &'a A,
         crawler: Arc<SharedCrawler<N, R, T, S>>,
         rt: R,
         workers: Workers,
-    ) -> LockRoots<N, R, T, S>
+    ) -> LockRoots<'a, N, R, T, S, A>
         ensures { (result.crawler ≡ crawler) × (result.rt ≡ rt) × (result.workers ≡ workers) }
     {
         LockRoots {
+            caller,
             crawler,
             rt,
             workers,
@@ -36,21 +55,30 @@ impl<N: Named, R: Wait + Drop, T: Tree + Drop, S: Seconds + Drop> LockRoots<N, R
     }
 }
 
-impl<N: Named, R: Wait + Drop, T: Tree + Drop, S: Seconds + Drop> Roots<N>
-    for LockRoots<N, R, T, S> {
+impl<N, R, T, S, A> Roots<N> for LockRoots<'_, N, R, T, S, A>
+where
+    N: Named,
+    R: Wait + Drop,
+    T: Tree + Drop,
+    S: Seconds + Drop,
+    A: Caller,
+{
     ghost use Rattle.std.specs.Prelude.{None};
 
     ghost crawler = { λ _. None };
 
     fn watch(&mut self, root: &str) -> Result<Told<N>, CrawlFault> {
+        self.caller.has_read();
         self.crawler.watch(&self.rt, root)
     }
 
     fn crawl(&mut self, root: &str) -> Result<Option<Told<N>>, CrawlFault> {
+        self.caller.has_read();
         self.crawler.crawl(&self.rt, root)
     }
 
     fn unwatch(&mut self, number: u64) -> Result<Told<N>, CrawlFault> {
+        self.caller.has_read();
         self.crawler.unwatch(&self.rt, number)
     }
 

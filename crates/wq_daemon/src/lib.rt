@@ -5,7 +5,6 @@ mod assembly;
 mod failing;
 mod lock_host;
 mod rounds;
-mod waiting_roots;
 
 pub use assembly::{MORE_LANES, Parts, SEATS, serve_clients};
 pub use lock_host::LockHost;

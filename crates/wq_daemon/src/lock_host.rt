@@ -3,7 +3,6 @@
 
 use crate::failing::{Failing, back_line, fault_line};
 use crate::rounds::Rounds;
-use crate::waiting_roots::WaitingRoots;
 use std::alloc::{AllocError, Global};
 use std::io::Write;
 use std::sync::{Arc, Mutex, Wait};
@@ -12,12 +11,14 @@ use std::time::{Clock, Duration, Instant};
 use wq_ask::Refusal;
 use wq_base::{Asker, Workers};
 use wq_clock::Run;
-use wq_crawl::{Asked, CrawlFault, LaneParts, LockRoots, Seconds, SharedCrawler, Tree};
+use wq_crawl::{
+    Asked, Caller, CrawlFault, LaneParts, LockRoots, SeatViews, Seconds, SharedCrawler, Tree,
+};
 use wq_follow::Trigger;
 use wq_launch::{MAX_RUNS, Notices, Run as StartedRun, Runs, Spawn};
 use wq_live::{Named, Publisher, Seat};
-use wq_serve::{Ended, Kept, LockDesk, ReachedShelf, SeatViews, SharedShelf, serve};
-use wq_server::{Host, MAX_SESSIONS, Reader, RootNumbers, Stop, Worked, refuse, time_since};
+use wq_serve::{Ended, Kept, LockDesk, ReachedShelf, SharedShelf, serve};
+use wq_server::{Host, MAX_SESSIONS, RootNumbers, Stop, Worked, refuse, time_since};
 use wq_stream::Inbox;
 use wq_view::Reach;
 
@@ -131,14 +132,12 @@ where
     }
 
     /// The roots, for a session.
-    fn waiting_roots<'a, A: Reader>(
+    fn lock_roots<'a, A: Caller>(
         &self,
-        reader: &'a A,
-    ) -> Result<WaitingRoots<'a, N, R, T, S, A>, AllocError> {
-        Ok(WaitingRoots {
-            reader,
-            roots: LockRoots::new(self.crawler.clone()?, self.rt, self.workers),
-        })
+        caller: &'a A,
+    ) -> Result<LockRoots<'a, N, R, T, S, A>, AllocError> {
+        let crawler = self.crawler.clone()?;
+        Ok(LockRoots::new(caller, crawler, self.rt, self.workers))
     }
 
     /// The shelf, for a session.
@@ -280,14 +279,14 @@ where
         self.notices.tell(&self.greeting);
     }
 
-    fn serve<H: Threads + Sync, A: Asker + Reader, I: Inbox, W: Write>(
+    fn serve<H: Threads + Sync, A: Asker + Caller, I: Inbox, W: Write>(
         &self,
         threads: &H,
         client: &A,
         inbox: &mut I,
         writer: &mut W,
     ) -> bool {
-        let (Ok(roots), Ok(mut desk)) = (self.waiting_roots(client), self.lock_desk()) else {
+        let (Ok(roots), Ok(mut desk)) = (self.lock_roots(client), self.lock_desk()) else {
             refuse(writer, Refusal::NoMemory);
             return false;
         };

@@ -5,10 +5,11 @@ use Rattle.wq_replay.proofs.Worlds.{runs_go_on, runs_one}
 use Rattle.wq_replay.specs.Gets.{answered, kept}
 use Rattle.wq_replay.specs.Playing.{Runs, sent_to}
 use Rattle.wq_replay.specs.World.{HappeningData, WorldData, asked, at_events}
-use Rattle.wq_serve.specs.Basis.{Basis}
+use Rattle.wq_crawl.specs.Basis.{Basis}
 use Rattle.wq_serve.specs.Serving.{PlaceData, stand_at}
 use Rattle.wq_ask.specs.Out.{MayRefuse, OutData, runs_out}
-use Rattle.wq_ask.specs.Need.{need_of, watch}
+use Rattle.wq_crawl.specs.Need.{watch}
+use Rattle.wq_ask.specs.Need.{need_of}
 use Rattle.wq_ask.specs.declared.ask.Ask.{Ask}
 use Rattle.wq_ask.specs.declared.ask.Ask.TheVariants.{Alone, OfRoot, OfShelf, Unwatch, Watch}
 use Rattle.wq_ask.specs.declared.refusal.Refusal.TheVariants.{NoMemory as OutOfMemory}
@@ -18,7 +19,8 @@ use Rattle.wq_session.specs.At.{ShelfNow}
 use Rattle.wq_session.specs.Begun.{begun, takes_memory}
 use Rattle.wq_session.specs.Crawl.{crawl_refusal}
 use Rattle.wq_session.specs.Desk.{StandData, stand}
-use Rattle.wq_session.specs.Views.{ReadyData, Replies}
+use Rattle.wq_crawl.specs.Views.{ReadyData}
+use Rattle.wq_session.specs.Desk.{Replies}
 use Rattle.wq_session.specs.Work.{BegunData, WorkData, evaluates}
 use Rattle.wq_view.specs.View.{HasOneView}
 use Rattle.wq_headline.specs.Alone.{HappensFirst, IsCurrent, ShowsWorld}

@@ -19,7 +19,8 @@ use Rattle.wq_follow.specs.Subscription.{SubscriptionData, subscribed}
 use Rattle.wq_query.specs.Query.{QueryData}
 use Rattle.wq_query.specs.Reading.{asks as query_of}
 use Rattle.wq_query.specs.Subscribed.{subscribes as subscription_of}
-use Rattle.wq_session.specs.At.{AtData, ShelfNow, is_watched, watched}
+use Rattle.wq_crawl.specs.At.{AtData}
+use Rattle.wq_session.specs.At.{ShelfNow, is_watched, watched}
 use Rattle.wq_session.specs.Begun.{begun, or_refused, tried, tried_alone, tried_on, tried_there}
 use Rattle.wq_registry.specs.ByName.{has_no_place}
 use Rattle.wq_registry.specs.Limit.{max_programs}

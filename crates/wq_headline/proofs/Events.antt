@@ -4,10 +4,11 @@ use Rattle.wq_clock.specs.declared.run.Run.{Run}
 use Rattle.wq_crawl.specs.Crawl.{CrawlerData}
 use Rattle.wq_live.specs.Table.{IsTableOf, TableData}
 use Rattle.wq_replay.proofs.Worlds.{runs_one}
-use Rattle.wq_replay.specs.Gets.{answered, kept, numbered}
+use Rattle.wq_crawl.specs.Meets.{numbered}
+use Rattle.wq_replay.specs.Gets.{answered, kept}
 use Rattle.wq_replay.specs.Playing.{sent_to}
 use Rattle.wq_replay.specs.World.{HappeningData, WorldData, asked, idle}
-use Rattle.wq_serve.specs.Basis.{Basis}
+use Rattle.wq_crawl.specs.Basis.{Basis}
 use Rattle.wq_serve.specs.Idling.{IsIdled}
 use Rattle.wq_serve.specs.Serving.{IsAnswered, PlaceData, stand_at}
 use Rattle.wq_ask.specs.Need.{need_of}
@@ -17,7 +18,8 @@ use Rattle.wq_ask.specs.declared.ask.Ask.{Ask}
 use Rattle.wq_session.specs.Answer.{answer, giving}
 use Rattle.wq_session.specs.At.{ShelfNow}
 use Rattle.wq_session.specs.Desk.{stand}
-use Rattle.wq_session.specs.Views.{ReadyData, Replies}
+use Rattle.wq_crawl.specs.Views.{ReadyData}
+use Rattle.wq_session.specs.Desk.{Replies}
 use Rattle.wq_session.specs.Moment.{Idles}
 use Rattle.wq_stream.specs.declared.event.Event.{Event}
 use Rattle.wq_stream.specs.declared.event.Event.TheVariants.{Line, Long, Binary, Idle, End, Fault}

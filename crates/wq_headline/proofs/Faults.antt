@@ -3,9 +3,9 @@ use Rattle.std.proofs.Common.{◌≡◌, ℕ, Bool, true, false, is_some, if◌t
 use Rattle.std.proofs.lemmas.Slice.Eq.{bytes_eq-Decides}
 use Rattle.wq_crawl.specs.declared.fault.CrawlFault.{CrawlFault}
 use Rattle.wq_live.specs.Table.{TableData, number_by_text}
-use Rattle.wq_replay.specs.Gets.{fault_for, refused_fault}
-use Rattle.wq_replay.specs.World.{RefusedData, shows_root}
-use Rattle.wq_ask.specs.Need.{NeedData, none, look, crawl, watch, unwatch}
+use Rattle.wq_crawl.specs.Meets.{fault_for, refused_fault}
+use Rattle.wq_crawl.specs.Meets.{RefusedData, shows_root}
+use Rattle.wq_crawl.specs.Need.{NeedData, none, look, crawl, watch, unwatch}
 
 -- no need has a fault if nothing was refused
 pub no_fault : (need : NeedData) (table : TableData) → fault_for need table None ≡ None

@@ -7,7 +7,8 @@ use Rattle.std.proofs.lemmas.Bool.Decides.{Decides-int_eq}
 use Rattle.std.proofs.lemmas.List.Elements.{All-from_recursion}
 use Rattle.serde_json.specs.Data.{Data}
 use Rattle.serde_json.specs.Written.{compact_text}
-use Rattle.wq_ask.specs.Need.{NeedData, crawl as crawl_of, look, need_of, none, unwatch, watch}
+use Rattle.wq_crawl.specs.Need.{NeedData, crawl as crawl_of, look, none, unwatch, watch}
+use Rattle.wq_ask.specs.Need.{need_of}
 use Rattle.wq_ask.specs.Out.{OutData, refuses, silence}
 use Rattle.wq_ask.specs.declared.ask.Ask.{Ask}
 use Rattle.wq_ask.specs.declared.refusal.Refusal.TheVariants.{TooManySubscriptions}
@@ -25,18 +26,22 @@ use Rattle.wq_live.specs.declared.event.RootEvent.{RootEvent}
 use Rattle.wq_code.specs.declared.raw.Raw.{Raw}
 use Rattle.wq_query.specs.Query.{PlanData, QueryData}
 use Rattle.wq_query.specs.Subscribed.{SubscriptionsArePlain, subscribes as subscription_of}
-use Rattle.wq_replay.specs.Gets.{MeetsAt, Meets, MeetsFor, at_root, ending, fault_for, kept, looked, numbered, with_follows}
+use Rattle.wq_crawl.specs.Meets.{MeetsAt, Meets, MeetsFor, at_root, ending, fault_for, looked, numbered}
+use Rattle.wq_replay.specs.Gets.{kept, with_follows}
 use Rattle.wq_replay.specs.Playing.{Happens, Runs, sent_list, sent_to}
 use Rattle.wq_replay.specs.Rounds.{RoundsAt}
-use Rattle.wq_replay.specs.World.{Crawls, CrawlsAt, HappeningData, RefusedData, SentData, Starts, WatchesAt, WorldData, asked, crawl, ended, idle, new_world, round, watching}
+use Rattle.wq_crawl.specs.Meets.{RefusedData}
+use Rattle.wq_replay.specs.World.{Crawls, CrawlsAt, HappeningData, SentData, Starts, WatchesAt, WorldData, asked, crawl, ended, idle, new_world, round, watching}
 use Rattle.wq_session.specs.Answer.{AnswersAsk, DoneData, finished, following, giving, subscribing_at, subscribing_by}
-use Rattle.wq_session.specs.At.{AtData, ShelfNow}
+use Rattle.wq_crawl.specs.At.{AtData}
+use Rattle.wq_session.specs.At.{ShelfNow}
 use Rattle.wq_session.specs.Begun.{begun}
 use Rattle.wq_session.specs.Desk.{StandData, stand}
 use Rattle.wq_session.specs.Followed.{has_no_room, is_called, with_subscription, without_called}
 use Rattle.wq_session.specs.Moment.{Shown, left_of, listed_once, shown_in, told_list_at, told_lists_of, told_of}
 use Rattle.wq_session.specs.Subscribe.{first_plan}
-use Rattle.wq_session.specs.Views.{ReadyData, Replies}
+use Rattle.wq_crawl.specs.Views.{ReadyData}
+use Rattle.wq_session.specs.Desk.{Replies}
 use Rattle.wq_session.specs.Work.{WorkData, begins, drops, evaluates, prints, says}
 use Rattle.wq_view.specs.History.{History}
 use Rattle.wq_view.specs.Listing.{PassData}

@@ -2,7 +2,8 @@
 use Rattle.std.proofs.Common.{◌≡◌, ℕ, List, [], ◌∷◌, ◌++◌, Option, Some, None, Result, Ok, Err, inl, inr, ap, sym, ◌∙◌, append-nil}
 use mathlib.Core.List.{IsPrefix}
 use Rattle.std.proofs.lemmas.List.Elements.{filter_map-append}
-use Rattle.wq_ask.specs.Need.{NeedData, need_of}
+use Rattle.wq_crawl.specs.Need.{NeedData}
+use Rattle.wq_ask.specs.Need.{need_of}
 use Rattle.wq_crawl.specs.declared.fault.CrawlFault.{CrawlFault}
 use Rattle.wq_crawl.specs.declared.place.Place.{Place}
 use Rattle.wq_crawl.specs.declared.place.Place.TheVariants.{Shown, Full, Free}
@@ -11,11 +12,12 @@ use Rattle.wq_live.specs.Event.{number_of, pass_in, passes_over}
 use Rattle.wq_live.specs.Table.{RootView, root_by_text}
 use Rattle.wq_live.specs.declared.event.RootEvent.{RootEvent}
 use Rattle.wq_live.specs.declared.event.RootEvent.TheVariants.{Ended, Passed}
-use Rattle.wq_replay.specs.Gets.{Meets, MeetsAt, MeetsFor, ending, fault_for}
+use Rattle.wq_crawl.specs.Meets.{Meets, MeetsAt, MeetsFor, ending, fault_for}
 use Rattle.wq_replay.specs.Playing.{Happens}
 use Rattle.wq_replay.specs.Rounds.{RoundsAt}
-use Rattle.wq_replay.specs.World.{Crawls, CrawlsAt, HappeningData, RefusedData, SentData, Starts, WatchesAt, WorldData, asked, crawl, ended, idle, round, watching}
-use Rattle.wq_session.specs.Views.{ReadyData}
+use Rattle.wq_crawl.specs.Meets.{RefusedData}
+use Rattle.wq_replay.specs.World.{Crawls, CrawlsAt, HappeningData, SentData, Starts, WatchesAt, WorldData, asked, crawl, ended, idle, round, watching}
+use Rattle.wq_crawl.specs.Views.{ReadyData}
 use Rattle.wq_view.specs.Listing.{PassData}
 
 -- a list begins itself

@@ -2,7 +2,8 @@
 use Rattle.std.proofs.Common.{◌≡◌, ℤ, cond, List, refl, ap, subst, sym, ◌∙◌}
 use Rattle.std.proofs.lemmas.Bool.Decides.{Decides-int_eq}
 use Rattle.wq_follow.specs.Subscription.{SubscriptionData}
-use Rattle.wq_replay.specs.Gets.{numbered, with_follows}
+use Rattle.wq_crawl.specs.Meets.{numbered}
+use Rattle.wq_replay.specs.Gets.{with_follows}
 use Rattle.wq_replay.specs.Playing.{sent_to}
 use Rattle.wq_session.specs.Moment.{shown_in, told_lists_of}
 use Rattle.wq_headline.specs.Followers.{MomentsAreExact}

@@ -7,9 +7,9 @@ use Rattle.wq_clock.specs.declared.run.Run.{Run}
 use Rattle.wq_live.specs.Event.{Root, number_of, passes_over}
 use Rattle.wq_live.specs.Table.{IsTableOf, RootView, TableData, has_number, has_text, root_by_text, root_of}
 use Rattle.wq_live.specs.declared.event.RootEvent.{RootEvent}
-use Rattle.wq_replay.specs.Gets.{at_root}
-use Rattle.wq_serve.specs.Run.{ShowsAt}
-use Rattle.wq_session.specs.At.{AtData}
+use Rattle.wq_crawl.specs.Meets.{at_root}
+use Rattle.wq_crawl.specs.Run.{ShowsAt}
+use Rattle.wq_crawl.specs.At.{AtData}
 use Rattle.wq_view.specs.View.{HasOneView, IsViewOf, ViewData}
 use Rattle.wq_headline.specs.Lists.{LooksFindRoots, NumbersFindRoots}
 use Rattle.wq_headline.proofs.Lists.{found_number, found_view, named, number_by, shown_by, some_same}

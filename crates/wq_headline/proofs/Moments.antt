@@ -9,11 +9,11 @@ use Rattle.wq_clock.specs.declared.run.Run.{Run}
 use Rattle.wq_follow.specs.Subscription.{SubscriptionData, next_list}
 use Rattle.wq_live.specs.Event.{is_shown, passes_over}
 use Rattle.wq_live.specs.declared.event.RootEvent.{RootEvent}
-use Rattle.wq_serve.specs.Basis.{Basis}
+use Rattle.wq_crawl.specs.Basis.{Basis}
 use Rattle.wq_serve.specs.Idling.{IsIdled}
-use Rattle.wq_serve.specs.Run.{ShowsNumber}
+use Rattle.wq_crawl.specs.Run.{ShowsNumber}
 use Rattle.wq_serve.specs.Serving.{PlaceData, stand_at}
-use Rattle.wq_session.specs.At.{AtData}
+use Rattle.wq_crawl.specs.At.{AtData}
 use Rattle.wq_session.specs.Moment.{AreLeft, Idles, MayRunOut, Shown, ToldListData, left_of, listed_once, shown_in, told_list_at, told_lists_of, told_of}
 use Rattle.wq_view.specs.View.{IsViewOf}
 use Rattle.wq_headline.specs.Exact.{AreListsOf}

@@ -16,15 +16,16 @@ use Rattle.wq_live.specs.Table.{IsTableOf, RootView, TableData, WantsForTicks, n
 use Rattle.wq_live.specs.declared.event.RootEvent.{RootEvent}
 use Rattle.wq_live.specs.declared.event.RootEvent.TheVariants.{Ended}
 use Rattle.wq_replay.proofs.Worlds.{crawls_shown, runs_one}
-use Rattle.wq_replay.specs.Gets.{Meets, MeetsAt, MeetsFor, at_end, at_root, ending, fault_for, looked}
+use Rattle.wq_crawl.specs.Meets.{Meets, MeetsAt, MeetsFor, at_end, at_root, ending, fault_for, looked}
 use Rattle.wq_replay.specs.Playing.{Happens, Runs}
-use Rattle.wq_replay.specs.World.{Crawls, HappeningData, RefusedData, Watches, WorldData, at_events, crawl as crawls_root, watching, refusing, unrefused}
-use Rattle.wq_serve.specs.Basis.{Basis}
-use Rattle.wq_serve.specs.Ready.{KnownData, Learns, Looks, LooksAfter, Readies, Unwatches, ended, ended_by}
-use Rattle.wq_serve.specs.Run.{ShowsAt}
-use Rattle.wq_ask.specs.Need.{NeedData, none, look, crawl, watch, unwatch}
-use Rattle.wq_session.specs.At.{AtData}
-use Rattle.wq_session.specs.Views.{ReadyData}
+use Rattle.wq_crawl.specs.Meets.{RefusedData}
+use Rattle.wq_replay.specs.World.{Crawls, HappeningData, Watches, WorldData, at_events, crawl as crawls_root, watching, refusing, unrefused}
+use Rattle.wq_crawl.specs.Basis.{Basis}
+use Rattle.wq_crawl.specs.Ready.{KnownData, Learns, Looks, LooksAfter, Readies, Unwatches, ended, ended_by}
+use Rattle.wq_crawl.specs.Run.{ShowsAt}
+use Rattle.wq_crawl.specs.Need.{NeedData, none, look, crawl, watch, unwatch}
+use Rattle.wq_crawl.specs.At.{AtData}
+use Rattle.wq_crawl.specs.Views.{ReadyData}
 use Rattle.wq_view.specs.Listing.{PassData}
 use Rattle.wq_view.specs.View.{HasOneView}
 use Rattle.wq_headline.specs.Alone.{HappensFirst, IsCurrent, root_needed}

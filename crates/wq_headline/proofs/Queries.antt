@@ -19,7 +19,8 @@ use Rattle.wq_query.specs.Reply.{reply_of}
 use Rattle.wq_query.specs.declared.fault.QueryFault.{QueryFault}
 use Rattle.wq_registry.specs.ByName.{under}
 use Rattle.wq_session.specs.Answer.{AnswersAsk, finished}
-use Rattle.wq_session.specs.At.{AtData, ShelfNow, is_watched, watched}
+use Rattle.wq_crawl.specs.At.{AtData}
+use Rattle.wq_session.specs.At.{ShelfNow, is_watched, watched}
 use Rattle.wq_session.specs.Begun.{or_refused}
 use Rattle.wq_session.specs.Query.{begun_query, has_place, moved_cursor, plan_at, program_for, program_named, try_query, used_at}
 use Rattle.wq_session.specs.Work.{BegunData, evaluates}

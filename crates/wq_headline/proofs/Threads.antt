@@ -22,16 +22,18 @@ use Rattle.wq_follow.specs.Subscription.{SubscriptionData}
 use Rattle.wq_live.specs.Event.{Root}
 use Rattle.wq_live.specs.declared.event.RootEvent.{RootEvent}
 use Rattle.wq_serve.proofs.Reaching.{take_reached, unset_reached}
-use Rattle.wq_serve.specs.Basis.{Basis}
-use Rattle.wq_serve.specs.Ready.{Hears, KnownData, Looks, LooksAfter, Readies}
-use Rattle.wq_serve.specs.Run.{ShowsAt}
+use Rattle.wq_crawl.specs.Basis.{Basis}
+use Rattle.wq_crawl.specs.Ready.{Hears, KnownData, Looks, LooksAfter, Readies}
+use Rattle.wq_crawl.specs.Run.{ShowsAt}
 use Rattle.wq_serve.specs.Serving.{Does, GoesOn, IsAnswered, PlaceData, Serves, stand_at}
 use Rattle.wq_session.specs.Answer.{AnswersAsk, without_cursor}
-use Rattle.wq_session.specs.At.{AtData, ShelfNow}
+use Rattle.wq_crawl.specs.At.{AtData}
+use Rattle.wq_session.specs.At.{ShelfNow}
 use Rattle.wq_session.specs.Begun.{begun}
 use Rattle.wq_session.specs.Desk.{AnswersShelf, StandData}
 use Rattle.wq_session.specs.Reached.{IsReached, ReachedProgramsAreValid}
-use Rattle.wq_session.specs.Views.{ReadyData, Replies}
+use Rattle.wq_crawl.specs.Views.{ReadyData}
+use Rattle.wq_session.specs.Desk.{Replies}
 use Rattle.wq_session.specs.Work.{BegunData, WorkData}
 use Rattle.wq_stream.specs.declared.event.Event.{Event}
 use Rattle.wq_stream.specs.declared.event.Event.TheVariants.{Line, Long, Binary, Idle, End, Fault}

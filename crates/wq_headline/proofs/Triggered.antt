@@ -7,7 +7,8 @@ use Rattle.serde_json.specs.Data.{Data}
 use Rattle.serde_json.specs.Find.{get}
 use Rattle.serde_json.specs.View.{view as data_of}
 use Rattle.wq_base.proofs.Fault.{or_its_fault-ok, or_own_fault-ok, unless_fault-ok}
-use Rattle.wq_ask.specs.Need.{NeedData, crawl as crawl_of, look, need_of, none, unwatch, watch}
+use Rattle.wq_crawl.specs.Need.{NeedData, crawl as crawl_of, look, none, unwatch, watch}
+use Rattle.wq_ask.specs.Need.{need_of}
 use Rattle.wq_ask.specs.Out.{OutData}
 use Rattle.wq_ask.specs.declared.ask.Ask.{Ask}
 use Rattle.wq_ask.specs.declared.ask.Ask.TheVariants.{Alone, OfRoot, OfShelf, Unwatch, Watch}
@@ -37,18 +38,21 @@ use Rattle.wq_registry.specs.ByName.{ByName, put, without}
 use Rattle.wq_registry.specs.History.{adds_program, adds_root, adds_trigger, after, after_all, removes_program, removes_root, removes_trigger, unsets_cursor, uses_cursor}
 use Rattle.wq_registry.specs.Root.{RootData, changed, is_newer, new_root, numbered, triggers_in, with_cursor, with_trigger, without_cursor, without_text, without_trigger}
 use Rattle.wq_registry.specs.Shelf.{triggers_of}
-use Rattle.wq_replay.specs.Gets.{Meets, MeetsAt, MeetsFor, at_end, at_root, ending, fault_for, looked}
+use Rattle.wq_crawl.specs.Meets.{Meets, MeetsAt, MeetsFor, at_end, at_root, ending, fault_for, looked}
 use Rattle.wq_replay.specs.Playing.{Happens, Runs}
 use Rattle.wq_replay.specs.Rounds.{HasRound, RoundsAt}
 use Rattle.wq_replay.specs.Runs.{launcher_at}
-use Rattle.wq_replay.specs.World.{HappeningData, RefusedData, SentData, WorldData, asked, crawl, ended, idle, new_world, round, watching}
+use Rattle.wq_crawl.specs.Meets.{RefusedData}
+use Rattle.wq_replay.specs.World.{HappeningData, SentData, WorldData, asked, crawl, ended, idle, new_world, round, watching}
 use Rattle.wq_session.specs.Accepted.{Accepts, AnswersAreCalls, CallNow, calls_of, cursor_calls, definition_calls, made_calls, query_calls, shelf_calls, shown_calls, there_calls, unset_calls}
-use Rattle.wq_session.specs.At.{AtData, ShelfNow}
+use Rattle.wq_crawl.specs.At.{AtData}
+use Rattle.wq_session.specs.At.{ShelfNow}
 use Rattle.wq_session.specs.Desk.{StandData, stand}
 use Rattle.wq_session.specs.Query.{program_for}
 use Rattle.wq_session.specs.Round.{after_turns}
 use Rattle.wq_session.specs.Trigger.{defined_by, trigger_in, trigger_refusal}
-use Rattle.wq_session.specs.Views.{ReadyData, Replies}
+use Rattle.wq_crawl.specs.Views.{ReadyData}
+use Rattle.wq_session.specs.Desk.{Replies}
 use Rattle.wq_view.specs.View.{ViewData}
 use Rattle.wq_headline.specs.Triggers.{IsTriggered, TriggersAreExact}
 use Rattle.wq_headline.proofs.Followed.{crawl_leaves, watch_leaves}

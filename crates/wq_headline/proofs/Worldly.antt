@@ -4,7 +4,8 @@ use Rattle.serde_json.specs.Data.{Data}
 use Rattle.serde_json.specs.View.{view as data_of}
 use Rattle.serde_json.specs.declared.value.Value.{Value}
 use Rattle.wq_ask.specs.Argument.{queries}
-use Rattle.wq_ask.specs.Need.{crawl as crawl_of, none, need_of}
+use Rattle.wq_crawl.specs.Need.{crawl as crawl_of, none}
+use Rattle.wq_ask.specs.Need.{need_of}
 use Rattle.wq_ask.specs.Out.{OutData, runs_out}
 use Rattle.wq_ask.specs.Query.{IsQuerying}
 use Rattle.wq_ask.specs.Reading.{Asks, IsRequested, requested}
@@ -20,13 +21,16 @@ use Rattle.wq_follow.specs.Subscription.{SubscriptionData}
 use Rattle.wq_live.specs.Table.{IsTableOf, RootView, TableData, has_text, root_by_text}
 use Rattle.wq_live.specs.declared.event.RootEvent.{RootEvent}
 use Rattle.wq_registry.specs.ByName.{under}
-use Rattle.wq_replay.specs.Gets.{Meets, MeetsFor, at_root, fault_for, refused_fault}
+use Rattle.wq_crawl.specs.Meets.{Meets, MeetsFor, at_root, fault_for, refused_fault}
 use Rattle.wq_replay.specs.Valid.{ProgramsAreValid}
-use Rattle.wq_replay.specs.World.{WorldData, shows_root}
+use Rattle.wq_crawl.specs.Meets.{shows_root}
+use Rattle.wq_replay.specs.World.{WorldData}
 use Rattle.wq_session.specs.Answer.{AnswersAsk}
-use Rattle.wq_session.specs.At.{AtData, ShelfNow}
+use Rattle.wq_crawl.specs.At.{AtData}
+use Rattle.wq_session.specs.At.{ShelfNow}
 use Rattle.wq_session.specs.Desk.{stand}
-use Rattle.wq_session.specs.Views.{ReadyData, Replies}
+use Rattle.wq_crawl.specs.Views.{ReadyData}
+use Rattle.wq_session.specs.Desk.{Replies}
 use Rattle.wq_stream.specs.declared.event.Event.TheVariants.{Line}
 use Rattle.wq_verify.specs.Typing.{IsValid}
 use Rattle.wq_headline.specs.Exact.{IsReplyAt, IsReplyIn, RepliesAreExact, Shows}

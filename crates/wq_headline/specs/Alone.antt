@@ -12,10 +12,11 @@ use Rattle.wq_live.specs.declared.event.RootEvent.{RootEvent}
 use Rattle.wq_replay.specs.Gets.{kept}
 use Rattle.wq_replay.specs.Playing.{Runs, sent_to}
 use Rattle.wq_replay.specs.World.{WorldData, HappeningData, SentData, crawl, watching, asked, idle}
-use Rattle.wq_serve.specs.Basis.{Basis}
-use Rattle.wq_serve.specs.Ready.{KnownData}
+use Rattle.wq_crawl.specs.Basis.{Basis}
+use Rattle.wq_crawl.specs.Ready.{KnownData}
 use Rattle.wq_serve.specs.Serving.{GoesOn, PlaceData, Serves, lines_for, written_for}
-use Rattle.wq_ask.specs.Need.{NeedData, none, look, crawl as crawl_of, watch as watch_of, unwatch, need_of}
+use Rattle.wq_crawl.specs.Need.{NeedData, none, look, crawl as crawl_of, watch as watch_of, unwatch}
+use Rattle.wq_ask.specs.Need.{need_of}
 use Rattle.wq_ask.specs.Out.{OutData}
 use Rattle.wq_ask.specs.Reading.{Asks}
 use Rattle.wq_ask.specs.declared.ask.Ask.{Ask}

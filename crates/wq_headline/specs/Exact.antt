@@ -22,14 +22,15 @@ use Rattle.wq_live.specs.declared.event.RootEvent.{RootEvent}
 use Rattle.wq_query.specs.Query.{QueryData}
 use Rattle.wq_query.specs.Reading.{asks as query_of}
 use Rattle.wq_query.specs.Reply.{reply_of}
-use Rattle.wq_replay.specs.Gets.{refused_fault}
+use Rattle.wq_crawl.specs.Meets.{refused_fault}
 use Rattle.wq_replay.specs.Playing.{Happens, Runs, sent_to}
 use Rattle.wq_replay.specs.Valid.{AreAsksOfEvents}
 use Rattle.wq_replay.specs.World.{HappeningData, SentData, WorldData, asked, new_world}
-use Rattle.wq_serve.specs.Basis.{Basis}
-use Rattle.wq_serve.specs.Ready.{Hears, KnownData}
+use Rattle.wq_crawl.specs.Basis.{Basis}
+use Rattle.wq_crawl.specs.Ready.{Hears, KnownData}
 use Rattle.wq_serve.specs.Serving.{EndData, GoesOn, IsServed, PlaceData}
-use Rattle.wq_session.specs.At.{AtData, ShelfNow, watched}
+use Rattle.wq_crawl.specs.At.{AtData}
+use Rattle.wq_session.specs.At.{ShelfNow, watched}
 use Rattle.wq_session.specs.Crawl.{crawl_refusal}
 use Rattle.wq_session.specs.Query.{plan_at, program_for, try_query}
 use Rattle.wq_session.specs.Reached.{IsReached}

@@ -6,9 +6,9 @@ use Rattle.wq_clock.specs.Run.{run_data}
 use Rattle.wq_clock.specs.declared.run.Run.{Run}
 use Rattle.wq_live.specs.Table.{IsTableOf, TableData, root_by_text}
 use Rattle.wq_live.specs.declared.event.RootEvent.{RootEvent}
-use Rattle.wq_replay.specs.Gets.{at_root, numbered}
-use Rattle.wq_serve.specs.Run.{ShowsAt, ShowsNumber}
-use Rattle.wq_session.specs.At.{AtData}
+use Rattle.wq_crawl.specs.Meets.{at_root, numbered}
+use Rattle.wq_crawl.specs.Run.{ShowsAt, ShowsNumber}
+use Rattle.wq_crawl.specs.At.{AtData}
 
 -- the root of a text that a look finds in a list is the one that the list's table has
 abbrev pub LooksFindRoots : Type 0

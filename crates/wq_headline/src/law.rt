@@ -1,6 +1,6 @@
 //! The headline, each part a clause of one function.
 ghost use Rattle.wq_clock.specs.declared.run.Run.{Run};
-ghost use Rattle.wq_serve.specs.Basis.{basis_of};
+ghost use Rattle.wq_crawl.specs.Basis.{basis_of};
 ghost use Rattle.wq_headline.specs.Exact.{ClocksNameViews, RepliesAreExact, ServedRepliesAreExact};
 ghost use Rattle.wq_headline.specs.Headline.{ExpressionsCompile, ExpressionsSelect, ProgramsRun};
 ghost use Rattle.wq_headline.specs.Triggers.{FollowersAreExact};

@@ -1,7 +1,7 @@
 //! Laws of sessions that are served alone, each a function whose contract is the law. Those of sessions hold for the
 //! looks at each list of events.
 ghost use Rattle.wq_clock.specs.declared.run.Run.{Run};
-ghost use Rattle.wq_serve.specs.Basis.{basis_of};
+ghost use Rattle.wq_crawl.specs.Basis.{basis_of};
 ghost use Rattle.wq_headline.specs.Alone.{AloneGoesOn, EndsShowAWorld, EventsAreRuns, GoingOnIsARun};
 ghost use Rattle.wq_headline.specs.Alone.{ServedAloneIsARun};
 ghost use Rattle.wq_headline.specs.Lists.{LooksFindRoots, NumbersFindRoots};

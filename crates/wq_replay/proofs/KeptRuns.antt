@@ -26,7 +26,8 @@ use Rattle.wq_ask.specs.declared.ask.ShelfAsk.TheVariants.{AddProgram, DeletePro
 use Rattle.wq_ask.specs.declared.cursor.Cursor.{Cursor}
 use Rattle.wq_ask.specs.declared.refusal.Refusal.{Refusal}
 use Rattle.wq_session.specs.Accepted.{Accepts, CallNow, calls_of, cursor_calls, definition_calls, made_calls, query_calls, shown_calls, there_calls, unset_calls}
-use Rattle.wq_session.specs.At.{AtData, ShelfNow}
+use Rattle.wq_crawl.specs.At.{AtData}
+use Rattle.wq_session.specs.At.{ShelfNow}
 use Rattle.wq_session.specs.Query.{program_for}
 use Rattle.wq_session.specs.Trigger.{defined_by, run_in, trigger_called}
 use Rattle.wq_view.specs.View.{ViewData}

@@ -1,7 +1,6 @@
-mod Tables
+mod FirstEvents
 mod Follows
 pub mod Worlds
-mod Needs
 mod Words
 mod NewLines
 mod Parts

@@ -20,7 +20,8 @@ use Rattle.wq_session.specs.Round.{RoundsAreCalls, after_turns, turn_calls}
 use Rattle.wq_session.specs.Trigger.{run_in, trigger_called}
 use Rattle.wq_view.specs.Listing.{PassData}
 use Rattle.wq_replay.specs.Accepted.{AcceptsAt, AcceptsFor, AcceptsUnless}
-use Rattle.wq_replay.specs.Gets.{Gets, ending, fault_for}
+use Rattle.wq_crawl.specs.Meets.{ending, fault_for}
+use Rattle.wq_replay.specs.Gets.{Gets}
 use Rattle.wq_replay.specs.Overlap.{Meanwhile, HasTrigger, RunsDoNotOverlap, StartsTrigger}
 use Rattle.wq_replay.specs.Playing.{Happens}
 use Rattle.wq_replay.specs.Rounds.{HasRound, RoundsAt}

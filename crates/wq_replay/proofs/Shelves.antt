@@ -13,7 +13,8 @@ use Rattle.wq_ask.specs.Out.{MayRefuse}
 use Rattle.wq_session.specs.Accepted.{Accepts, CallNow, AnswersAreCalls}
 use Rattle.wq_session.specs.Crawl.{crawl_refusal}
 use Rattle.wq_session.specs.Desk.{StandData, stand}
-use Rattle.wq_session.specs.Views.{ReadyData, Replies}
+use Rattle.wq_crawl.specs.Views.{ReadyData}
+use Rattle.wq_session.specs.Desk.{Replies}
 use Rattle.wq_session.proofs.Held.{shown_answer}
 use Rattle.wq_live.specs.declared.event.RootEvent.{RootEvent}
 use Rattle.wq_crawl.specs.declared.fault.CrawlFault.TheVariants.{NoMemory}
@@ -21,12 +22,14 @@ use Rattle.wq_ask.specs.Need.{need_of}
 use Rattle.wq_ask.specs.Out.{OutData}
 use Rattle.wq_ask.specs.declared.ask.Ask.{Ask}
 use Rattle.wq_session.specs.Round.{IsRound, RoundsAreCalls, turn_calls}
-use Rattle.wq_session.specs.At.{AtData, ShelfNow}
+use Rattle.wq_crawl.specs.At.{AtData}
+use Rattle.wq_session.specs.At.{ShelfNow}
 use Rattle.wq_crawl.specs.declared.fault.CrawlFault.{CrawlFault}
 use Rattle.wq_view.specs.Listing.{PassData}
 use Rattle.wq_view.specs.View.{ViewData}
 use Rattle.wq_replay.specs.Accepted.{AcceptsAt, AcceptsOf, AcceptsRound, AcceptsUnless, RunsWith, ShelvesAreCalls}
-use Rattle.wq_replay.specs.Gets.{MeetsAt, MeetsFor, RepliesIn, at_end, ending, fault_for, looked}
+use Rattle.wq_crawl.specs.Meets.{MeetsAt, MeetsFor, at_end, ending, fault_for, looked}
+use Rattle.wq_replay.specs.Gets.{RepliesIn}
 use Rattle.wq_replay.specs.Playing.{Happens, Runs}
 use Rattle.wq_replay.specs.Rounds.{RoundsAt}
 use Rattle.wq_replay.specs.World.{Crawls, CrawlsAt, HappeningData, crawl, watching, asked, idle, round, ended, WatchesAt, SentData, Starts, WorldData, at_events, new_world, root_text}

@@ -16,7 +16,7 @@ use Rattle.wq_session.specs.Accepted.{AddedAreAsked, CallNow}
 use Rattle.wq_session.proofs.Adding.{one_of, turns_none}
 use Rattle.wq_verify.specs.Typing.{IsValid}
 use Rattle.wq_replay.specs.Accepted.{AcceptsAt, AcceptsOf, AcceptsRound, AcceptsUnless, RunsWith, ShelvesAreCalls}
-use Rattle.wq_replay.specs.Gets.{ending, fault_for}
+use Rattle.wq_crawl.specs.Meets.{ending, fault_for}
 use Rattle.wq_replay.specs.Valid.{AreAsksOfEvents, IsOfEvent, ProgramsAreValid}
 use Rattle.wq_replay.specs.World.{crawl, watching, asked, idle, round, ended, HappeningData, SentData, WorldData, new_world, root_text}
 

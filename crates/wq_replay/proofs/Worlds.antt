@@ -9,15 +9,18 @@ use Rattle.wq_ask.specs.Need.{need_of}
 use Rattle.wq_ask.specs.Out.{OutData}
 use Rattle.wq_session.specs.Moment.{Idles}
 use Rattle.wq_session.specs.Desk.{stand}
-use Rattle.wq_session.specs.At.{AtData, ShelfNow}
+use Rattle.wq_crawl.specs.At.{AtData}
+use Rattle.wq_session.specs.At.{ShelfNow}
 use Rattle.wq_session.specs.Shelved.{shelf_data}
 use Rattle.wq_live.specs.declared.event.RootEvent.{RootEvent}
 use Rattle.wq_ask.specs.declared.ask.Ask.{Ask}
+use Rattle.wq_crawl.specs.Need.{NeedData}
 use Rattle.wq_crawl.specs.Publish.{IsPlace}
 use Rattle.wq_crawl.specs.declared.fault.CrawlFault.{CrawlFault}
 use Rattle.wq_crawl.specs.declared.place.Place.{Place}
 use Rattle.wq_crawl.specs.declared.place.Place.TheVariants.{Free}
-use Rattle.wq_session.specs.Views.{ReadyData, Replies}
+use Rattle.wq_crawl.specs.Views.{ReadyData}
+use Rattle.wq_session.specs.Desk.{Replies}
 use Rattle.wq_view.specs.Listing.{PassData}
 use Rattle.std.specs.declared.alloc.Global.{Global}
 use Rattle.std.specs.declared.alloc.AllocError.{AllocError}
@@ -25,15 +28,17 @@ use Rattle.wq_replay.specs.Client.{follows_in}
 use Rattle.wq_replay.specs.Clients.{FollowsNow}
 use Rattle.wq_replay.specs.Launched.{runs_data}
 use Rattle.wq_replay.specs.Stands.{Leads, Stands, all_sent, happening_data, sent_if, sent_of}
-use Rattle.wq_replay.specs.Tables.{refused_data}
+use Rattle.wq_crawl.specs.Tables.{refused_data}
 use Rattle.wq_replay.specs.declared.client.Client.{Client}
 use Rattle.wq_replay.specs.declared.happening.Happening.{Happening}
 use Rattle.wq_replay.specs.declared.sent.Sent.{Sent}
 use Rattle.wq_replay.specs.declared.world.World.{World}
-use Rattle.wq_clock.specs.Run.{run_data}
-use Rattle.wq_replay.specs.Gets.{Gets, Meets, Rests, answered, kept, numbered, with_follows}
+use Rattle.wq_clock.specs.Run.{RunData, run_data}
+use Rattle.wq_crawl.specs.Meets.{Meets, numbered}
+use Rattle.wq_replay.specs.Gets.{Gets, Rests, answered, kept, with_follows}
 use Rattle.wq_replay.specs.Playing.{Happens, Runs}
-use Rattle.wq_replay.specs.World.{Crawls, CrawlsAt, HappeningData, RefusedData, SentData, Starts, Watches, WatchesAt, WorldData, at_events, unrefused}
+use Rattle.wq_crawl.specs.Meets.{RefusedData}
+use Rattle.wq_replay.specs.World.{Crawls, CrawlsAt, HappeningData, SentData, Starts, Watches, WatchesAt, WorldData, at_events, unrefused}
 
 some_same : {X : Type 0} {x y : X} → Some x ≡ Some y → x ≡ y
 some_same h = cc h
@@ -163,6 +168,12 @@ pub some_holds : {X E : Type 0} (B : X → Type 0) (result : Result (Option X) E
     → field ≡ Some x → IfOk result (λ next. IfSome next B) → B x
 some_holds B result field x is some holds =
     subst (λ f. IfSome f B) some (subst (λ r. IfOk r (λ next. IfSome next B)) is holds)
+
+-- a need that is met in the code's values
+pub met_here : (need : NeedData) (run mine : RunData) (refused taken : Option RefusedData) (events : List RootEvent) (ready : ReadyData) (later : List RootEvent)
+    → run ≡ mine → refused ≡ taken → Meets need mine taken events ready later → Meets need run refused events ready later
+met_here need run mine refused taken events ready later same held meets =
+    subst (λ r. Meets need r refused events ready later) (sym same) (subst (λ f. Meets need mine f events ready later) (sym held) meets)
 
 -- the happenings that were played so far, whatever is played after them
 abbrev pub PlaysOn : WorldData → List HappeningData → List SentData → WorldData → List HappeningData → Type 0

@@ -3,7 +3,6 @@ pub mod Runs
 pub mod StartLine
 pub mod World
 pub mod Gets
-pub mod Tables
 pub mod Rounds
 pub mod Playing
 pub mod Client

@@ -12,7 +12,7 @@ use Rattle.wq_replay.specs.Client.{follows_in}
 use Rattle.wq_replay.specs.Launched.{runs_data}
 use Rattle.wq_replay.specs.Playing.{Runs, sent_to}
 use Rattle.wq_replay.specs.Rounds.{sent_note}
-use Rattle.wq_replay.specs.Tables.{refused_data}
+use Rattle.wq_crawl.specs.Tables.{refused_data}
 use Rattle.wq_replay.specs.World.{WorldData, HappeningData, crawl, watching, asked}
 use Rattle.wq_replay.specs.World.{idle, round, ended, SentData}
 use Rattle.wq_replay.specs.declared.happening.Happening.{Happening}

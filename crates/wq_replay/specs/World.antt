@@ -2,12 +2,11 @@
 -- subscriptions of each client, and the running commands. Also the happenings of such a world.
 -- Crawls and watches are from Watchman's documentation of synchronisation (`sync_timeout`) and of
 -- `watch`; the rest is this server's own.
-use Rattle.std.specs.Prelude.{◌≡◌, ◌⊎◌, ℕ, ℤ, Bool, List, [], ◌∷◌, codes, is_some}
+use Rattle.std.specs.Prelude.{◌≡◌, ◌⊎◌, ℕ, ℤ, Bool, List, [], ◌∷◌, codes}
 use Rattle.std.specs.Prelude.{Option, Some, None, Result, Ok, Err}
 use Rattle.wq_clock.specs.Run.{RunData}
 use Rattle.wq_follow.specs.Subscription.{SubscriptionData}
 use Rattle.wq_live.specs.Event.{number_of}
-use Rattle.wq_live.specs.Table.{TableData, number_by_text}
 use Rattle.wq_live.specs.declared.event.RootEvent.{RootEvent}
 use Rattle.wq_live.specs.declared.event.RootEvent.TheVariants.{Started}
 use Rattle.wq_registry.specs.Shelf.{blank, root_added}
@@ -15,15 +14,11 @@ use Rattle.wq_ask.specs.declared.ask.Ask.{Ask}
 use Rattle.wq_session.specs.At.{ShelfNow}
 use Rattle.wq_crawl.specs.declared.fault.CrawlFault.{CrawlFault}
 use Rattle.wq_crawl.specs.declared.fault.CrawlFault.TheVariants.{TicksSpent, TooManyRoots}
+use Rattle.wq_crawl.specs.Meets.{RefusedData}
 use Rattle.wq_crawl.specs.Publish.{IsNotTakenIn, IsPlace, Passes, with_start}
 use Rattle.wq_crawl.specs.declared.place.Place.{Place}
 use Rattle.wq_crawl.specs.declared.place.Place.TheVariants.{Shown, Full, Free}
 use Rattle.wq_view.specs.Listing.{PassData}
-
--- a crawl or a watching of a root that was refused
-pub record RefusedData : Type 0 where
-  pub root : List ℕ
-  pub fault : CrawlFault
 
 -- a world: the run of the server, the history of the roots, the shelf of all clients, and the
 -- subscriptions of each client. Also the numbers of the runs of commands that go on, and the last
@@ -88,10 +83,6 @@ unrefused world = record world { refused = None }
 -- the world with this history of the roots
 abbrev pub at_events : List RootEvent → WorldData → WorldData
 at_events events world = record world { events = events }
-
--- whether the root of a text is shown
-abbrev pub shows_root : List ℕ → TableData → Bool
-shows_root root table = is_some (number_by_text root table)
 
 -- a crawl of a root that listed this. A root that is not shown stays so. Otherwise the pass is
 -- added, unless it tells nothing. It is refused if the ticks are used up

@@ -5,12 +5,13 @@ ghost use Rattle.std.specs.List.{insert};
 ghost use Rattle.wq_follow.specs.Followed.{subscription_data};
 ghost use Rattle.wq_follow.specs.Subscription.{SubscriptionData};
 ghost use Rattle.wq_ask.specs.Need.{need_of};
-ghost use Rattle.wq_session.specs.At.{at_data};
+ghost use Rattle.wq_crawl.specs.At.{at_data};
 ghost use Rattle.wq_session.specs.Desk.{stand};
 ghost use Rattle.wq_session.specs.Followed.{follows_of};
 ghost use Rattle.wq_session.specs.Moment.{Idles};
 ghost use Rattle.wq_session.specs.Shelved.{shelf_data};
-ghost use Rattle.wq_session.specs.Views.{ReadyData, Replies};
+ghost use Rattle.wq_crawl.specs.Views.{ReadyData};
+ghost use Rattle.wq_session.specs.Desk.{Replies};
 ghost use Rattle.wq_replay.specs.Client.{follows_in, is_of, other_clients, root_numbers_of, with_root_number};
 ghost use Rattle.wq_replay.specs.Clients.{FollowsNow, kept_client};
 ghost use Rattle.wq_replay.specs.Gets.{kept};
@@ -18,10 +19,11 @@ ghost use Rattle.wq_replay.specs.Gets.{kept};
 use crate::client::Client;
 use std::alloc::{AllocError, Global};
 use wq_ask::{Ask, Out};
+use wq_crawl::{At, Views};
 use wq_follow::{Subscription, Trigger};
 use wq_query::Alone;
 use wq_registry::Shelf;
-use wq_session::{At, Session, Views};
+use wq_session::Session;
 
 /// The reply to the ask of a client, and the views after it. If there is no room to keep the client, nothing changes.
 pub(crate) fn answer<V: Views + Drop>(

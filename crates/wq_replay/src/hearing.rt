@@ -3,7 +3,7 @@
 //! them happen.
 ghost use Rattle.std.specs.Prelude.{◌≡◌, ◌++◌, ◌∷◌, [], IfOk, map, option_to_list};
 ghost use Rattle.wq_ask.specs.Need.{need_of};
-ghost use Rattle.wq_ask.specs.Needed.{need_data};
+ghost use Rattle.wq_crawl.specs.Need.{need_data};
 ghost use Rattle.wq_replay.specs.Replay.{end_if, listed_root, needed, rounds};
 ghost use Rattle.wq_replay.specs.Stands.{crawl_data, happening_data};
 ghost use Rattle.wq_replay.specs.World.{asked, idle};
@@ -11,9 +11,9 @@ ghost use Rattle.wq_replay.specs.World.{asked, idle};
 use crate::happening::Happening;
 use crate::world::ROOT;
 use std::alloc::{AllocError, Global};
-use wq_ask::{Ask, Need};
+use wq_ask::Ask;
 use wq_base::Text;
-use wq_crawl::CrawlFault;
+use wq_crawl::{CrawlFault, Need};
 use wq_view::Pass;
 
 /// The happenings if a client asks this while `/r` lists that.

@@ -13,7 +13,6 @@ mod launching;
 mod law;
 mod numbers;
 mod player;
-mod refused;
 mod runs;
 mod script;
 mod sending;
@@ -21,7 +20,6 @@ mod sent;
 mod stage;
 mod start_line;
 mod step;
-mod table_views;
 mod taking;
 mod world;
 

@@ -9,11 +9,11 @@ use Rattle.wq_stream.specs.declared.event.Event.TheVariants.{Line, Long, Binary,
 use Rattle.wq_ask.specs.Reading.{Asks}
 use Rattle.wq_ask.specs.declared.ask.Ask.{Ask}
 use Rattle.wq_session.specs.Desk.{StandData}
-use Rattle.wq_serve.specs.Ready.{KnownData}
+use Rattle.wq_crawl.specs.Ready.{KnownData}
 use Rattle.wq_serve.specs.Serving.{Does, GoesOn, IsAnswered, IsServed, PlaceData, Serves, written_for}
 use Rattle.wq_base.specs.Writing.{WritesFront}
 use Rattle.wq_base.proofs.Fronts.{appends_then}
-use Rattle.wq_serve.specs.Basis.{Basis}
+use Rattle.wq_crawl.specs.Basis.{Basis}
 
 -- an event that is no idle moment asks something, and the session answers it
 pub does_other : (basis : Basis) (event : Event) (before : KnownData) (stand : StandData) (out : OutData) (after : KnownData) (left : StandData)

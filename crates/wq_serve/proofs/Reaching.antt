@@ -16,7 +16,8 @@ use Rattle.wq_verify.specs.Typing.{IsValid}
 use Rattle.wq_view.specs.View.{ViewData}
 use Rattle.wq_ask.specs.declared.ask.Ask.{Ask}
 use Rattle.wq_session.specs.Work.{WorkData}
-use Rattle.wq_session.specs.At.{AtData, ShelfNow}
+use Rattle.wq_crawl.specs.At.{AtData}
+use Rattle.wq_session.specs.At.{ShelfNow}
 use Rattle.wq_session.specs.Reached.{TurnData, takes, unsets, rounds, Turns, LeadsToShelf, IsReached, ReachedByCalls, ReachedProgramsAreValid}
 use Rattle.wq_session.proofs.Adding.{one_of, turns_none, unset_none}
 use Rattle.wq_session.proofs.Ending.{none_named}

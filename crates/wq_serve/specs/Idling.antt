@@ -7,12 +7,12 @@ use mathlib.Core.List.{IsPrefix}
 use Rattle.wq_live.specs.declared.event.RootEvent.{RootEvent}
 use Rattle.wq_follow.specs.Subscription.{SubscriptionData}
 use Rattle.wq_ask.specs.Out.{OutData, silence}
-use Rattle.wq_session.specs.At.{AtData}
+use Rattle.wq_crawl.specs.At.{AtData}
 use Rattle.wq_session.specs.Moment.{Idles}
 use Rattle.wq_session.specs.Desk.{StandData}
-use Rattle.wq_serve.specs.Basis.{Basis}
-use Rattle.wq_serve.specs.Ready.{KnownData}
-use Rattle.wq_serve.specs.Run.{ShowsNumber}
+use Rattle.wq_crawl.specs.Basis.{Basis}
+use Rattle.wq_crawl.specs.Ready.{KnownData}
+use Rattle.wq_crawl.specs.Run.{ShowsNumber}
 
 -- the session looks at the root of this number, in a list that was published, and that begins with
 -- all that it knew, and tells its subscriptions; or the look was refused, and there is no output

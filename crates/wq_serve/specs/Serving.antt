@@ -16,13 +16,14 @@ use Rattle.wq_ask.specs.declared.ask.Ask.{Ask}
 use Rattle.wq_session.specs.At.{ShelfNow}
 use Rattle.wq_live.specs.declared.event.RootEvent.{RootEvent}
 use Rattle.wq_session.specs.Desk.{StandData}
-use Rattle.wq_session.specs.Views.{ReadyData, Replies}
+use Rattle.wq_crawl.specs.Views.{ReadyData}
+use Rattle.wq_session.specs.Desk.{Replies}
 use Rattle.wq_serve.specs.Idling.{IsIdled}
 use Rattle.wq_stream.specs.Inbox.{Hands}
 use Rattle.wq_serve.specs.Limit.{max_events}
-use Rattle.wq_serve.specs.Ready.{KnownData, Readies, known}
+use Rattle.wq_crawl.specs.Ready.{KnownData, Readies, known}
 use Rattle.wq_crawl.specs.Crawl.{CrawlerData}
-use Rattle.wq_serve.specs.Basis.{Basis}
+use Rattle.wq_crawl.specs.Basis.{Basis}
 
 -- the state of the ends of a session: the events that are left, the knowledge of the roots, and the
 -- shelf; and the subscriptions of the session

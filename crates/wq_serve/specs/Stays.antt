@@ -9,9 +9,10 @@ use Rattle.wq_ask.specs.Out.{OutData}
 use Rattle.wq_ask.specs.Reading.{Asks}
 use Rattle.wq_ask.specs.declared.ask.Ask.{Ask}
 use Rattle.wq_session.specs.Accepted.{Accepts, CallNow}
-use Rattle.wq_session.specs.At.{AtData, ShelfNow}
+use Rattle.wq_crawl.specs.At.{AtData}
+use Rattle.wq_session.specs.At.{ShelfNow}
 use Rattle.wq_stream.specs.declared.event.Event.{Event}
-use Rattle.wq_serve.specs.Basis.{Basis}
+use Rattle.wq_crawl.specs.Basis.{Basis}
 use Rattle.wq_serve.specs.Serving.{EndData, IsServed, PlaceData}
 
 -- calls that an event makes at a shelf: none, or those that were accepted of its ask

@@ -1,6 +1,6 @@
 //! A law about the end of a session, the contract of a function that does nothing.
 ghost use Rattle.wq_clock.specs.declared.run.Run.{Run};
-ghost use Rattle.wq_serve.specs.Basis.{basis_of};
+ghost use Rattle.wq_crawl.specs.Basis.{basis_of};
 ghost use Rattle.wq_serve.specs.Stays.{AcceptedStays};
 
 use wq_live::Named;

@@ -1,19 +1,19 @@
 //! A session from its first event to its end.
 ghost use Rattle.std.specs.Prelude.{◌≡◌, [], List};
 ghost use Rattle.wq_follow.specs.Subscription.{SubscriptionData};
-ghost use Rattle.wq_serve.specs.Basis.{basis_of};
+ghost use Rattle.wq_crawl.specs.Basis.{basis_of};
 ghost use Rattle.wq_serve.specs.Serving.{IsServed, Serves, place};
 ghost use Rattle.wq_session.specs.Followed.{follows_of};
 ghost use Rattle.wq_stream.specs.declared.event.Event.{Event};
 
-use crate::seat_views::SeatViews;
+use crate::idling::rest;
 use crate::writing::write_out;
 use std::alloc::Global;
 use std::io::Write;
 use std::thread::Threads;
 use wq_ask::{Ask, Out};
 use wq_base::{Asker, Workers};
-use wq_crawl::Roots;
+use wq_crawl::{Roots, SeatViews};
 use wq_live::Named;
 use wq_query::Several;
 use wq_session::{Desk, Session};
@@ -122,7 +122,7 @@ fn take_event<T: Threads, A: Asker, N: Named, I: Inbox, R: Roots<N> + Drop, D: D
     ensures run { result.0.run ≡ views.run }
 {
     match inbox.next() {
-        Event::Idle(root) => views.rest(alloc, session, root),
+        Event::Idle(root) => rest(alloc, session, root, views),
         event => {
             let ask = Ask::read(alloc, event);
             session.answer(crew, alloc, ask, views, desk)

@@ -3,13 +3,13 @@
 ghost use Rattle.std.specs.Thread.{IsSync};
 
 use crate::moments::RootNumbers;
-use crate::recipient::Reader;
 use crate::stop::Stop;
 use std::io::Write;
 use std::sync::Arc;
 use std::thread::Threads;
 use std::time::Duration;
 use wq_base::Asker;
+use wq_crawl::Caller;
 use wq_launch::{Run, Runs};
 use wq_stream::Inbox;
 use wq_view::Reach;
@@ -30,7 +30,7 @@ pub trait Host {
 
     /// Runs a session over all its events, and says whether it asked that the server ends. This handle starts the threads
     /// that look for the files of its queries, which give up if the client has gone. The client sees when a line was read.
-    fn serve<T: Threads + Sync, A: Asker + Reader, I: Inbox, W: Write>(
+    fn serve<T: Threads + Sync, A: Asker + Caller, I: Inbox, W: Write>(
         &self,
         threads: &T,
         client: &A,

@@ -39,7 +39,6 @@ pub use host::{Host, Worked};
 pub use law::parts_make_share;
 pub use moments::RootNumbers;
 pub use pace::{Pace, Share};
-pub use recipient::Reader;
 pub use refusal::refuse;
 pub use running::run;
 pub use socket::{Listening, listen, remove};

@@ -6,12 +6,7 @@ use std::os::unix::net::UnixStream;
 use std::sync::Wait;
 use std::time::Clock;
 use wq_base::Asker;
-
-/// Whoever sees when a session has read its line.
-pub trait Reader {
-    /// The session has read its line, and waits for others from now on, or looks for files.
-    fn has_read(&self);
-}
+use wq_crawl::Caller;
 
 /// A client as the recipient of replies. It has gone when nothing can be written to it any more: it reads no more, or its
 /// session was told to end. A client that only sends no more still reads.
@@ -21,7 +16,7 @@ pub(crate) struct Recipient<'a, R: Wait + Clock> {
     pub(crate) pass: &'a Pass<'a, R>,
 }
 
-impl<R: Wait + Clock> Reader for Recipient<'_, R> {
+impl<R: Wait + Clock> Caller for Recipient<'_, R> {
     fn has_read(&self) {
         self.pass.leave();
     }

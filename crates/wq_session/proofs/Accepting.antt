@@ -34,7 +34,8 @@ use Rattle.wq_session.specs.Accepted.{CallNow, Accepts, AnswersAreCalls, calls_o
 use Rattle.wq_session.specs.Trigger.{begun_trigger, defined_by, defined_name, has_no_trigger_place, put_trigger, trigger_in}
 use Rattle.wq_session.specs.Answer.{AnswerData, finished, without_cursor}
 use Rattle.wq_session.specs.Subscribe.{begun_subscription, first_plan}
-use Rattle.wq_session.specs.At.{AtData, ShelfNow, is_watched}
+use Rattle.wq_crawl.specs.At.{AtData}
+use Rattle.wq_session.specs.At.{ShelfNow, is_watched}
 use Rattle.wq_session.specs.Begun.{or_refused, tried, tried_alone, tried_on, tried_there}
 use Rattle.wq_session.specs.Query.{begun_query, has_place, moved_cursor, plan_at, program_for, used_at}
 use Rattle.wq_session.specs.Work.{BegunData, begins, evaluates, saying}

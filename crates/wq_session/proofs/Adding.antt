@@ -19,7 +19,8 @@ use Rattle.wq_ask.specs.declared.cursor.Cursor.{Cursor}
 use Rattle.wq_ask.specs.declared.refusal.Refusal.{Refusal}
 use Rattle.wq_session.specs.Accepted.{CallNow, AddedAreAsked, calls_of, cursor_calls, definition_calls, made_calls, query_calls, shown_calls, there_calls, unset_calls}
 use Rattle.wq_session.specs.Trigger.{defined_by}
-use Rattle.wq_session.specs.At.{AtData, ShelfNow}
+use Rattle.wq_crawl.specs.At.{AtData}
+use Rattle.wq_session.specs.At.{ShelfNow}
 use Rattle.wq_session.specs.Query.{program_for}
 use Rattle.wq_session.specs.Round.{TriggerTurnData, turn_calls}
 

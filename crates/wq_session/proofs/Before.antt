@@ -31,7 +31,8 @@ use Rattle.wq_ask.specs.declared.refusal.Refusal.TheVariants.{WrongArguments, Ro
 use Rattle.wq_ask.specs.declared.refusal.Refusal.TheVariants.{UnreadableRoot, TooManyFiles, TicksSpent, NoSuchProgram}
 use Rattle.wq_ask.specs.declared.refusal.Refusal.TheVariants.{ProgramTooLarge, TooManySubscriptions, NotBase64, ShelfFull, BadTrigger, TooManyTriggers}
 use Rattle.wq_ask.specs.declared.refusal.Refusal.TheVariants.{WrongFile, WrongProgram}
-use Rattle.wq_session.specs.At.{AtData, ShelfNow, is_watched, watched}
+use Rattle.wq_crawl.specs.At.{AtData}
+use Rattle.wq_session.specs.At.{ShelfNow, is_watched, watched}
 use Rattle.wq_session.specs.Moment.{Shown, shown_in}
 use Rattle.wq_session.specs.Prepared.{AreRead, GivesDefined, GivesDefinedObject, GivesRead, GivesReadObject, IsReadAgain, IsReadAt, IsReadShown}
 use Rattle.wq_session.specs.Prepared.{IsReadThere, ObjectData, asks_query, asks_subscription, asks_trigger, asks_nothing}

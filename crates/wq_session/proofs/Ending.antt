@@ -14,7 +14,8 @@ use Rattle.wq_ask.specs.declared.cursor.Cursor.{Cursor}
 use Rattle.wq_session.proofs.Follows.{followed_stays, is_followed}
 use Rattle.wq_session.specs.Answer.{AnswersAsk, Finishes, TakesAsk, AnswerData, DoneData, subscribing_at, subscribing_by, finished, following, giving, listed, unmade, without_cursor}
 use Rattle.wq_session.specs.Followed.{has_no_room}
-use Rattle.wq_session.specs.At.{AtData, ShelfNow}
+use Rattle.wq_crawl.specs.At.{AtData}
+use Rattle.wq_session.specs.At.{ShelfNow}
 use Rattle.wq_session.specs.Begun.{begun, takes_memory}
 use Rattle.wq_session.specs.Work.{BegunData, WorkData, says, prints, evaluates, begins, drops}
 

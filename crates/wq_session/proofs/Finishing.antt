@@ -28,7 +28,8 @@ use Rattle.wq_ask.specs.declared.ask.ShelfAsk.TheVariants.{AddProgram, DeletePro
 use Rattle.wq_ask.specs.declared.refusal.Refusal.{Refusal}
 use Rattle.wq_ask.specs.declared.refusal.Refusal.TheVariants.{NotWatched, Query as BadQuery, ShelfFull, TooManyRoots, BadName, TooManyTriggers}
 use Rattle.wq_session.specs.Answer.{CanFinish, TakesAsk}
-use Rattle.wq_session.specs.At.{AtData, ShelfNow, is_watched}
+use Rattle.wq_crawl.specs.At.{AtData}
+use Rattle.wq_session.specs.At.{ShelfNow, is_watched}
 use Rattle.wq_session.specs.Begun.{or_refused, tried, tried_alone, tried_on, tried_there}
 use Rattle.wq_session.specs.Trigger.{begun_trigger, defined_by, defined_name, has_no_trigger_place, put_trigger}
 use Rattle.wq_session.specs.Subscribe.{begun_subscription, first_plan}

@@ -29,7 +29,8 @@ use Rattle.wq_ask.specs.declared.ask.ShelfAsk.{ShelfAsk}
 use Rattle.wq_ask.specs.declared.ask.ShelfAsk.TheVariants.{AddProgram, DeleteProgram, ListPrograms, ListRoots, SocketName}
 use Rattle.wq_ask.specs.declared.refusal.Refusal.{Refusal}
 use Rattle.wq_ask.specs.declared.refusal.Refusal.TheVariants.{NotWatched, Query as BadQuery, ShelfFull, TooManyRoots, BadName, TooManyTriggers}
-use Rattle.wq_session.specs.At.{AtData, ShelfNow, is_watched}
+use Rattle.wq_crawl.specs.At.{AtData}
+use Rattle.wq_session.specs.At.{ShelfNow, is_watched}
 use Rattle.wq_session.specs.Begun.{begun, or_refused, takes_memory, tried, tried_alone, tried_on, tried_there}
 use Rattle.wq_session.specs.Trigger.{begun_trigger, defined_by, defined_name, has_no_trigger_place, put_trigger}
 use Rattle.wq_session.specs.Query.{begun_query, has_place, moved_cursor, plan_at, program_for, used_at}

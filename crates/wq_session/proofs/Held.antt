@@ -7,7 +7,8 @@ use Rattle.wq_ask.specs.declared.ask.Ask.{Ask}
 use Rattle.wq_ask.specs.declared.cursor.Cursor.{Cursor}
 use Rattle.wq_session.specs.Answer.{AnswersAsk, CanFinish, Finishes, TakesAsk, without_cursor}
 use Rattle.wq_session.specs.Work.{WorkData}
-use Rattle.wq_session.specs.At.{AtData, ShelfNow}
+use Rattle.wq_crawl.specs.At.{AtData}
+use Rattle.wq_session.specs.At.{ShelfNow}
 use Rattle.wq_session.proofs.Ending.{answered, answered_with}
 use Rattle.wq_session.proofs.Finishing.{can_finish}
 use Rattle.wq_session.specs.Desk.{AnswersShelf, HoldsShelf, Unsets}

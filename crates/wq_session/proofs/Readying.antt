@@ -4,16 +4,19 @@ use Rattle.wq_crawl.specs.declared.fault.CrawlFault.{CrawlFault}
 use Rattle.wq_follow.specs.Subscription.{SubscriptionData}
 use Rattle.wq_registry.specs.Shelf.{blank}
 use Rattle.wq_ask.specs.Out.{MayRefuse, OutData, runs_out}
-use Rattle.wq_ask.specs.Need.{NeedData, need_of}
+use Rattle.wq_crawl.specs.Need.{NeedData}
+use Rattle.wq_ask.specs.Need.{need_of}
 use Rattle.wq_ask.specs.declared.ask.Ask.{Ask}
 use Rattle.wq_ask.specs.declared.ask.Ask.TheVariants.{Alone, OfRoot, OfShelf, Unwatch, Watch}
 use Rattle.wq_ask.specs.declared.refusal.Refusal.TheVariants.{NoMemory}
-use Rattle.wq_session.specs.At.{AtData, ShelfNow}
+use Rattle.wq_crawl.specs.At.{AtData}
+use Rattle.wq_session.specs.At.{ShelfNow}
 use Rattle.wq_session.specs.Begun.{takes_memory}
 use Rattle.wq_session.specs.Crawl.{crawl_refusal}
 use Rattle.wq_session.specs.Desk.{AnswersAt, AnswersShelf, StandData}
-use Rattle.wq_session.specs.Views.{ReadyData, SaysReady, Replies, is_of_root, root_at_data}
-use Rattle.wq_session.specs.declared.views.RootAt.{RootAt}
+use Rattle.wq_crawl.specs.Views.{ReadyData, SaysReady, is_of_root, root_at_data}
+use Rattle.wq_session.specs.Desk.{Replies}
+use Rattle.wq_crawl.specs.declared.views.RootAt.{RootAt}
 use Rattle.wq_session.specs.Reached.{IsReached}
 
 -- memory may run out for an ask about a root

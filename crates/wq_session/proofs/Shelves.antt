@@ -10,7 +10,8 @@ use Rattle.wq_registry.specs.ByName.{ByName, has_no_place, put, under, without}
 use Rattle.wq_registry.specs.Limit.{max_triggers}
 use Rattle.wq_registry.specs.Root.{RootData, called, changed, cursors_in, is_newer, new_root, numbered, triggers_in, with_cursor, with_root, with_trigger, without_cursor, without_number, without_text, without_trigger}
 use Rattle.wq_registry.specs.Shelf.{ShelfData, cursor_unset, cursor_used, cursors_of, root_added, root_has_no_place, root_removed, trigger_added, trigger_removed, triggers_of}
-use Rattle.wq_session.specs.At.{AtData, watched}
+use Rattle.wq_crawl.specs.At.{AtData}
+use Rattle.wq_session.specs.At.{watched}
 use Rattle.wq_session.specs.Shelved.{each, root_with, shelf_data}
 use Rattle.wq_session.specs.Trigger.{has_no_trigger_place, trigger_called}
 use Rattle.wq_session.specs.Watch.{root_texts}

@@ -26,7 +26,8 @@ use Rattle.wq_ask.specs.declared.ask.ShelfAsk.TheVariants.{AddProgram, DeletePro
 use Rattle.wq_ask.specs.declared.cursor.Cursor.{Cursor}
 use Rattle.wq_ask.specs.declared.refusal.Refusal.{Refusal}
 use Rattle.wq_session.specs.Answer.{AnswersAsk, finished}
-use Rattle.wq_session.specs.At.{AtData, ShelfNow}
+use Rattle.wq_crawl.specs.At.{AtData}
+use Rattle.wq_session.specs.At.{ShelfNow}
 use Rattle.wq_session.specs.Begun.{takes_memory, tried}
 use Rattle.wq_session.specs.Query.{program_for}
 use Rattle.wq_session.specs.Trigger.{defined_by, defined_name, trigger_in}

@@ -15,7 +15,8 @@ use Rattle.wq_ask.specs.Subscribe.{subscribe_data, unsubscribe_data}
 use Rattle.wq_ask.specs.declared.ask.Ask.{Ask}
 use Rattle.wq_ask.specs.declared.cursor.Cursor.{Cursor}
 use Rattle.wq_ask.specs.declared.refusal.Refusal.TheVariants.{TooManySubscriptions}
-use Rattle.wq_session.specs.At.{AtData, ShelfNow}
+use Rattle.wq_crawl.specs.At.{AtData}
+use Rattle.wq_session.specs.At.{ShelfNow}
 use Rattle.wq_session.specs.Begun.{begun, takes_memory}
 use Rattle.wq_session.specs.Followed.{has_called, has_no_room, with_subscription, without_called}
 use Rattle.wq_session.specs.Work.{WorkData, says, prints, evaluates, begins, drops}

@@ -1,30 +1,16 @@
--- The root that is looked at for an answer, and whether it is the root that a line names.
+-- Whether the root that is looked at for an answer is the root that a line names.
 -- It is this server's own.
 use Rattle.std.specs.Prelude.{ℕ, Bool, false, nat_eq, if◌then◌else◌, List}
-use Rattle.std.specs.Prelude.{Option, Some, None, option_map}
+use Rattle.std.specs.Prelude.{Option, Some, None}
 use Rattle.std.specs.Option.{option_map_or}
-use Rattle.wq_clock.specs.Instance.{InstanceData, instance_data}
 use Rattle.wq_follow.specs.Round.{TriggerData}
 use Rattle.wq_registry.specs.Root.{called}
 use Rattle.wq_registry.specs.Shelf.{ShelfData}
-use Rattle.wq_view.specs.View.{ViewData}
-use Rattle.wq_session.specs.declared.at.At.{At}
+use Rattle.wq_crawl.specs.At.{AtData}
 
 -- a shelf, with its triggers
 abbrev pub ShelfNow : Type 0
 ShelfNow = ShelfData TriggerData
-
--- a root that is looked at: its instance and its view, unless it has ended
-pub record AtData : Type 0 where
-  pub instance : InstanceData
-  pub view : Option ViewData
-
--- the meaning of the code's root that is looked at
-abbrev pub at_data : At → AtData
-at_data at = record {
-  instance = instance_data at.instance;
-  view = option_map (λ view. view.now) at.view;
-}
 
 -- whether the root that is looked at is this root, under its number on the shelf
 abbrev pub is_watched : List ℕ → AtData → ShelfNow → Bool

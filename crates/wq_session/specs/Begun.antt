@@ -17,7 +17,8 @@ use Rattle.wq_ask.specs.declared.ask.ShelfAsk.TheVariants.{AddProgram, DeletePro
 use Rattle.wq_ask.specs.declared.ask.ShelfAsk.TheVariants.{SocketName}
 use Rattle.wq_ask.specs.declared.refusal.Refusal.{Refusal}
 use Rattle.wq_ask.specs.declared.refusal.Refusal.TheVariants.{NotWatched}
-use Rattle.wq_session.specs.At.{AtData, ShelfNow, watched}
+use Rattle.wq_crawl.specs.At.{AtData}
+use Rattle.wq_session.specs.At.{ShelfNow, watched}
 use Rattle.wq_session.specs.Clock.{try_clock}
 use Rattle.wq_session.specs.Program.{deleting, listing_programs, try_add}
 use Rattle.wq_session.specs.Subscribe.{try_subscribe, try_unsubscribe}

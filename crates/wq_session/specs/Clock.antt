@@ -6,7 +6,8 @@ use Rattle.wq_ask.specs.Out.{replies}
 use Rattle.wq_ask.specs.declared.refusal.Refusal.{Refusal}
 use Rattle.wq_ask.specs.declared.refusal.Refusal.TheVariants.{NotWatched}
 use Rattle.wq_ask.specs.Clock.{clock_data}
-use Rattle.wq_session.specs.At.{AtData, ShelfNow}
+use Rattle.wq_crawl.specs.At.{AtData}
+use Rattle.wq_session.specs.At.{ShelfNow}
 use Rattle.wq_session.specs.Work.{BegunData, saying}
 
 -- the beginning of `clock` at its root

@@ -1,14 +1,17 @@
 -- The events at the shelf that all clients share, while it is held for one of them.
 -- It is this server's own.
-use Rattle.std.specs.Prelude.{◌≡◌, List, Option, Some, None, option_map}
+use Rattle.std.specs.Prelude.{◌≡◌, List, Option, Some, None, option_map, Ok, Err}
 use Rattle.wq_follow.specs.Subscription.{SubscriptionData}
 use Rattle.wq_registry.specs.Shelf.{cursor_unset}
-use Rattle.wq_ask.specs.Out.{OutData}
+use Rattle.wq_ask.specs.Out.{MayRefuse, OutData}
 use Rattle.wq_ask.specs.declared.ask.Ask.{Ask}
 use Rattle.wq_ask.specs.declared.cursor.Cursor.{Cursor}
 use Rattle.wq_session.specs.Answer.{AnswersAsk, TakesAsk}
 use Rattle.wq_session.specs.Work.{WorkData}
-use Rattle.wq_session.specs.At.{AtData, ShelfNow}
+use Rattle.wq_crawl.specs.At.{AtData}
+use Rattle.wq_crawl.specs.Views.{ReadyData}
+use Rattle.wq_session.specs.At.{ShelfNow}
+use Rattle.wq_session.specs.Crawl.{crawl_refusal}
 use Rattle.wq_session.specs.Reached.{IsReached}
 
 -- an ask is taken at a shelf. If a shelf is shown, that one is used, and the result is then shown.
@@ -48,3 +51,9 @@ AnswersShelf None follows ask at out after left =
 abbrev pub AnswersAt : StandData → Ask → Option AtData → OutData → StandData → Type 0
 AnswersAt stand ask at out after =
     AnswersShelf stand.shelf stand.follows ask at out after.shelf after.follows
+
+-- an ask that is ready is answered at the shelf; or its line is refused because its root could not
+-- be crawled, opened or retired, which leaves the shelf and the subscriptions
+abbrev pub Replies : ReadyData → Ask → StandData → OutData → StandData → Type 0
+Replies (Ok at) ask stand out after = AnswersAt stand ask at out after
+Replies (Err fault) ask stand out after = MayRefuse (crawl_refusal fault) out × (after ≡ stand)

@@ -5,7 +5,8 @@ use Rattle.wq_ask.specs.Out.{replies}
 use Rattle.wq_ask.specs.Watch.{watch_data}
 use Rattle.wq_ask.specs.declared.ask.Ask.TheVariants.{Watch}
 use Rattle.wq_session.specs.Begun.{begun}
-use Rattle.wq_session.specs.At.{AtData, ShelfNow, is_watched}
+use Rattle.wq_crawl.specs.At.{AtData}
+use Rattle.wq_session.specs.At.{ShelfNow, is_watched}
 use Rattle.wq_session.specs.Work.{saying}
 
 -- watching a root again changes nothing, and has the same answer as the first time

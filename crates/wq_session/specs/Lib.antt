@@ -22,4 +22,3 @@ pub mod Accepted
 pub mod Prepared
 pub mod Reached
 pub mod Desk
-pub mod Views

@@ -25,7 +25,7 @@ use Rattle.wq_ask.specs.declared.ask.RootAsk.{RootAsk}
 use Rattle.wq_ask.specs.declared.ask.RootAsk.TheVariants.{Query as AsksQuery, Subscribe, AddTrigger}
 use Rattle.wq_ask.specs.declared.refusal.Refusal.{Refusal}
 use Rattle.wq_ask.specs.declared.refusal.Refusal.TheVariants.{NoMemory, Query}
-use Rattle.wq_session.specs.At.{AtData, at_data}
+use Rattle.wq_crawl.specs.At.{AtData, at_data}
 use Rattle.wq_session.specs.Moment.{Shown, shown_in}
 use Rattle.wq_session.specs.Trigger.{defined_by}
 use Rattle.wq_session.specs.declared.lookup.Lookup.{Lookup}

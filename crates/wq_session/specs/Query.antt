@@ -18,7 +18,8 @@ use Rattle.wq_ask.specs.declared.cursor.Cursor.{Cursor}
 use Rattle.wq_ask.specs.declared.refusal.Refusal.{Refusal}
 use Rattle.wq_ask.specs.declared.refusal.Refusal.TheVariants.{NotWatched, Query}
 use Rattle.wq_ask.specs.declared.refusal.Refusal.TheVariants.{NoSuchProgram, ProgramTooLarge, ShelfFull}
-use Rattle.wq_session.specs.At.{AtData, ShelfNow}
+use Rattle.wq_crawl.specs.At.{AtData}
+use Rattle.wq_session.specs.At.{ShelfNow}
 use Rattle.wq_session.specs.Work.{BegunData, evaluates}
 
 -- the program of a name, if a query has one; without a name its expression needs a program

@@ -15,7 +15,8 @@ use Rattle.wq_view.specs.View.{ViewData}
 use Rattle.wq_ask.specs.HandedIn.{HandsInValid}
 use Rattle.wq_ask.specs.declared.ask.Ask.{Ask}
 use Rattle.wq_session.specs.Work.{WorkData}
-use Rattle.wq_session.specs.At.{AtData, ShelfNow}
+use Rattle.wq_crawl.specs.At.{AtData}
+use Rattle.wq_session.specs.At.{ShelfNow}
 
 -- an act at a shelf: a session takes an ask, at a root that is looked at or at none, and begins
 -- work; or it unsets a cursor; or the triggers of a root have a round, at a view of it

@@ -12,7 +12,8 @@ use Rattle.wq_query.specs.Subscribed.{subscribes as subscription_of}
 use Rattle.wq_ask.specs.Program.{is_name}
 use Rattle.wq_ask.specs.declared.refusal.Refusal.{Refusal}
 use Rattle.wq_ask.specs.declared.refusal.Refusal.TheVariants.{NotWatched, BadName, Query}
-use Rattle.wq_session.specs.At.{AtData, ShelfNow}
+use Rattle.wq_crawl.specs.At.{AtData}
+use Rattle.wq_session.specs.At.{ShelfNow}
 use Rattle.wq_session.specs.Query.{program_for}
 use Rattle.wq_session.specs.Work.{BegunData, begins, drops}
 

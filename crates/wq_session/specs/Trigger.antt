@@ -24,7 +24,8 @@ use Rattle.wq_ask.specs.declared.refusal.Refusal.{Refusal}
 use Rattle.wq_ask.specs.declared.refusal.Refusal.TheVariants.{NotWatched, BadName}
 use Rattle.wq_ask.specs.declared.refusal.Refusal.TheVariants.{BadTrigger, Query, TooManyTriggers, NoMemory}
 use Rattle.wq_ask.specs.Trigger.{trigger_reply, triggers_reply, trigger_deleted_reply}
-use Rattle.wq_session.specs.At.{AtData, ShelfNow}
+use Rattle.wq_crawl.specs.At.{AtData}
+use Rattle.wq_session.specs.At.{ShelfNow}
 use Rattle.wq_session.specs.Query.{program_for}
 use Rattle.wq_session.specs.Work.{BegunData, printing, says}
 

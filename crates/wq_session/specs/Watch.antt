@@ -8,7 +8,8 @@ use Rattle.wq_ask.specs.Out.{replies}
 use Rattle.wq_ask.specs.declared.refusal.Refusal.{Refusal}
 use Rattle.wq_ask.specs.declared.refusal.Refusal.TheVariants.{NotWatched, TooManyRoots}
 use Rattle.wq_ask.specs.Watch.{watch_data, roots_data, root_deleted_data}
-use Rattle.wq_session.specs.At.{AtData, ShelfNow, watched}
+use Rattle.wq_crawl.specs.At.{AtData}
+use Rattle.wq_session.specs.At.{ShelfNow, watched}
 use Rattle.wq_session.specs.Work.{BegunData, printing, says}
 
 -- the texts of roots

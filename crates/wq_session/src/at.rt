@@ -1,23 +1,14 @@
-//! The root that is looked at for an answer.
+//! The test whether a root that is looked at is the one that a line names.
 ghost use Rattle.std.specs.Prelude.{◌≡◌, false, is_none, option_map, IfSome};
 ghost use Rattle.wq_registry.specs.Root.{numbered};
-ghost use Rattle.wq_session.specs.At.{at_data, watched};
+ghost use Rattle.wq_crawl.specs.At.{at_data};
+ghost use Rattle.wq_session.specs.At.{watched};
 ghost use Rattle.wq_session.specs.Shelved.{shelf_data};
 
 use wq_ask::RootText;
-use wq_clock::Instance;
+use wq_crawl::At;
 use wq_follow::Trigger;
 use wq_registry::Shelf;
-use wq_view::View;
-
-/// A root that is looked at for an answer.
-#[derive(Clone, Copy)]
-pub struct At<'a> {
-    /// The run of the server, and the number of the root there.
-    pub instance: Instance,
-    /// The view of that root, unless it has ended.
-    pub view: Option<&'a View>,
-}
 
 /// The root that is looked at, if it is this root, under its number on the shelf.
 #[tactic(auto, using(crate::proofs::Rooted::number_there))]

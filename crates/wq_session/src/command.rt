@@ -3,7 +3,8 @@
 ghost use Rattle.std.specs.Prelude.{◌≡◌, Some, false, is_none, option_map, true, IfErr};
 ghost use Rattle.wq_registry.specs.Root.{numbered};
 ghost use Rattle.wq_ask.specs.Refusal.{ends_session};
-ghost use Rattle.wq_session.specs.At.{ShelfNow, at_data};
+ghost use Rattle.wq_crawl.specs.At.{at_data};
+ghost use Rattle.wq_session.specs.At.{ShelfNow};
 ghost use Rattle.wq_session.specs.Begun.{lone_takes_memory, takes_memory, tried, tried_alone, tried_of, tried_on, tried_there};
 ghost use Rattle.wq_session.specs.Prepared.{AreRead, IsReadAt, object_in, object_of};
 ghost use Rattle.wq_session.specs.Shelved.{shelf_data};
@@ -17,7 +18,7 @@ mod subscribe;
 mod trigger;
 mod watch;
 
-use crate::at::{At, watched};
+use crate::at::watched;
 use crate::read_object::ReadObject;
 use crate::work::Rest;
 use clock::begin_clock;
@@ -31,6 +32,7 @@ pub(crate) use trigger::listed_triggers;
 use trigger::{begin_delete_trigger, begin_list_triggers, begin_trigger};
 use watch::{begin_list, begin_unwatch, begin_watch};
 use wq_ask::{Ask, LoneAsk, Out, Refusal, RootAsk, RootText, ShelfAsk};
+use wq_crawl::At;
 use wq_follow::Trigger;
 use wq_registry::Shelf;
 

@@ -5,7 +5,7 @@ ghost use Rattle.wq_follow.specs.Followed.{subscription_data};
 ghost use Rattle.wq_ask.specs.Out.{replies};
 ghost use Rattle.wq_ask.specs.Subscribe.{unsubscribe_data};
 ghost use Rattle.wq_session.specs.Answer.{Finishes, giving, subscribing_at};
-ghost use Rattle.wq_session.specs.At.{AtData};
+ghost use Rattle.wq_crawl.specs.At.{AtData};
 ghost use Rattle.wq_session.specs.Followed.{follows_of, has_called, has_no_room, is_called};
 ghost use Rattle.wq_session.specs.Followed.{with_subscription, without_called};
 ghost use Rattle.wq_session.specs.Work.{begins, drops};

@@ -22,10 +22,8 @@ mod shelving;
 mod turn;
 mod turns;
 mod unset;
-mod views;
 mod work;
 
-pub use at::At;
 pub use desk::Desk;
 pub use followed::MAX_SUBSCRIPTIONS;
 pub use law::{
@@ -37,5 +35,4 @@ pub use session::Session;
 pub use turn::Turn;
 pub use turns::round;
 pub use unset::Unset;
-pub use views::{RootAt, Views};
 pub use work::Work;

@@ -4,15 +4,15 @@ ghost use Rattle.wq_clock.specs.Instance.{instance_data};
 ghost use Rattle.wq_follow.specs.Batch.{is_told};
 ghost use Rattle.wq_follow.specs.Followed.{subscription_data};
 ghost use Rattle.wq_follow.specs.Subscription.{SubscriptionData, caught_up, next_list};
-ghost use Rattle.wq_session.specs.At.{at_data};
+ghost use Rattle.wq_crawl.specs.At.{at_data};
 ghost use Rattle.wq_session.specs.Followed.{follows_of};
 ghost use Rattle.wq_session.specs.Moment.{Idles, TellsOne, listed_once, shown_data, shown_in};
 
-use crate::at::At;
 use crate::session::Session;
 use std::alloc::{AllocError, Global};
 use wq_ask::{Line, Out};
 use wq_clock::Instance;
+use wq_crawl::At;
 use wq_follow::Subscription;
 use wq_view::View;
 

@@ -3,13 +3,12 @@
 ghost use Rattle.std.specs.Prelude.{◌≡◌, option_map};
 ghost use Rattle.wq_clock.specs.Instance.{instance_data};
 ghost use Rattle.wq_session.specs.Answer.{TakesAsk};
-ghost use Rattle.wq_session.specs.At.{at_data};
+ghost use Rattle.wq_crawl.specs.At.{at_data};
 ghost use Rattle.wq_session.specs.Prepared.{IsFoundFor, IsPrepared, IsReadAt, IsReadThere, asked, asked_at};
 ghost use Rattle.wq_session.specs.Prepared.{key_in, object_in, object_of};
 ghost use Rattle.wq_session.specs.Shelved.{shelf_data};
 ghost use Rattle.wq_session.specs.Work.{work_data};
 
-use crate::at::At;
 use crate::command::tried;
 use crate::read_object::ReadObject;
 use crate::read_query::ReadQuery;
@@ -19,6 +18,7 @@ use std::alloc::Global;
 use std::sync::Arc;
 use wq_ask::{Ask, Out, RootAsk, hands_in_valid};
 use wq_clock::Instance;
+use wq_crawl::At;
 use wq_follow::Trigger;
 use wq_registry::{CacheKey, Compiled, Shelf};
 use wq_verify::StoredProgram;

@@ -5,7 +5,7 @@ ghost use Rattle.serde_json.specs.Written.{has_float};
 ghost use Rattle.wq_follow.specs.Subscription.{SubscriptionData};
 ghost use Rattle.wq_ask.specs.Out.{replies};
 ghost use Rattle.wq_session.specs.Answer.{Finishes};
-ghost use Rattle.wq_session.specs.At.{AtData};
+ghost use Rattle.wq_crawl.specs.At.{AtData};
 ghost use Rattle.wq_session.specs.Work.{prints, rest_data, says};
 
 use crate::plain::Plain;

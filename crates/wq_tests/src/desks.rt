@@ -13,9 +13,9 @@ use std::sync::{Arc, Mutex, Wait};
 use std::thread::{Threads, join};
 use wq_base::Stays;
 use wq_clock::Run;
-use wq_crawl::{Crawler, MemoryRoots};
+use wq_crawl::{Crawler, SeatViews};
 use wq_live::{Blank, Named};
-use wq_serve::{LockDesk, SeatViews, SharedShelf, serve};
+use wq_serve::{LockDesk, SharedShelf, serve};
 use wq_stream::{Event, Inbox, MemoryInbox, Splitter};
 
 /// How often a client looks whether the other one got a reply.
@@ -109,7 +109,7 @@ fn talk<N: Named, R: Threads + Wait + Copy + Drop + Sync, I: Inbox, W: Write>(
     let views = SeatViews {
         run: Run::new(7, 9),
         seat,
-        roots: MemoryRoots { crawler },
+        roots: crawler,
     };
     let mut desk = LockDesk::new(shelf, rt);
     let ended = serve(&rt, alloc, &Stays {}, inbox, writer, views, &mut desk);

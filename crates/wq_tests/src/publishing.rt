@@ -14,18 +14,18 @@ use std::thread::Threads;
 use wq_ask::Cursor;
 use wq_base::{Stays, Workers};
 use wq_clock::Run;
-use wq_crawl::{CrawlFault, LaneParts, LockRoots, Roots, SharedCrawler};
+use wq_crawl::{CrawlFault, LaneParts, LockRoots, Roots, SeatViews, SharedCrawler};
 use wq_live::{Blank, Named, Told};
 use wq_registry::{CacheKey, Compiled, Forgotten};
-use wq_serve::{LockDesk, SeatViews, serve};
+use wq_serve::{LockDesk, serve};
 use wq_session::{Desk, Turn, Unset, Work};
 use wq_stream::{MemoryInbox, Splitter};
 use wq_verify::StoredProgram;
 
 /// Roots that publish twice whenever they are called.
 #[derive(Drop)]
-struct Publishing<N: Named, R: Wait + Drop> {
-    roots: LockRoots<N, R, Turning, Still>,
+struct Publishing<'a, N: Named, R: Wait + Drop> {
+    roots: LockRoots<'a, N, R, Turning, Still, Stays>,
 }
 
 /// Publishes two passes.
@@ -34,7 +34,7 @@ fn publish_twice<N: Named, R: Roots<N>>(roots: &mut R) {
     let _ = roots.crawl("/r");
 }
 
-impl<N: Named, R: Wait + Drop> Roots<N> for Publishing<N, R> {
+impl<N: Named, R: Wait + Drop> Roots<N> for Publishing<'_, N, R> {
     ghost use Rattle.std.specs.Prelude.{None};
 
     ghost crawler = { λ _. None };
@@ -62,12 +62,12 @@ impl<N: Named, R: Wait + Drop> Roots<N> for Publishing<N, R> {
 
 /// A desk that publishes twice before it holds the shelf, also if it is to find a program or to keep one.
 #[derive(Drop)]
-struct Holding<N: Named, R: Wait + Drop> {
+struct Holding<'a, N: Named, R: Wait + Drop> {
     desk: LockDesk<R>,
-    roots: LockRoots<N, R, Turning, Still>,
+    roots: LockRoots<'a, N, R, Turning, Still, Stays>,
 }
 
-impl<N: Named, R: Wait + Drop> Desk for Holding<N, R> {
+impl<N: Named, R: Wait + Drop> Desk for Holding<'_, N, R> {
     ghost use Rattle.std.specs.Prelude.{None};
 
     ghost shelf = { λ _. None };
@@ -95,12 +95,12 @@ impl<N: Named, R: Wait + Drop> Desk for Holding<N, R> {
 
 /// A writer that publishes twice before each write.
 #[derive(Drop)]
-struct Telling<N: Named, R: Wait + Drop> {
+struct Telling<'a, N: Named, R: Wait + Drop> {
     bytes: Vec<u8>,
-    roots: LockRoots<N, R, Turning, Still>,
+    roots: LockRoots<'a, N, R, Turning, Still, Stays>,
 }
 
-impl<N: Named, R: Wait + Drop> Write for Telling<N, R> {
+impl<N: Named, R: Wait + Drop> Write for Telling<'_, N, R> {
     fn write(&mut self, bytes: &[u8]) -> io::Result<usize> {
         publish_twice(&mut self.roots);
         self.bytes.write(bytes)
@@ -135,17 +135,19 @@ fn talk<N: Named, R: Threads + Wait + Copy + Drop + Sync>(
     };
     let crawler = SharedCrawler::new(alloc, publisher, lane, Vec::new(alloc)).ok()?;
     let crawler = Arc::new(alloc, crawler).ok()?;
+    let caller = Stays {};
+    let workers = Workers { count: 1 };
     let mut inbox = MemoryInbox::new(VecDeque::from(Splitter::new(alloc).feed(lines).ok()?));
     let mut writer = Telling {
         bytes: Vec::new(alloc),
-        roots: LockRoots::new(Arc::try_clone(&crawler).ok()?, rt, Workers { count: 1 }),
+        roots: LockRoots::new(&caller, Arc::try_clone(&crawler).ok()?, rt, workers),
     };
     let mut desk = Holding {
         desk: LockDesk::new(shared_shelf(alloc)?, rt),
-        roots: LockRoots::new(Arc::try_clone(&crawler).ok()?, rt, Workers { count: 1 }),
+        roots: LockRoots::new(&caller, Arc::try_clone(&crawler).ok()?, rt, workers),
     };
     let roots = Publishing {
-        roots: LockRoots::new(crawler, rt, Workers { count: 1 }),
+        roots: LockRoots::new(&caller, crawler, rt, workers),
     };
     let run = Run::new(7, 9);
     let views = SeatViews { run, seat, roots };

@@ -10,9 +10,9 @@ use std::test::Fail;
 use std::thread::Threads;
 use wq_base::Stays;
 use wq_clock::Run;
-use wq_crawl::{Crawler, MemoryRoots, Roots};
+use wq_crawl::{Crawler, Roots, SeatViews};
 use wq_live::{Blank, Named, Seat};
-use wq_serve::{LockDesk, SeatViews, serve};
+use wq_serve::{LockDesk, serve};
 use wq_session::Desk;
 use wq_stream::{MemoryInbox, Splitter};
 
@@ -23,7 +23,7 @@ type Talk = (&'static [u8], &'static [u8]);
 #[derive(Drop)]
 struct Ends<N: Named, R: Wait + Drop> {
     seat: Seat<N>,
-    roots: MemoryRoots<N, R, Turning, Still>,
+    roots: Crawler<N, R, Turning, Still>,
 }
 
 /// The ends of a session over a tree of two files.
@@ -35,9 +35,8 @@ fn make_ends<N: Named, R: Wait + Drop>(rt: R, alloc: Global, blank: Blank) -> Op
         names: &[b"b.txt", b"src/a.c"],
         others: &[b"b.txt", b"src/a.c"],
     };
-    let mut crawler = Crawler::new(blank.open::<N, R>(rt), tree, Still(100));
-    let seat = crawler.seat().ok()?;
-    let roots = MemoryRoots { crawler };
+    let mut roots = Crawler::new(blank.open::<N, R>(rt), tree, Still(100));
+    let seat = roots.seat().ok()?;
     Some(Ends { seat, roots })
 }
 

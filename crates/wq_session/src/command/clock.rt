@@ -1,14 +1,14 @@
 //! The beginning of `clock`, the last pass over a root.
-ghost use Rattle.wq_session.specs.At.{at_data};
+ghost use Rattle.wq_crawl.specs.At.{at_data};
 ghost use Rattle.wq_session.specs.Clock.{try_clock};
 ghost use Rattle.wq_session.specs.Shelved.{shelf_data};
 ghost use Rattle.wq_session.specs.Work.{Begins};
 
-use crate::at::At;
 use crate::reply::saying;
 use crate::work::Rest;
 use std::alloc::Global;
 use wq_ask::{Refusal, clock_reply};
+use wq_crawl::At;
 use wq_follow::Trigger;
 use wq_registry::Shelf;
 

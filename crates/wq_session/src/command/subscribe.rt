@@ -4,13 +4,13 @@
 ghost use Rattle.std.specs.Prelude.{Some};
 ghost use Rattle.serde_json.specs.Data.{Data};
 ghost use Rattle.wq_query.specs.Query.{asked_of};
-ghost use Rattle.wq_session.specs.At.{ShelfNow, at_data};
+ghost use Rattle.wq_crawl.specs.At.{at_data};
+ghost use Rattle.wq_session.specs.At.{ShelfNow};
 ghost use Rattle.wq_session.specs.Prepared.{AreRead, IsRead, IsReadAt, asks_subscription};
 ghost use Rattle.wq_session.specs.Shelved.{shelf_data};
 ghost use Rattle.wq_session.specs.Subscribe.{begun_subscription, try_subscribe, try_unsubscribe};
 ghost use Rattle.wq_session.specs.Work.{Begins};
 
-use crate::at::At;
 use crate::command::query::program_for;
 use crate::read_object::ReadObject;
 use crate::read_query::ReadQuery;
@@ -19,6 +19,7 @@ use std::alloc::Global;
 use wq_ask::{Refusal, RootText, is_name};
 use wq_base::Text;
 use wq_clock::Bound;
+use wq_crawl::At;
 use wq_follow::{Subscription, Trigger};
 use wq_registry::Shelf;
 

@@ -14,8 +14,8 @@ ghost use Rattle.wq_registry.specs.Shelf.{trigger_added, triggers_of};
 ghost use Rattle.wq_ask.specs.Out.{replies};
 ghost use Rattle.wq_ask.specs.declared.refusal.Refusal.TheVariants.{NoMemory, TooManyTriggers};
 ghost use Rattle.wq_ask.specs.Trigger.{trigger_deleted_reply, trigger_reply, triggers_reply};
+ghost use Rattle.wq_crawl.specs.At.{AtData, at_data};
 ghost use Rattle.wq_session.specs.Answer.{Finishes};
-ghost use Rattle.wq_session.specs.At.{AtData, at_data};
 ghost use Rattle.wq_session.specs.Prepared.{AreRead, IsReadAt, IsReadTrigger, asks_trigger};
 ghost use Rattle.wq_session.specs.Shelved.{each, shelf_data};
 ghost use Rattle.wq_session.specs.Objects.{AreObjects};
@@ -23,7 +23,6 @@ ghost use Rattle.wq_session.specs.Trigger.{begun_trigger, has_no_trigger_place, 
 ghost use Rattle.wq_session.specs.Trigger.{listing_triggers, trigger_called, try_delete_trigger, try_trigger};
 ghost use Rattle.wq_session.specs.Work.{Begins, objects_in, prints};
 
-use crate::at::At;
 use crate::command::query::program_for;
 use crate::read_object::ReadObject;
 use crate::read_trigger::ReadTrigger;
@@ -36,6 +35,7 @@ use wq_ask::{
     Out, Refusal, RootText, is_name, print, trigger_deleted_reply, trigger_reply, triggers_reply,
 };
 use wq_base::Text;
+use wq_crawl::At;
 use wq_follow::{Definition, ObjectText, Trigger};
 use wq_registry::{Root, Shelf, ShelfFault};
 use wq_verify::StoredProgram;

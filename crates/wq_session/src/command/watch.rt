@@ -6,12 +6,12 @@ ghost use Rattle.serde_json.specs.View.{view as data_of};
 ghost use Rattle.wq_registry.specs.Shelf.{root_added, root_has_no_place};
 ghost use Rattle.wq_ask.specs.Watch.{roots_data};
 ghost use Rattle.wq_ask.specs.declared.refusal.Refusal.TheVariants.{NoMemory, TooManyRoots};
-ghost use Rattle.wq_session.specs.At.{at_data};
+ghost use Rattle.wq_crawl.specs.At.{at_data};
 ghost use Rattle.wq_session.specs.Shelved.{shelf_data};
 ghost use Rattle.wq_session.specs.Watch.{root_texts, listing_roots, try_unwatch, try_watch};
 ghost use Rattle.wq_session.specs.Work.{Begins};
 
-use crate::at::{At, watched};
+use crate::at::watched;
 use crate::plain::Plain;
 use crate::shelving::{add_root, remove_root};
 use crate::work::Rest;
@@ -19,6 +19,7 @@ use serde_json::{Value, json};
 use std::alloc::{AllocError, Global};
 use wq_ask::{Refusal, RootText, print, unwatch_reply, watch_reply};
 use wq_base::VERSION;
+use wq_crawl::At;
 use wq_follow::Trigger;
 use wq_registry::{Root, Shelf, ShelfFault};
 

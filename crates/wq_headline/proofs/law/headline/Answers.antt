@@ -1,5 +1,5 @@
 -- Each clause by its lemma.
-use Rattle.wq_serve.specs.Basis.{basis_of}
+use Rattle.wq_crawl.specs.Basis.{basis_of}
 use Rattle.wq_headline.proofs.Clocks.{clocks_name_views}
 use Rattle.wq_headline.proofs.Followed.{subscriptions_are_exact}
 use Rattle.wq_headline.proofs.Idled.{moments_are_exact}

@@ -1,5 +1,5 @@
 -- The law by its lemma.
-use Rattle.wq_serve.specs.Basis.{basis_of}
+use Rattle.wq_crawl.specs.Basis.{basis_of}
 use Rattle.wq_headline.proofs.Sessions.{alone_goes_on}
 use Rattle.wq_headline.proofs.served.alone_goes_on.Goals as goal
 

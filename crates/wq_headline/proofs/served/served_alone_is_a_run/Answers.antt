@@ -1,5 +1,5 @@
 -- The law by its lemma, which takes that a history has one view.
-use Rattle.wq_serve.specs.Basis.{basis_of}
+use Rattle.wq_crawl.specs.Basis.{basis_of}
 use Rattle.wq_headline.proofs.Sessions.{served_alone_is_a_run}
 use Rattle.wq_headline.proofs.served.served_alone_is_a_run.Goals as goal
 

@@ -5,7 +5,7 @@ use Rattle.wq_follow.specs.Subscription.{SubscriptionData}
 use Rattle.wq_session.specs.Desk.{stand}
 use Rattle.wq_session.specs.Followed.{follows_of}
 use Rattle.wq_session.specs.Shelved.{shelf_data}
-use Rattle.wq_session.specs.Views.{Replies}
+use Rattle.wq_session.specs.Desk.{Replies}
 use Rattle.wq_replay.specs.Client.{follows_in, other_clients}
 use Rattle.wq_replay.specs.Clients.{kept_client}
 use Rattle.wq_replay.proofs.Follows.{answer_dropped, answer_kept}

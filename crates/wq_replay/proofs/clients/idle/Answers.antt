@@ -3,7 +3,7 @@ use Rattle.std.proofs.Common.{rules, ◌≡◌, ℤ, List, ◌++◌, option_map,
 use mir.Facts.{to_z-of_z}
 use Rattle.wq_follow.specs.Subscription.{SubscriptionData}
 use Rattle.wq_session.specs.Moment.{Idles}
-use Rattle.wq_session.specs.At.{at_data}
+use Rattle.wq_crawl.specs.At.{at_data}
 use Rattle.wq_session.specs.Followed.{follows_of}
 use Rattle.wq_replay.specs.Client.{follows_in, other_clients}
 use Rattle.wq_replay.specs.Clients.{kept_client}

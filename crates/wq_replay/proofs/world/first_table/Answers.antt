@@ -1,7 +1,7 @@
 -- The first start tells no pass.
 use Rattle.std.proofs.Common.{[], ap, subst}
 use Rattle.wq_live.specs.Table.{TableData, IsTableOf}
-use Rattle.wq_replay.proofs.Tables.{first_events}
+use Rattle.wq_replay.proofs.FirstEvents.{first_events}
 use Rattle.wq_replay.proofs.world.first_table.Goals as goal
 
 pub returns-in-Ok : goal.returns-in-Ok

@@ -1,5 +1,5 @@
 -- The law by its lemma, which takes that of answers.
-use Rattle.wq_serve.specs.Basis.{basis_of}
+use Rattle.wq_crawl.specs.Basis.{basis_of}
 use Rattle.wq_serve.proofs.Staying.{accepted_stays}
 use Rattle.wq_serve.proofs.law.accepted_stays.Goals as goal
 

@@ -1,7 +1,7 @@
 -- One more event was taken, after which the session goes on, or ends.
 use Rattle.std.proofs.Common.{rules, inr, refl, ◌+◌, ◌++◌, ◌∷◌, [], ◌∙◌, ap, length-append, subst}
 use Rattle.wq_session.specs.Followed.{follows_of}
-use Rattle.wq_serve.specs.Basis.{basis_of}
+use Rattle.wq_crawl.specs.Basis.{basis_of}
 use Rattle.wq_serve.specs.Serving.{Serves, place, written_for}
 use Rattle.wq_base.proofs.Fronts.{appends_then}
 use Rattle.wq_serve.proofs.Going.{ends_well, ends_within, goes_on_by}

@@ -3,7 +3,7 @@ use Rattle.std.proofs.Common.{◌≡◌, ℕ, List, [], length}
 use Rattle.std.specs.Io.KnownBytes.{Appends}
 use Rattle.wq_stream.specs.declared.event.Event.{Event}
 use Rattle.wq_session.specs.Followed.{follows_of}
-use Rattle.wq_serve.specs.Basis.{basis_of}
+use Rattle.wq_crawl.specs.Basis.{basis_of}
 use Rattle.wq_serve.specs.Serving.{GoesOn, place}
 use Rattle.wq_serve.proofs.serving.serve.Given as goal
 

@@ -1,10 +1,10 @@
 -- Each event but an idle moment asks something.
 use Rattle.std.proofs.Common.{rules}
-use Rattle.wq_serve.specs.Ready.{known}
+use Rattle.wq_crawl.specs.Ready.{known}
 use Rattle.wq_stream.specs.Inbox.{Hands}
 use Rattle.wq_session.specs.Desk.{stand}
 use Rattle.wq_session.specs.Followed.{follows_of}
-use Rattle.wq_serve.specs.Basis.{basis_of}
+use Rattle.wq_crawl.specs.Basis.{basis_of}
 use Rattle.wq_serve.proofs.Going.{does_other}
 use Rattle.wq_serve.proofs.serving.take_event.Goals as goal
 

@@ -3,7 +3,7 @@ use Rattle.std.proofs.Common.{rules, ◌≡◌, ◌∙◌, Some, None, ap, optio
 use Rattle.wq_registry.specs.Root.{called}
 use Rattle.wq_session.proofs.Rooted.{number_there}
 use Rattle.wq_session.proofs.Shelves.{not_watched, other_number, same_number}
-use Rattle.wq_session.specs.At.{at_data}
+use Rattle.wq_crawl.specs.At.{at_data}
 use Rattle.wq_session.proofs.at.watched.Goals as goal
 
 pub returns-then-at-number-clause-there : goal.returns-then-at-number-clause-there

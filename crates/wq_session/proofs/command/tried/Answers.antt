@@ -2,7 +2,7 @@
 use Rattle.std.proofs.Common.{◌≡◌, false, true, IfErr, option_map, subst, sym}
 use Rattle.wq_ask.specs.Refusal.{ends_session}
 use Rattle.wq_ask.specs.declared.ask.Ask.{Ask}
-use Rattle.wq_session.specs.At.{at_data}
+use Rattle.wq_crawl.specs.At.{at_data}
 use Rattle.wq_session.specs.Begun.{takes_memory, tried}
 use Rattle.wq_session.specs.Shelved.{shelf_data}
 use Rattle.wq_session.specs.Work.{Begins}

@@ -1,7 +1,7 @@
 -- The root that is looked at is the watched one, and the object of the ask was read there.
 use Rattle.std.proofs.Common.{option_map, subst, sym}
 use Rattle.wq_session.proofs.Before.{are_read, there}
-use Rattle.wq_session.specs.At.{at_data}
+use Rattle.wq_crawl.specs.At.{at_data}
 use Rattle.wq_session.specs.Prepared.{IsReadAt, object_of}
 use Rattle.wq_session.specs.Shelved.{shelf_data}
 use Rattle.wq_session.proofs.command.tried_of.Goals as goal

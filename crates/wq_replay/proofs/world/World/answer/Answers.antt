@@ -6,14 +6,13 @@ use Rattle.wq_live.specs.Table.{IsTableOf}
 use Rattle.wq_ask.specs.Need.{need_of}
 use Rattle.wq_session.specs.Desk.{stand}
 use Rattle.wq_session.specs.Shelved.{shelf_data}
-use Rattle.wq_session.specs.Views.{Replies}
+use Rattle.wq_session.specs.Desk.{Replies}
 use Rattle.wq_replay.specs.Client.{follows_in}
 use Rattle.wq_replay.specs.Clients.{FollowsNow}
 use Rattle.wq_replay.specs.Gets.{kept}
-use Rattle.wq_replay.specs.Tables.{refused_data}
-use Rattle.wq_replay.specs.declared.table_views.TableViews.{TableViews}
-use Rattle.wq_replay.proofs.Needs.{met_here}
-use Rattle.wq_replay.proofs.Worlds.{answers_well}
+use Rattle.wq_crawl.specs.Tables.{refused_data}
+use Rattle.wq_crawl.specs.declared.table_views.TableViews.{TableViews}
+use Rattle.wq_replay.proofs.Worlds.{answers_well, met_here}
 use Rattle.wq_replay.proofs.world.World.answer.Goals as goal
 
 pub returns : goal.returns

@@ -2,11 +2,11 @@
 use Rattle.std.proofs.Common.{ℤ, List, IfOk, None, option_map, refl, sym, ap, subst, ◌∙◌}
 use mir.Facts.{to_z-of_z}
 use Rattle.wq_follow.specs.Subscription.{SubscriptionData}
-use Rattle.wq_session.specs.At.{at_data}
+use Rattle.wq_crawl.specs.At.{at_data}
 use Rattle.wq_session.specs.Moment.{Idles}
 use Rattle.wq_replay.specs.Client.{follows_in}
 use Rattle.wq_replay.specs.Clients.{FollowsNow}
-use Rattle.wq_replay.specs.Gets.{numbered}
+use Rattle.wq_crawl.specs.Meets.{numbered}
 use Rattle.wq_replay.proofs.Worlds.{rests_well}
 use Rattle.wq_replay.proofs.world.World.rest.Goals as goal
 

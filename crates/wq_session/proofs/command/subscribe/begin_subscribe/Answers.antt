@@ -3,7 +3,7 @@ use Rattle.std.proofs.Common.{rules, ◌≡◌, Result, Err, ap, option_map, sub
 use Rattle.wq_query.specs.Subscribed.{subscribes}
 use Rattle.wq_ask.specs.declared.refusal.Refusal.{Refusal}
 use Rattle.wq_session.proofs.Before.{begins_subscribed, object_there, refuses_subscribed}
-use Rattle.wq_session.specs.At.{at_data}
+use Rattle.wq_crawl.specs.At.{at_data}
 use Rattle.wq_session.specs.Prepared.{asks_subscription}
 use Rattle.wq_session.specs.Shelved.{shelf_data}
 use Rattle.wq_session.specs.Subscribe.{try_subscribe}

@@ -2,7 +2,7 @@
 use Rattle.std.proofs.Common.{rules, ◌≡◌, Result, Err, ap, option_map, subst, sym}
 use Rattle.wq_ask.specs.declared.refusal.Refusal.{Refusal}
 use Rattle.wq_session.proofs.Before.{begins_defined, object_there, refuses_defined}
-use Rattle.wq_session.specs.At.{at_data}
+use Rattle.wq_crawl.specs.At.{at_data}
 use Rattle.wq_session.specs.Prepared.{asks_trigger}
 use Rattle.wq_session.specs.Shelved.{shelf_data}
 use Rattle.wq_session.specs.Trigger.{defined_by, try_trigger}

@@ -4,7 +4,7 @@ use Rattle.wq_ask.specs.Out.{MayRefuse}
 use Rattle.wq_ask.specs.Need.{need_of}
 use Rattle.wq_session.specs.Desk.{stand}
 use Rattle.wq_session.specs.Followed.{follows_of}
-use Rattle.wq_session.specs.Views.{SaysReady}
+use Rattle.wq_crawl.specs.Views.{SaysReady}
 use Rattle.wq_session.proofs.Readying.{answered_ready, refused_ready}
 use Rattle.wq_session.proofs.session.Session.answer.Goals as goal
 

@@ -1,6 +1,6 @@
 -- Taking and finishing gave the answer.
 use Rattle.std.proofs.Common.{option_map, sym, ◌∙◌}
-use Rattle.wq_session.specs.At.{at_data}
+use Rattle.wq_crawl.specs.At.{at_data}
 use Rattle.wq_session.specs.Followed.{follows_of}
 use Rattle.wq_session.specs.Work.{work_data}
 use Rattle.wq_session.proofs.Held.{held_finish, kept_answer, unset_answer}

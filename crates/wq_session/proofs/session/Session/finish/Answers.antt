@@ -2,7 +2,7 @@
 use Rattle.std.proofs.Common.{rules, ◌≡◌, ◌∙◌, ap, option_map, subst, sym}
 use Rattle.wq_ask.specs.Trigger.{triggers_reply}
 use Rattle.wq_session.specs.Answer.{Finishes}
-use Rattle.wq_session.specs.At.{at_data}
+use Rattle.wq_crawl.specs.At.{at_data}
 use Rattle.wq_session.specs.Followed.{follows_of}
 use Rattle.wq_session.specs.Work.{WorkData, objects_in, prints, rest_data}
 use Rattle.wq_session.proofs.session.Session.finish.Goals as goal

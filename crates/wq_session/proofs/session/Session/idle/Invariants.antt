@@ -1,6 +1,6 @@
 -- So many subscriptions were told, one after the other.
 use Rattle.std.proofs.Common.{option_map}
-use Rattle.wq_session.specs.At.{at_data}
+use Rattle.wq_crawl.specs.At.{at_data}
 use Rattle.wq_session.specs.Followed.{follows_of}
 use Rattle.wq_session.proofs.Moments.{Told}
 use Rattle.wq_session.proofs.session.Session.idle.Given as goal

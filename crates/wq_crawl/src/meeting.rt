@@ -1,0 +1,146 @@
+//! The need of an ask: the session does what the ask needs, and looks at its root.
+ghost use Rattle.std.specs.Prelude.{◌≡◌, Ok, Some};
+ghost use Rattle.wq_clock.specs.Instance.{instance_data};
+ghost use Rattle.wq_crawl.specs.Roots.{RootsGive, showing};
+ghost use Rattle.wq_crawl.specs.Basis.{basis_of};
+ghost use Rattle.wq_crawl.specs.Meeting.{EndsAtEnd, IsMet, LearnsAndSees, SeesRoot};
+ghost use Rattle.wq_crawl.specs.Ready.{Learns, known};
+ghost use Rattle.wq_crawl.specs.Need.{unwatch};
+ghost use Rattle.wq_crawl.specs.Need.{need_data};
+
+use crate::fault::CrawlFault;
+use crate::looking::{number_for, share_for};
+use crate::need::Need;
+use crate::roots::Roots;
+use crate::views::RootAt;
+use wq_clock::{Instance, Run};
+use wq_live::{Named, Seat, Told};
+
+/// Does what an ask needs, and looks at its root.
+pub(crate) fn meet<N: Named, R: Roots<N>>(
+    run: Run,
+    need: Need<'_>,
+    seat: Seat<N>,
+    roots: &mut R,
+) -> (Seat<N>, Result<Option<RootAt>, CrawlFault>)
+    ensures { IsMet (basis_of run (N.published N.book) (N.refused N.book)) (need_data need.entry)
+        (known (R.crawler roots.old) seat) result.1 (known (R.crawler roots.new) result.0) }
+{
+    match need {
+        Need::None => (seat, Ok(None)),
+        Need::Look(root) => look_at(run, root, seat),
+        Need::Crawl(root) => {
+            let told = roots.crawl(root);
+            learn_and_look(run, root, seat, told)
+        }
+        Need::Watch(root) => {
+            let told = watch(roots, root);
+            learn_and_look(run, root, seat, told)
+        }
+        Need::Unwatch(root) => unwatch(run, root, seat, roots),
+    }
+}
+
+/// Watches a root.
+fn watch<N: Named, R: Roots<N>>(roots: &mut R, root: &str) -> Result<Option<Told<N>>, CrawlFault>
+    ensures { RootsGive (R.crawler roots.old) (showing root.now) result (R.crawler roots.new) }
+{
+    match roots.watch(root) {
+        Ok(told) => Ok(Some(told)),
+        Err(fault) => Err(fault),
+    }
+}
+
+/// Looks at a root.
+///
+/// A share of the root's view outlives the look, so that no publish waits while a reply is made. If there is no share,
+/// memory ran out.
+fn look_at<N: Named>(
+    run: Run,
+    root: &str,
+    seat: Seat<N>,
+) -> (Seat<N>, Result<Option<RootAt>, CrawlFault>)
+    ensures { SeesRoot (basis_of run (N.published N.book) (N.refused N.book)) root.now seat
+        result.1 result.0 }
+{
+    match seat.look() {
+        Ok(look) => {
+            let shared = share_for(run, root, &look);
+            let seat = look.leave();
+            match shared {
+                Ok(shared) => (seat, Ok(shared)),
+                Err(_) => (seat, Err(CrawlFault::NoMemory)),
+            }
+        }
+        Err(blind) => (blind.seat(), Ok(None)),
+    }
+}
+
+/// Looks at a root after the roots told this.
+fn learn_and_look<N: Named>(
+    run: Run,
+    root: &str,
+    seat: Seat<N>,
+    told: Result<Option<Told<N>>, CrawlFault>,
+) -> (Seat<N>, Result<Option<RootAt>, CrawlFault>)
+    ensures { LearnsAndSees (basis_of run (N.published N.book) (N.refused N.book)) root.now told
+        seat result.1 result.0 }
+{
+    match told {
+        Ok(None) => look_at(run, root, seat),
+        Ok(Some(told)) => look_at(run, root, seat.learn(told)),
+        Err(fault) => (seat, Err(fault)),
+    }
+}
+
+/// Unwatches a root, if it is shown, and gives its number.
+fn unwatch<N: Named, R: Roots<N>>(
+    run: Run,
+    root: &str,
+    seat: Seat<N>,
+    roots: &mut R,
+) -> (Seat<N>, Result<Option<RootAt>, CrawlFault>)
+    ensures { IsMet (basis_of run (N.published N.book) (N.refused N.book)) (unwatch root.now)
+        (known (R.crawler roots.old) seat) result.1 (known (R.crawler roots.new) result.0) }
+{
+    let (seat, instance) = number_for(run, root, seat);
+    match instance {
+        None => (seat, Ok(None)),
+        Some(instance) => {
+            let told = roots.unwatch(instance.root);
+            at_end(seat, instance, told)
+        }
+    }
+}
+
+/// The number of a root, after its end was told.
+fn at_end<N: Named>(
+    seat: Seat<N>,
+    instance: Instance,
+    told: Result<Told<N>, CrawlFault>,
+) -> (Seat<N>, Result<Option<RootAt>, CrawlFault>)
+    ensures { EndsAtEnd (instance_data instance) told seat result.1 result.0 }
+{
+    match told {
+        Ok(told) => {
+            let ended = RootAt {
+                instance,
+                view: None,
+            };
+            (learn_and_leave(seat, told), Ok(Some(ended)))
+        }
+        Err(fault) => (seat, Err(fault)),
+    }
+}
+
+/// Learns the list that was told, and looks at once, so that the seat keeps nothing of it that is shown by then.
+/// Otherwise it would keep the views of all roots as they were told, until its client asks something that looks.
+#[tactic(auto, using(crate::proofs::Beginnings::begins_later))]
+fn learn_and_leave<N: Named>(seat: Seat<N>, told: Told<N>) -> Seat<N>
+    ensures { Learns seat (Ok (Some told)) result }
+{
+    match seat.learn(told).look() {
+        Ok(look) => look.leave(),
+        Err(blind) => blind.seat(),
+    }
+}

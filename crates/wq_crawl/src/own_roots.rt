@@ -1,0 +1,32 @@
+//! Roots that one session has for itself: a crawler.
+
+use crate::crawler::Crawler;
+use crate::fault::CrawlFault;
+use crate::roots::Roots;
+use crate::seconds::Seconds;
+use crate::tree::Tree;
+use std::sync::Wait;
+use wq_live::{Named, Told};
+
+/// A crawler that one session has for itself. Its roots show it.
+impl<N: Named, R: Wait + Drop, T: Tree + Drop, S: Seconds + Drop> Roots<N> for Crawler<N, R, T, S> {
+    ghost use Rattle.std.specs.Prelude.{Some};
+
+    ghost crawler = { λ c. Some c };
+
+    fn watch(&mut self, root: &str) -> Result<Told<N>, CrawlFault> {
+        self.watch(root)
+    }
+
+    fn crawl(&mut self, root: &str) -> Result<Option<Told<N>>, CrawlFault> {
+        self.crawl(root)
+    }
+
+    fn unwatch(&mut self, number: u64) -> Result<Told<N>, CrawlFault> {
+        self.unwatch(number)
+    }
+
+    fn workers(&self) -> u32 {
+        1
+    }
+}
