@@ -7,4 +7,4 @@ mod task;
 
 pub use fault::CommandLineFault;
 pub use settings::{Interval, Settings};
-pub use task::{Task, task_of};
+pub use task::{Action, task_of};

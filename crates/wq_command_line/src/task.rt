@@ -7,7 +7,7 @@ use std::alloc::{AllocError, Global};
 
 /// The task that the command line asks for.
 #[derive(Drop)]
-pub enum Task {
+pub enum Action {
     /// Replay a script.
     Replay,
     /// Say what the program file of this path is.
@@ -20,18 +20,18 @@ pub enum Task {
 ///
 /// # Errors
 /// The words ask for no task or for help, or memory ran out.
-pub fn task_of(alloc: Global, words: &[String]) -> Result<Task, CommandLineFault> {
+pub fn task_of(alloc: Global, words: &[String]) -> Result<Action, CommandLineFault> {
     let matches = match command(alloc)?.try_get_matches_from(words) {
         Ok(matches) => matches,
         Err(error) => return Err(CommandLineFault::of(&error)),
     };
     match matches.subcommand() {
-        Some(("replay", _)) => Ok(Task::Replay),
+        Some(("replay", _)) => Ok(Action::Replay),
         Some(("check", given)) => match given.get_str("file") {
-            Some(path) => Ok(Task::Check(String::from_str(alloc, path)?)),
+            Some(path) => Ok(Action::Check(String::from_str(alloc, path)?)),
             None => Err(CommandLineFault::Wrong),
         },
-        Some(("serve", given)) => Ok(Task::Serve(Settings::of(alloc, given)?)),
+        Some(("serve", given)) => Ok(Action::Serve(Settings::of(alloc, given)?)),
         _ => Err(CommandLineFault::Wrong),
     }
 }

@@ -2,7 +2,7 @@
 #![tactic(auto)]
 
 mod assembly;
-mod failing;
+mod failures;
 mod lock_host;
 mod rounds;
 

@@ -1,7 +1,7 @@
 //! The parts that the threads of the server share: the shelf, the seats, the launcher, and the crawler. Each is under a
 //! lock of its own. A look at files takes no lock, and neither does a listing of them.
 
-use crate::failing::{Failing, back_line, fault_line};
+use crate::failures::{FailingRoots, back_line, fault_line};
 use crate::rounds::Rounds;
 use std::alloc::{AllocError, Global};
 use std::io::Write;
@@ -15,7 +15,7 @@ use wq_crawl::{
     Asked, Caller, CrawlFault, LaneParts, LockRoots, SeatViews, Seconds, SharedCrawler, Tree,
 };
 use wq_follow::Trigger;
-use wq_launch::{MAX_RUNS, Notices, Run as StartedRun, Runs, Spawn};
+use wq_launch::{MAX_RUNS, Notices, Runs, Spawn, StartedCommand};
 use wq_live::{Named, Publisher, Seat};
 use wq_serve::{Ended, Kept, LockDesk, ReachedShelf, SharedShelf, serve};
 use wq_server::{Host, MAX_SESSIONS, RootNumbers, Stop, Worked, refuse, time_since};
@@ -49,7 +49,7 @@ where
     crawler: Arc<SharedCrawler<N, R, T, S>>,
     shelf: Arc<Mutex<ReachedShelf<K>>>,
     rounds: Rounds<N, P, R>,
-    failing: Mutex<Failing>,
+    failing: Mutex<FailingRoots>,
     /// The line to the operator when the server begins to serve clients.
     greeting: String,
     notices: Arc<O>,
@@ -124,7 +124,7 @@ where
             crawler: Arc::new(alloc, crawler)?,
             shelf,
             rounds: Rounds::new(rt, alloc, run, seats.rounds, spawn)?,
-            failing: Mutex::new(Failing::new(alloc)),
+            failing: Mutex::new(FailingRoots::new(alloc)),
             greeting,
             notices,
             workers,
@@ -369,11 +369,11 @@ where
         self.crawler.end_walks();
     }
 
-    fn take_run(&self) -> Option<StartedRun> {
+    fn take_run(&self) -> Option<StartedCommand> {
         self.rounds.launcher.lock(&self.rt).take()
     }
 
-    fn give_back(&self, run: StartedRun) {
+    fn give_back(&self, run: StartedCommand) {
         self.rounds.launcher.lock(&self.rt).give_back(run);
     }
 

@@ -4,7 +4,7 @@ use Rattle.std.specs.Prelude.{◌≡◌, ℕ, nat_lt, if◌then◌else◌, List,
 use Rattle.std.specs.Prelude.{Result, Ok, Err}
 use Rattle.wq_follow.specs.Start.{EnvData, StartData}
 use Rattle.wq_follow.specs.declared.launch.LaunchFault.{LaunchFault}
-use Rattle.wq_launch.specs.Failing.{FailingData, after_failure}
+use Rattle.wq_launch.specs.FailingStarts.{FailingData, after_failure}
 use Rattle.wq_launch.specs.Limit.{max_runs}
 use Rattle.wq_launch.specs.StartedRun.{StartedRun}
 

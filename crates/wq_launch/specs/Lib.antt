@@ -2,6 +2,6 @@ pub mod Limit
 pub mod Runs
 pub mod Inputs
 pub mod Command
-pub mod Failing
+pub mod FailingStarts
 pub mod StartedRun
 pub mod Launching

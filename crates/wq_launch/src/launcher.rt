@@ -4,14 +4,14 @@ ghost use Rattle.std.specs.Prelude.{◌≡◌, ◌<◌, ◌++◌, [], None, IfEr
 ghost use Rattle.std.specs.Prelude.{length, option_to_list, OnSome};
 ghost use Rattle.wq_follow.specs.Launcher.{Rose, StartsRun, run_of};
 ghost use Rattle.wq_follow.specs.Started.{env_data, start_data};
-ghost use Rattle.wq_launch.specs.Failing.{TellsFirst, after_success};
+ghost use Rattle.wq_launch.specs.FailingStarts.{TellsFirst, after_success};
 ghost use Rattle.wq_launch.specs.Launching.{KeepsFailure, given_back, with_waiting};
 ghost use Rattle.wq_launch.specs.Limit.{max_runs};
 
-use crate::failing::{FailedStart, Failing};
-use crate::run::Run;
+use crate::failures::{FailedStart, FailingStarts};
+use crate::run::StartedCommand;
 use crate::runs::{MAX_RUNS, Runs};
-use crate::spawning::Spawn;
+use crate::system::Spawn;
 use crate::words::Words;
 use std::alloc::{AllocError, Global};
 use std::io;
@@ -29,9 +29,9 @@ pub struct Launcher<S: Spawn + Drop, R: Wait + Drop> {
     rt: R,
     alloc: Global,
     runs: Arc<Runs>,
-    waiting: Vec<Run>,
+    waiting: Vec<StartedCommand>,
     failures: u64,
-    failing: Failing,
+    failing: FailingStarts,
 }
 
 impl<S: Spawn + Drop, R: Wait + Drop> Model for Launcher<S, R> {
@@ -71,12 +71,12 @@ impl<S: Spawn + Drop, R: Wait + Drop> Launcher<S, R> {
             runs,
             waiting: Vec::with_capacity(alloc, MAX_RUNS)?,
             failures: 0,
-            failing: Failing::new(alloc)?,
+            failing: FailingStarts::new(alloc)?,
         })
     }
 
     /// Takes the first command that nobody attends yet.
-    pub fn take(&mut self) -> Option<Run>
+    pub fn take(&mut self) -> Option<StartedCommand>
         ensures first { self.old.waiting ≡ option_to_list result ++ self.new.waiting }
         ensures failures { self.new.failures ≡ self.old.failures }
         ensures failing { self.new.failing ≡ self.old.failing }
@@ -88,7 +88,7 @@ impl<S: Spawn + Drop, R: Wait + Drop> Launcher<S, R> {
     }
 
     /// Keeps a command that could not be attended, until it is taken again. It is the last one then.
-    pub fn give_back(&mut self, run: Run)
+    pub fn give_back(&mut self, run: StartedCommand)
         ensures kept { self.new.waiting ≡ given_back run self.old.waiting }
         ensures failures { self.new.failures ≡ self.old.failures }
         ensures failing { self.new.failing ≡ self.old.failing }
@@ -180,7 +180,7 @@ impl<S: Spawn + Drop, R: Wait + Drop> Launch for Launcher<S, R> {
                     input,
                 } = start;
                 self.failing.remove(env.root.as_str(), env.trigger.as_str());
-                self.waiting.push_reserved(Run {
+                self.waiting.push_reserved(StartedCommand {
                     number,
                     child,
                     input,

@@ -4,23 +4,23 @@
 //! a thread attend it ([`attend`]), and tells the operator its lines.
 #![tactic(auto)]
 
-mod attending;
+mod attendant;
 mod command;
-mod failing;
+mod failures;
 mod inputs;
 mod launcher;
 mod law;
 mod notices;
 mod run;
 mod runs;
-mod spawning;
+mod system;
 mod words;
 
-pub use attending::attend;
+pub use attendant::attend;
 pub use inputs::MAX_INPUT_BYTES;
 pub use launcher::Launcher;
 pub use law::numbers_are_free;
 pub use notices::Notices;
-pub use run::Run;
+pub use run::StartedCommand;
 pub use runs::{MAX_RUNS, Runs};
-pub use spawning::{Spawn, System};
+pub use system::{Spawn, System};

@@ -8,7 +8,7 @@ use wq_base::{Table, Text};
 /// A command that was started, and that nobody attends yet. Contracts see the number that its start
 /// gave, and its input.
 #[derive(Drop)]
-pub struct Run {
+pub struct StartedCommand {
     pub(crate) number: u32,
     pub(crate) child: Child,
     pub(crate) input: Table<u8>,
@@ -16,7 +16,7 @@ pub struct Run {
     pub(crate) trigger: Text,
 }
 
-impl Model for Run {
+impl Model for StartedCommand {
     ghost use Rattle.wq_launch.specs.StartedRun.{StartedRun};
 
     ghost Value = { StartedRun };
@@ -24,7 +24,7 @@ impl Model for Run {
     ghost view = { λ r. record { number = r.number; input = r.input } };
 }
 
-impl Run {
+impl StartedCommand {
     /// The number by which its end is told.
     pub fn number(&self) -> u32
         ensures { result ≡ self.now.number }

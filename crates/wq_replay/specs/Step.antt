@@ -8,11 +8,11 @@ use Rattle.wq_replay.specs.Stands.{Stands}
 use Rattle.wq_replay.specs.World.{HappeningData}
 use Rattle.wq_replay.specs.declared.fault.StepFault.{StepFault}
 use Rattle.wq_replay.specs.declared.fault.StepFault.TheVariants.{Malformed, Write, NoMemory}
-use Rattle.wq_replay.specs.declared.stage.Draft.{Draft}
+use Rattle.wq_replay.specs.declared.stage.OpenListing.{OpenListing}
 use Rattle.wq_replay.specs.declared.stage.Stage.{Stage}
 
 -- an open listing
-abbrev pub draft_data : Draft → DraftData
+abbrev pub draft_data : OpenListing → DraftData
 draft_data draft =
     record { crawls = draft.crawls; second = draft.second; rows = draft.rows.items }
 

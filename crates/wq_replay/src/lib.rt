@@ -29,6 +29,6 @@ pub use law::{
     programs_are_valid, runs_do_not_overlap, runs_go_on, scripts_are_runs, shelves_are_calls,
 };
 pub use player::{MAX_SCRIPT, replay};
-pub use sent::{Sent, Told};
+pub use sent::{Sent, SentLines};
 pub use taking::MAX_SCRIPT_LINE;
 pub use world::World;

@@ -9,7 +9,7 @@ ghost use Rattle.wq_replay.specs.Playing.{sent_for, sent_list, sent_to};
 ghost use Rattle.wq_replay.specs.Rounds.{sent_note};
 
 use crate::fault::StepFault;
-use crate::sent::{Sent, Told};
+use crate::sent::{Sent, SentLines};
 use itoa::Buffer;
 use std::alloc::Global;
 use std::io;
@@ -77,7 +77,7 @@ fn send_note<W: Write>(writer: &mut W, text: &[u8]) -> io::Result<()>
 }
 
 /// Sends a reply, if there is one, and the lists that follow it, and tells whether the server goes on.
-fn send_told<W: Write>(alloc: Global, writer: &mut W, told: &Told) -> Result<bool, StepFault>
+fn send_told<W: Write>(alloc: Global, writer: &mut W, told: &SentLines) -> Result<bool, StepFault>
     ensures { Sends (sent_to told.now.client told.now.out)
         (W.contents writer.old) (W.contents writer.new) result }
 {
@@ -87,7 +87,7 @@ fn send_told<W: Write>(alloc: Global, writer: &mut W, told: &Told) -> Result<boo
 }
 
 /// Sends a reply, if there is one, and tells whether the server goes on.
-fn send_reply<W: Write>(alloc: Global, writer: &mut W, told: &Told) -> Result<bool, StepFault>
+fn send_reply<W: Write>(alloc: Global, writer: &mut W, told: &SentLines) -> Result<bool, StepFault>
     ensures { Sends (sent_for told.now.client told.now.out.shuts told.now.out.reply)
         (W.contents writer.old) (W.contents writer.new) result }
 {
@@ -103,7 +103,7 @@ fn send_reply<W: Write>(alloc: Global, writer: &mut W, told: &Told) -> Result<bo
 fn send_lists<W: Write>(
     alloc: Global,
     writer: &mut W,
-    told: &Told,
+    told: &SentLines,
     lists: &[Line],
 ) -> Result<(), StepFault>
     ensures { SendsAll (map (sent_list told.now.client) lists.now)

@@ -8,19 +8,19 @@ use wq_base::Table;
 #[derive(Drop)]
 pub enum Sent {
     /// Lines to a client.
-    ToClient(Told),
+    ToClient(SentLines),
     /// A line, without its newline, about each start of a round, in the order of the triggers.
     OfRound(Table<Table<u8>>),
 }
 
 /// The lines to a client: a reply, or none, and then the lists of subscriptions.
 #[derive(Drop)]
-pub struct Told {
+pub struct SentLines {
     pub(crate) client: i64,
     pub(crate) out: Out,
 }
 
-impl Told {
+impl SentLines {
     /// The number of the client.
     pub fn client(&self) -> i64
         ensures { result ≡ self.now.client }

@@ -16,7 +16,7 @@ const SOCKET: &str = "replay";
 pub(crate) struct Stage {
     pub(crate) world: World,
     pub(crate) tree: Pass,
-    pub(crate) draft: Option<Draft>,
+    pub(crate) draft: Option<OpenListing>,
     /// The number of the next run.
     pub(crate) next: u32,
 }
@@ -43,7 +43,7 @@ impl Stage {
 
 /// A listing that has not ended yet.
 #[derive(Drop)]
-pub(crate) struct Draft {
+pub(crate) struct OpenListing {
     /// Whether the root is crawled at its end.
     pub(crate) crawls: bool,
     /// The second of the Unix epoch at which it was seen.

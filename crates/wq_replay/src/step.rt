@@ -18,7 +18,7 @@ use crate::hearing::{end_if, happenings, moments, rounds};
 use crate::numbers::{answers_from, numbers_for};
 use crate::script::{Line, RowLine, read_line};
 use crate::sending::send;
-use crate::stage::{Draft, Stage};
+use crate::stage::{OpenListing, Stage};
 use crate::taking::MAX_SCRIPT_LINE;
 use crate::world::{ROOT, World};
 use std::alloc::{AllocError, Global};
@@ -83,7 +83,7 @@ fn begin(alloc: Global, stage: &mut Stage, crawls: bool, second: i64) -> bool
     ensures { (at : StageData) → IsAt stage.old at → (known : Option (List ℕ))
         → TakesTurn at (drafts (empty_draft crawls second)) known known (Ok result) stage.new }
 {
-    stage.draft = Some(Draft {
+    stage.draft = Some(OpenListing {
         crawls,
         second,
         rows: Vec::new(alloc),
@@ -95,7 +95,7 @@ fn begin(alloc: Global, stage: &mut Stage, crawls: bool, second: i64) -> bool
 fn step_inside(
     alloc: Global,
     stage: &mut Stage,
-    mut draft: Draft,
+    mut draft: OpenListing,
     line: Line<'_>,
 ) -> Result<bool, StepFault>
     requires { stage.old.draft ≡ None }
@@ -128,7 +128,7 @@ fn seen(alloc: Global, row: RowLine<'_>) -> Result<Seen, AllocError>
 }
 
 /// Ends a listing: `/r` lists it from now on, and is crawled or not.
-fn end_listing(alloc: Global, stage: &mut Stage, draft: Draft) -> Result<bool, StepFault>
+fn end_listing(alloc: Global, stage: &mut Stage, draft: OpenListing) -> Result<bool, StepFault>
     requires { stage.old.draft ≡ None }
     ensures { (at : StageData) → Stands at.world stage.old.world → at.next ≡ stage.old.next
         → (known : Option (List ℕ))
@@ -175,7 +175,7 @@ fn ask_of(alloc: Global, line: &[u8]) -> Ask
     }
     match Vec::from_slice(alloc, line) {
         Ok(bytes) => Ask::read(alloc, Event::Line(Table::from_vec(bytes))),
-        Err(_) => Ask::Alone(LoneAsk::Refused(Refusal::NoMemory)),
+        Err(_) => Ask::Alone(LoneAsk::UnseenRoot(Refusal::NoMemory)),
     }
 }
 

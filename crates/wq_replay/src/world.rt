@@ -21,14 +21,14 @@ use crate::clients;
 use crate::happening::Happening;
 use crate::launcher::MemoryLauncher;
 use crate::runs::RunSet;
-use crate::sent::{Sent, Told};
+use crate::sent::{Sent, SentLines};
 use crate::start_line::lines_about;
 use std::alloc::{AllocError, Global};
 use std::mem;
 use wq_ask::{Ask, Out};
 use wq_base::{Table, Text};
 use wq_clock::Run;
-use wq_crawl::{CrawlFault, Place, Refused, TableViews, place_for};
+use wq_crawl::{CrawlFault, Place, TableViews, UnseenRoot, place_for};
 use wq_follow::Trigger;
 use wq_live::RootTable;
 use wq_registry::{Cache, Shelf};
@@ -148,11 +148,11 @@ impl World {
             }
             Happening::Asked { client, ask } => {
                 let out = self.answer(alloc, client, ask)?;
-                Ok(Some(Sent::ToClient(Told { client, out })))
+                Ok(Some(Sent::ToClient(SentLines { client, out })))
             }
             Happening::Idle { client, root } => {
                 let out = self.rest(alloc, client, root)?;
-                Ok(Some(Sent::ToClient(Told { client, out })))
+                Ok(Some(Sent::ToClient(SentLines { client, out })))
             }
             Happening::Round { root, answers } => {
                 let lines = self.round(alloc, &root, answers)?;
@@ -174,7 +174,7 @@ impl World {
         match seen {
             Ok(pass) => self.pass(root, pass),
             Err(fault) => {
-                self.views.refused = Some(Refused { root, fault });
+                self.views.refused = Some(UnseenRoot { root, fault });
                 Ok(())
             }
         }
@@ -197,7 +197,7 @@ impl World {
             }
             Err(ViewFault::TicksSpent) => {
                 let fault = CrawlFault::TicksSpent;
-                self.views.refused = Some(Refused { root, fault });
+                self.views.refused = Some(UnseenRoot { root, fault });
                 Ok(())
             }
             Err(ViewFault::NoMemory) => Err(AllocError),
@@ -217,7 +217,7 @@ impl World {
             }
             Place::Full => {
                 let fault = CrawlFault::TooManyRoots;
-                self.views.refused = Some(Refused { root, fault });
+                self.views.refused = Some(UnseenRoot { root, fault });
                 Ok(())
             }
             Place::Free => self.start(root, seen),
@@ -235,7 +235,7 @@ impl World {
         match seen {
             Ok(pass) => self.start_with(root, pass),
             Err(fault) => {
-                self.views.refused = Some(Refused { root, fault });
+                self.views.refused = Some(UnseenRoot { root, fault });
                 Ok(())
             }
         }

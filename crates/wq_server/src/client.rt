@@ -7,7 +7,7 @@ use crate::recipient::{Recipient, ReplyWriter};
 use crate::refusal::refuse;
 use crate::server::Server;
 use crate::stream_reader::read_all;
-use crate::turnstile::Pass;
+use crate::turnstile::Ticket;
 use std::alloc::Global;
 use std::os::unix::net::UnixStream;
 use std::sync::{Arc, Wait};
@@ -78,21 +78,21 @@ where
         refuse(&mut stream, Refusal::NoMemory);
         return false;
     };
-    let pass = Pass::new(&rt, &server.turnstile);
+    let ticket = Ticket::new(&rt, &server.turnstile);
     let mut inbox = LinkInbox {
         link: theirs,
         rt,
-        pass: &pass,
+        ticket: &ticket,
     };
     let client = Recipient {
         stream,
-        pass: &pass,
+        ticket: &ticket,
     };
     let mut writer = ReplyWriter {
         stream,
-        pass: &pass,
+        ticket: &ticket,
     };
     let has_asked = server.host.serve(&rt, &client, &mut inbox, &mut writer);
-    pass.leave();
+    ticket.leave();
     has_asked
 }

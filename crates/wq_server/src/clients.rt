@@ -23,7 +23,7 @@ const PATIENCE: u64 = 60;
 
 /// A client, and the thread of its session.
 #[derive(Drop)]
-struct Client {
+struct ConnectedClient {
     link: Arc<Link>,
     session: JoinHandle<()>,
 }
@@ -31,7 +31,7 @@ struct Client {
 /// The clients that are connected, at most [`MAX_SESSIONS`].
 #[derive(Drop)]
 pub(crate) struct Clients {
-    clients: Vec<Client>,
+    clients: Vec<ConnectedClient>,
 }
 
 impl Clients {
@@ -91,13 +91,18 @@ impl Clients {
 }
 
 /// Ends a client's session, if it still runs, and waits until it has ended.
-fn end<R: Threads + Wait>(rt: &R, client: Client) {
+fn end<R: Threads + Wait>(rt: &R, client: ConnectedClient) {
     client.link.end(rt);
     client.session.join(rt);
 }
 
 /// Begins the session of a client. If no memory or no thread is left for it, the client is told so.
-fn begin<R, H>(rt: R, alloc: Global, stream: UnixStream, server: &Arc<Server<H>>) -> Option<Client>
+fn begin<R, H>(
+    rt: R,
+    alloc: Global,
+    stream: UnixStream,
+    server: &Arc<Server<H>>,
+) -> Option<ConnectedClient>
 where
     R: Threads + Wait + Clock + Copy + Drop + Send + Sync + 'static,
     H: Host + Drop + Send + Sync + 'static,
@@ -127,7 +132,7 @@ fn start_session<R, H>(
     alloc: Global,
     stream: UnixStream,
     server: &Arc<Server<H>>,
-) -> Result<Client, AllocError>
+) -> Result<ConnectedClient, AllocError>
 where
     R: Threads + Wait + Clock + Copy + Drop + Send + Sync + 'static,
     H: Host + Drop + Send + Sync + 'static,
@@ -143,7 +148,7 @@ where
         link.set_over(&rt);
         server.links.forget_over(&rt);
     }
-    Ok(Client {
+    Ok(ConnectedClient {
         link,
         session: session?,
     })

@@ -1,13 +1,13 @@
 //! A thread that does the tasks of rounds, and how it is given one.
 
 use crate::task::Task;
-use crate::timing::Took;
+use crate::times::Took;
 use std::sync::{Condvar, Mutex, Wait};
 use std::time::{Clock, Duration};
 
 /// The state of a thread that does tasks.
 #[derive(Clone, Copy, Drop)]
-enum State {
+enum HandState {
     /// It waits for a task.
     Idle,
     /// It was given this task, and has not done it yet.
@@ -21,7 +21,7 @@ enum State {
 /// A thread that does tasks, one after the other. The thread and the one that gives tasks share this.
 #[derive(Drop)]
 pub(crate) struct Hand {
-    state: Mutex<State>,
+    state: Mutex<HandState>,
     changed: Condvar,
 }
 
@@ -29,30 +29,30 @@ impl Hand {
     /// A thread that waits for its first task.
     pub(crate) fn new() -> Hand {
         Hand {
-            state: Mutex::new(State::Idle),
+            state: Mutex::new(HandState::Idle),
             changed: Condvar::new(),
         }
     }
 
     /// Gives a task to the thread, which has none.
     pub(crate) fn give<R: Wait>(&self, rt: &R, task: Task) {
-        self.set(rt, State::Given(task));
+        self.set(rt, HandState::Given(task));
     }
 
     /// Has the thread end, when it has done the task that it has.
     pub(crate) fn end<R: Wait>(&self, rt: &R) {
-        self.set(rt, State::Ends);
+        self.set(rt, HandState::Ends);
     }
 
     /// Waits until the thread has done its task, but no longer than this. Returns how long the task took.
     pub(crate) fn wait<R: Wait + Clock>(&self, rt: &R, time: Duration) -> Option<Took> {
         let lock = self.state.lock(rt);
         let (mut state, _) = self.changed.wait_timeout_while(rt, lock, time, |state| {
-            matches!(state, State::Given(_))
+            matches!(state, HandState::Given(_))
         });
         match *state {
-            State::Done(took) => {
-                *state = State::Idle;
+            HandState::Done(took) => {
+                *state = HandState::Idle;
                 Some(took)
             }
             _ => None,
@@ -63,10 +63,10 @@ impl Hand {
     pub(crate) fn next<R: Wait>(&self, rt: &R) -> Option<Task> {
         let lock = self.state.lock(rt);
         let state = self.changed.wait_while(rt, lock, |state| {
-            matches!(state, State::Idle | State::Done(_))
+            matches!(state, HandState::Idle | HandState::Done(_))
         });
         match *state {
-            State::Given(task) => Some(task),
+            HandState::Given(task) => Some(task),
             _ => None,
         }
     }
@@ -74,15 +74,15 @@ impl Hand {
     /// The thread has done its task, which took so long.
     pub(crate) fn finish<R: Wait>(&self, rt: &R, took: Took) {
         let mut state = self.state.lock(rt);
-        if let State::Given(_) = *state {
-            *state = State::Done(took);
+        if let HandState::Given(_) = *state {
+            *state = HandState::Done(took);
         }
         drop(state);
         self.changed.notify_all();
     }
 
     /// Sets the state.
-    fn set<R: Wait>(&self, rt: &R, state: State) {
+    fn set<R: Wait>(&self, rt: &R, state: HandState) {
         *self.state.lock(rt) = state;
         self.changed.notify_all();
     }

@@ -4,7 +4,7 @@
 use crate::hand::Hand;
 use crate::patience::Patience;
 use crate::task::Task;
-use crate::timing::Took;
+use crate::times::Took;
 use std::alloc::{AllocError, Global};
 use std::sync::{Arc, Wait};
 use std::time::{Clock, Duration};

@@ -10,7 +10,7 @@ use std::thread::Threads;
 use std::time::Duration;
 use wq_base::Asker;
 use wq_crawl::Caller;
-use wq_launch::{Run, Runs};
+use wq_launch::{Runs, StartedCommand};
 use wq_stream::Inbox;
 use wq_view::Reach;
 
@@ -62,10 +62,10 @@ pub trait Host {
     fn end_walk(&self);
 
     /// Takes the first command that was started and that nobody attends yet.
-    fn take_run(&self) -> Option<Run>;
+    fn take_run(&self) -> Option<StartedCommand>;
 
     /// Keeps a command that could not be attended, until it is taken again.
-    fn give_back(&self, run: Run);
+    fn give_back(&self, run: StartedCommand);
 
     /// The commands that run.
     fn runs(&self) -> &Arc<Runs>;

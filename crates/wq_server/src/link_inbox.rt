@@ -1,7 +1,7 @@
 //! A session's inbox over the queue of its client.
 
 use crate::link::Link;
-use crate::turnstile::Pass;
+use crate::turnstile::Ticket;
 use std::sync::{Arc, Wait};
 use std::time::Clock;
 use wq_stream::{Event, Inbox};
@@ -12,7 +12,7 @@ use wq_stream::{Event, Inbox};
 pub(crate) struct LinkInbox<'a, R: Wait + Clock + Drop> {
     pub(crate) link: Arc<Link>,
     pub(crate) rt: R,
-    pub(crate) pass: &'a Pass<'a, R>,
+    pub(crate) ticket: &'a Ticket<'a, R>,
 }
 
 impl<R: Wait + Clock + Drop> Inbox for LinkInbox<'_, R> {
@@ -21,7 +21,7 @@ impl<R: Wait + Clock + Drop> Inbox for LinkInbox<'_, R> {
     ghost left = { λ _. None };
 
     fn next(&mut self) -> Event {
-        self.pass.leave();
-        self.pass.take_up(self.link.queue.take(&self.rt))
+        self.ticket.leave();
+        self.ticket.take_up(self.link.queue.take(&self.rt))
     }
 }

@@ -1,6 +1,6 @@
 //! The time that several waits share.
 
-use crate::timing::time_since;
+use crate::times::time_since;
 use std::io;
 use std::time::{Clock, Duration, Instant};
 

@@ -1,6 +1,6 @@
 //! The client that gets the replies of a session.
 
-use crate::turnstile::Pass;
+use crate::turnstile::Ticket;
 use std::io::{self, ErrorKind, Write};
 use std::os::unix::net::UnixStream;
 use std::sync::Wait;
@@ -13,18 +13,18 @@ use wq_crawl::Caller;
 #[derive(Drop)]
 pub(crate) struct Recipient<'a, R: Wait + Clock> {
     pub(crate) stream: &'a UnixStream,
-    pub(crate) pass: &'a Pass<'a, R>,
+    pub(crate) ticket: &'a Ticket<'a, R>,
 }
 
 impl<R: Wait + Clock> Caller for Recipient<'_, R> {
     fn has_read(&self) {
-        self.pass.leave();
+        self.ticket.leave();
     }
 }
 
 impl<R: Wait + Clock> Asker for Recipient<'_, R> {
     fn is_gone(&self) -> bool {
-        self.pass.leave();
+        self.ticket.leave();
         // Nothing is written by that, and it waits for nobody: the system says only whether it would refuse a write.
         let mut stream = self.stream;
         match stream.write(&[]) {
@@ -38,12 +38,12 @@ impl<R: Wait + Clock> Asker for Recipient<'_, R> {
 #[derive(Drop)]
 pub(crate) struct ReplyWriter<'a, R: Wait + Clock> {
     pub(crate) stream: &'a UnixStream,
-    pub(crate) pass: &'a Pass<'a, R>,
+    pub(crate) ticket: &'a Ticket<'a, R>,
 }
 
 impl<R: Wait + Clock> Write for ReplyWriter<'_, R> {
     fn write(&mut self, bytes: &[u8]) -> io::Result<usize> {
-        self.pass.leave();
+        self.ticket.leave();
         self.stream.write(bytes)
     }
 

@@ -2,8 +2,8 @@
 
 use crate::host::Host;
 use crate::server::Server;
-use crate::timing::Took;
-use crate::walks::Look;
+use crate::times::Took;
+use crate::walks::DueGlance;
 use std::time::CpuClock;
 
 /// A task of a round.
@@ -12,7 +12,7 @@ pub(crate) enum Task {
     /// A crawl of the root of this number.
     Crawl(u64),
     /// A glance.
-    Glance(Look),
+    Glance(DueGlance),
 }
 
 impl Task {

@@ -3,7 +3,7 @@
 ghost use Rattle.std.specs.Prelude.{◌≡◌};
 
 use crate::lines::{left_out_line, slow_line};
-use crate::timing::time_since;
+use crate::times::time_since;
 use std::alloc::Global;
 use std::io;
 use std::sync::Arc;
@@ -18,7 +18,7 @@ const LONG: u64 = 60;
 
 /// The number of files that the last listing of a root left out.
 #[derive(Drop)]
-struct Known {
+struct LeftOut {
     root: String,
     left_out: LeftOut,
 }
@@ -36,7 +36,7 @@ where
     tree: T,
     notices: Arc<O>,
     /// The roots of which the operator was told what they leave out.
-    known: Vec<Known>,
+    known: Vec<LeftOut>,
 }
 
 impl<R, T, O> ToldTree<R, T, O>
@@ -94,7 +94,7 @@ where
         }
         if self
             .known
-            .push(Known {
+            .push(LeftOut {
                 root: text,
                 left_out,
             })

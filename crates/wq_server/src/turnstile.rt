@@ -70,18 +70,18 @@ impl Turnstile {
     }
 }
 
-/// A session's pass for the turnstile.
+/// A session's ticket for the turnstile.
 #[derive(Drop)]
-pub(crate) struct Pass<'a, R: Wait + Clock> {
+pub(crate) struct Ticket<'a, R: Wait + Clock> {
     rt: &'a R,
     turnstile: &'a Turnstile,
     is_inside: AtomicBool,
 }
 
-impl<'a, R: Wait + Clock> Pass<'a, R> {
-    /// The pass of a session that is outside.
-    pub(crate) fn new(rt: &'a R, turnstile: &'a Turnstile) -> Pass<'a, R> {
-        Pass {
+impl<'a, R: Wait + Clock> Ticket<'a, R> {
+    /// The ticket of a session that is outside.
+    pub(crate) fn new(rt: &'a R, turnstile: &'a Turnstile) -> Ticket<'a, R> {
+        Ticket {
             rt,
             turnstile,
             is_inside: AtomicBool::new(false),

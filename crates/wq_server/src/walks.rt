@@ -2,14 +2,14 @@
 //! follows which roots are due.
 
 use crate::pace::Pace;
-use crate::timing::Took;
+use crate::times::Took;
 use std::alloc::{AllocError, Global};
 use std::time::{Clock, Duration, Instant};
 use wq_view::Reach;
 
 /// The last walk of a root.
 #[derive(Drop)]
-struct Walked {
+struct LastWalk {
     number: u64,
     took: Took,
     /// When it ended, if the clock could be read.
@@ -90,7 +90,7 @@ impl Glances {
 
 /// A glance for which it is time.
 #[derive(Clone, Copy, Drop)]
-pub(crate) struct Look {
+pub(crate) struct DueGlance {
     /// The number of the root.
     pub(crate) number: u64,
     pub(crate) reach: Reach,
@@ -98,14 +98,14 @@ pub(crate) struct Look {
 
 /// A root that is due.
 #[derive(Clone, Copy, Drop)]
-pub(crate) struct Turn {
+pub(crate) struct DueRoot {
     /// The number of the root.
     pub(crate) number: u64,
     /// How long its last walk took. It is no time if there was none.
     took: Took,
 }
 
-impl Turn {
+impl DueRoot {
     /// Whether the root's last walk was long.
     pub(crate) fn is_long(&self) -> bool {
         self.took.is_long()
@@ -114,15 +114,15 @@ impl Turn {
 
 /// The last walk of each root that is shown.
 #[derive(Drop)]
-pub(crate) struct Walks {
+pub(crate) struct LastWalks {
     alloc: Global,
-    walks: Vec<Walked>,
+    walks: Vec<LastWalk>,
 }
 
-impl Walks {
+impl LastWalks {
     /// No walk yet.
-    pub(crate) fn new(alloc: Global) -> Walks {
-        Walks {
+    pub(crate) fn new(alloc: Global) -> LastWalks {
+        LastWalks {
             alloc,
             walks: Vec::new(alloc),
         }
@@ -139,7 +139,7 @@ impl Walks {
         let ended = Instant::now(rt).ok();
         let glances = self.glances_of(number).after_walk(ended);
         self.walks.retain(|it| it.number != number);
-        let _ = self.walks.push(Walked {
+        let _ = self.walks.push(LastWalk {
             number,
             took,
             ended,
@@ -148,7 +148,7 @@ impl Walks {
     }
 
     /// Keeps a glance that just ended, and took so much processor time.
-    pub(crate) fn add_glance<R: Clock>(&mut self, rt: &R, look: Look, work: Duration) {
+    pub(crate) fn add_glance<R: Clock>(&mut self, rt: &R, look: DueGlance, work: Duration) {
         let ended = Instant::now(rt).ok();
         if let Some(walk) = self.walks.iter_mut().find(|it| it.number == look.number) {
             walk.glances = walk.glances.with(look.reach, work, ended);
@@ -162,8 +162,8 @@ impl Walks {
         rt: &R,
         pace: &Pace,
         shown: &[u64],
-        due: &[Turn],
-    ) -> Result<Vec<Look>, AllocError> {
+        due: &[DueRoot],
+    ) -> Result<Vec<DueGlance>, AllocError> {
         let mut looks = Vec::new(self.alloc);
         for number in shown {
             if self.walk_of(*number).is_none() || due.iter().any(|turn| turn.number == *number) {
@@ -171,7 +171,7 @@ impl Walks {
             }
             let glances = self.glances_of(*number);
             if let Some(reach) = reach_now(rt, pace, shown.len(), &glances) {
-                looks.push(Look {
+                looks.push(DueGlance {
                     number: *number,
                     reach,
                 })?;
@@ -192,12 +192,12 @@ impl Walks {
         rt: &R,
         pace: &Pace,
         shown: &[u64],
-    ) -> Result<Vec<Turn>, AllocError> {
+    ) -> Result<Vec<DueRoot>, AllocError> {
         let pauses = self.pauses(pace, shown)?;
         let mut turns = Vec::with_capacity(self.alloc, shown.len())?;
         for (number, pause) in shown.iter().zip(&pauses) {
             if self.is_due(rt, *number, *pause) {
-                turns.push(Turn {
+                turns.push(DueRoot {
                     number: *number,
                     took: self.last_of(*number),
                 })?;
@@ -261,7 +261,7 @@ impl Walks {
     }
 
     /// The last walk of a root.
-    fn walk_of(&self, number: u64) -> Option<&Walked> {
+    fn walk_of(&self, number: u64) -> Option<&LastWalk> {
         self.walks.iter().find(|it| it.number == number)
     }
 }

@@ -10,7 +10,7 @@ use wq_ask::{Ask, ReplyLine};
 use wq_base::{Table, Text};
 use wq_clock::Run;
 use wq_crawl::CrawlFault;
-use wq_replay::{Happening, Sent, Told, World};
+use wq_replay::{Happening, Sent, SentLines, World};
 use wq_stream::Event;
 use wq_view::Pass;
 
@@ -158,7 +158,7 @@ fn shown(alloc: Global, sent: &[Sent]) -> Result<Vec<u8>, AllocError> {
 
 /// For the reply and for each list: the client's number, a space, the text and a newline. Before a reply that ends the
 /// server there is a `!`.
-fn show_told(told: &Told, written: &mut Vec<u8>) -> Result<(), AllocError> {
+fn show_told(told: &SentLines, written: &mut Vec<u8>) -> Result<(), AllocError> {
     if told.out().shuts() {
         written.push(b'!')?;
     }

@@ -11,14 +11,14 @@ use wq_daemon::MORE_LANES;
 use wq_walk::{FileDisk, Walker};
 
 /// A lane over the disk of this machine. All lanes share its clock.
-type Lane<R> = LaneParts<Walker<R, FileDisk>, SharedSeconds<R, MachineClock<R>>>;
+type DiskLane<R> = LaneParts<Walker<R, FileDisk>, SharedSeconds<R, MachineClock<R>>>;
 
 /// The lanes in which roots are crawled at the same time: the first, and the others. So many threads walk a tree.
 pub(crate) fn lanes<R>(
     files: &HostRuntime,
     rt: R,
     walkers: Workers,
-) -> Result<(Lane<R>, Vec<Lane<R>>), AllocError>
+) -> Result<(DiskLane<R>, Vec<DiskLane<R>>), AllocError>
 where
     R: Threads + Wait + Clock + CpuClock + Copy + Drop,
 {
@@ -41,7 +41,7 @@ fn lane<R>(
     walkers: Workers,
     clock: &Arc<Mutex<MachineClock<R>>>,
     is_taken: &Arc<AtomicBool>,
-) -> Result<Lane<R>, AllocError>
+) -> Result<DiskLane<R>, AllocError>
 where
     R: Threads + Wait + Clock + CpuClock + Copy + Drop,
 {

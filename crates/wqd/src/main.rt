@@ -14,7 +14,7 @@ use std::env;
 use std::fs::File;
 use std::io::{self, BufReader, BufWriter, ErrorKind, Read, Write};
 use std::process::ExitCode;
-use wq_command_line::{CommandLineFault, Task, task_of};
+use wq_command_line::{Action, CommandLineFault, task_of};
 use wq_launch::System;
 use wq_replay::{ReplayFault, replay};
 use wq_verify::{FAULT, MAX_FILE, check};
@@ -24,9 +24,9 @@ const WRONG_COMMAND_LINE: u8 = 2;
 
 fn main(rt: HostRuntime) -> ExitCode {
     match task(&rt) {
-        Ok(Task::Replay) => replay_status(&rt, replay_script(&rt)),
-        Ok(Task::Check(path)) => ExitCode::from(check_file(&rt, &path)),
-        Ok(Task::Serve(settings)) => {
+        Ok(Action::Replay) => replay_status(&rt, replay_script(&rt)),
+        Ok(Action::Check(path)) => ExitCode::from(check_file(&rt, &path)),
+        Ok(Action::Serve(settings)) => {
             let Ok((first, more)) = lanes(&rt, rt, settings.walkers) else {
                 return cannot_listen(&rt);
             };
@@ -47,7 +47,7 @@ fn main(rt: HostRuntime) -> ExitCode {
 }
 
 /// The task that the command line asks for, if its words are in UTF-8 and ask for a task.
-fn task(rt: &HostRuntime) -> Result<Task, CommandLineFault> {
+fn task(rt: &HostRuntime) -> Result<Action, CommandLineFault> {
     let alloc = rt.alloc();
     let mut words = Vec::new(alloc);
     match env::args(rt) {

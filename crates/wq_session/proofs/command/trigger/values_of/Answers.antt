@@ -13,7 +13,7 @@ use Rattle.wq_session.proofs.command.trigger.values_of.Goals as goal
 pub loop-object-preserved : goal.loop-object-preserved
 loop-object-preserved c =
     let there : slice_get c.args.objects.now c.loop-object.object-index ≡ Some c.object-item.result =
-      slice_get_read c.args.objects.now (length c.args.objects.now) c.loop-object.object-index c.object-item.result refl c.loop-object-test.true c.object-item.is in
+    slice_get_read c.args.objects.now (length c.args.objects.now) c.loop-object.object-index c.object-item.result refl c.loop-object-test.true c.object-item.is in
     let same : data_of c.in_ok-read.field-0 ≡ data_in (c.object-item.result).value = search rules in
     let plain : has_float (data_of c.in_ok-read.field-0) ≡ false = search rules in
     subst (AreObjects (objects_in (take (c.loop-object.object-index + 1) c.args.objects.now))) (sym c.in_ok-push.ensures.items)

@@ -2,9 +2,9 @@
 ghost use Rattle.std.specs.Prelude.{◌≡◌, ◌≤◌, ◌&&◌, ◌||◌, IfOk, OnErr, []};
 ghost use Rattle.std.specs.Prelude.{string_bytes, vec_capacity, vec_len};
 ghost use Rattle.std.specs.Str.{bytes_eq};
-ghost use Rattle.wq_launch.specs.Failing.{TellsFirst, after_failure, after_success, is_known};
-ghost use Rattle.wq_launch.specs.Failing.{is_start_of, failure_line, quoted, with_failure};
-ghost use Rattle.wq_launch.specs.Failing.{without_failure};
+ghost use Rattle.wq_launch.specs.FailingStarts.{TellsFirst, after_failure, after_success, is_known};
+ghost use Rattle.wq_launch.specs.FailingStarts.{is_start_of, failure_line, quoted, with_failure};
+ghost use Rattle.wq_launch.specs.FailingStarts.{without_failure};
 ghost use Rattle.wq_launch.specs.Limit.{max_failing};
 
 use crate::words::Words;
@@ -54,7 +54,7 @@ impl FailedStart {
 }
 
 /// A text as a JSON string.
-#[tactic(auto, unfolding(crate::specs::Failing::quoted))]
+#[tactic(auto, unfolding(crate::specs::FailingStarts::quoted))]
 pub(crate) fn quoted(alloc: Global, text: &str) -> Result<String, AllocError>
     ensures { IfOk result (λ s. string_bytes s ≡ quoted text.now) }
 {
@@ -64,14 +64,14 @@ pub(crate) fn quoted(alloc: Global, text: &str) -> Result<String, AllocError>
 /// The starts that fail: at most [`MAX_FAILING`] of which the operator was told, and as many of which
 /// he was not told yet.
 #[derive(Drop)]
-pub(crate) struct Failing {
+pub(crate) struct FailingStarts {
     told: Vec<FailedStart>,
     untold: Vec<FailedStart>,
 }
 
-impl Model for Failing {
+impl Model for FailingStarts {
     ghost use Rattle.std.specs.Prelude.{◌≤◌, vec_capacity, vec_len};
-    ghost use Rattle.wq_launch.specs.Failing.{FailingData};
+    ghost use Rattle.wq_launch.specs.FailingStarts.{FailingData};
     ghost use Rattle.wq_launch.specs.Limit.{max_failing};
 
     ghost Value = { FailingData };
@@ -82,12 +82,12 @@ impl Model for Failing {
         × (vec_len f.untold ≤ max_failing) × (max_failing ≤ vec_capacity f.untold) };
 }
 
-impl Failing {
+impl FailingStarts {
     /// No start fails. All memory that it ever needs is taken now.
-    pub(crate) fn new(alloc: Global) -> Result<Failing, AllocError>
+    pub(crate) fn new(alloc: Global) -> Result<FailingStarts, AllocError>
         ensures { IfOk result (λ f. f ≡ record { told = []; untold = [] }) }
     {
-        Ok(Failing {
+        Ok(FailingStarts {
             told: Vec::with_capacity(alloc, MAX_FAILING)?,
             untold: Vec::with_capacity(alloc, MAX_FAILING)?,
         })

@@ -13,14 +13,14 @@ struct Failed {
 
 /// Roots that could not be crawled.
 #[derive(Drop)]
-pub(crate) struct Failing {
+pub(crate) struct FailingRoots {
     failed: Vec<Failed>,
 }
 
-impl Failing {
+impl FailingRoots {
     /// No roots. This takes no memory.
-    pub(crate) fn new(alloc: Global) -> Failing {
-        Failing {
+    pub(crate) fn new(alloc: Global) -> FailingRoots {
+        FailingRoots {
             failed: Vec::new(alloc),
         }
     }

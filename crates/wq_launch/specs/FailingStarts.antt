@@ -6,7 +6,7 @@ use Rattle.std.specs.Str.{bytes_eq}
 use Rattle.serde_json.specs.Data.{string}
 use Rattle.serde_json.specs.Written.{compact_text}
 use Rattle.wq_launch.specs.Limit.{max_failing}
-use Rattle.wq_launch.specs.declared.failing.FailedStart.{FailedStart}
+use Rattle.wq_launch.specs.declared.failures.FailedStart.{FailedStart}
 
 -- the failing starts of which the operator was told, and those of which he was not told yet
 pub record FailingData : Type 0 where

@@ -6,8 +6,8 @@ use crate::hands::Hands;
 use crate::host::Host;
 use crate::server::Server;
 use crate::task::Task;
-use crate::timing::Took;
-use crate::walks::{Turn, Walks};
+use crate::times::Took;
+use crate::walks::{DueRoot, LastWalks};
 use std::alloc::Global;
 use std::sync::{Arc, Wait};
 use std::thread::{self, Threads};
@@ -33,7 +33,7 @@ where
         alloc,
         server,
         notices,
-        walks: Walks::new(alloc),
+        walks: LastWalks::new(alloc),
         hands: Hands::new(alloc),
     };
     // If no thread can be made yet, the first task has one made.
@@ -58,7 +58,7 @@ struct Crawling<'a, R, H: Host + Drop, O> {
     alloc: Global,
     server: &'a Arc<Server<H>>,
     notices: &'a Arc<O>,
-    walks: Walks,
+    walks: LastWalks,
     hands: Hands,
 }
 
@@ -109,7 +109,7 @@ where
     }
 
     /// Glances at the roots that are not due, so that changes there are listed soon.
-    fn glance_between(&mut self, shown: &[u64], due: &[Turn]) {
+    fn glance_between(&mut self, shown: &[u64], due: &[DueRoot]) {
         let (rt, server) = (self.rt, self.server);
         // If memory runs out for the roots, there are glances in the next round.
         let Ok(looks) = self.walks.to_glance(&rt, &server.pace, shown, due) else {

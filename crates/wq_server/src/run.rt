@@ -2,7 +2,7 @@
 //! end.
 
 use crate::clients::Clients;
-use crate::crawling::crawl_always;
+use crate::crawls::crawl_always;
 use crate::host::Host;
 use crate::latch::Latch;
 use crate::links::Links;

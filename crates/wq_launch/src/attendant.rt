@@ -3,9 +3,9 @@
 //! is lost if no thread can be made.
 ghost use Rattle.std.specs.Prelude.{◌≡◌, IfSome};
 
-use crate::failing::quoted;
+use crate::failures::quoted;
 use crate::notices::Notices;
-use crate::run::Run;
+use crate::run::StartedCommand;
 use crate::runs::Runs;
 use std::alloc::{AllocError, Global};
 use std::io::Write;
@@ -18,7 +18,7 @@ use std::thread::{self, Threads};
 /// The place from which a thread takes its command.
 #[derive(Drop)]
 struct Post {
-    run: Mutex<Option<Run>>,
+    run: Mutex<Option<StartedCommand>>,
     changed: Condvar,
 }
 
@@ -32,13 +32,13 @@ impl Post {
     }
 
     /// Hands a command over.
-    fn put<R: Wait>(&self, rt: &R, run: Run) {
+    fn put<R: Wait>(&self, rt: &R, run: StartedCommand) {
         *self.run.lock(rt) = Some(run);
         self.changed.notify_all();
     }
 
     /// Waits for the command, and takes it.
-    fn take<R: Wait>(&self, rt: &R) -> Option<Run> {
+    fn take<R: Wait>(&self, rt: &R) -> Option<StartedCommand> {
         let lock = self.run.lock(rt);
         let mut run = self.changed.wait_while(rt, lock, |it| it.is_none());
         mem::replace(&mut *run, None)
@@ -56,8 +56,8 @@ pub fn attend<R, O>(
     alloc: Global,
     runs: &Arc<Runs>,
     notices: &Arc<O>,
-    run: Run,
-) -> Option<Run>
+    run: StartedCommand,
+) -> Option<StartedCommand>
 where
     R: Threads + Wait + Copy + Drop + Send + Sync + 'static,
     O: Notices + Drop + Send + Sync + 'static,
@@ -104,8 +104,8 @@ fn see_through<R: Wait, O: Notices>(rt: &R, alloc: Global, post: &Post, runs: &R
 
 /// Writes the input of a command, as far as it takes it, and waits for its end. Gives a line if it
 /// failed.
-fn wait_for<R: Wait>(rt: &R, alloc: Global, runs: &Runs, run: Run) -> Option<String> {
-    let Run {
+fn wait_for<R: Wait>(rt: &R, alloc: Global, runs: &Runs, run: StartedCommand) -> Option<String> {
+    let StartedCommand {
         number: _,
         mut child,
         input,
