@@ -16,9 +16,9 @@ use wq_view::{Recent, Seen, View};
 /// The server tells its operator of a listing that took this many seconds.
 const LONG: u64 = 60;
 
-/// The number of files that the last listing of a root left out.
+/// A root, and what the operator was told that its last listing left out.
 #[derive(Drop)]
-struct LeftOut {
+struct ToldRoot {
     root: String,
     left_out: LeftOut,
 }
@@ -36,7 +36,7 @@ where
     tree: T,
     notices: Arc<O>,
     /// The roots of which the operator was told what they leave out.
-    known: Vec<LeftOut>,
+    known: Vec<ToldRoot>,
 }
 
 impl<R, T, O> ToldTree<R, T, O>
@@ -94,7 +94,7 @@ where
         }
         if self
             .known
-            .push(LeftOut {
+            .push(ToldRoot {
                 root: text,
                 left_out,
             })

@@ -23,7 +23,7 @@ const TURNS: u64 = 1_000_000_000;
 
 /// A client that waits with its second line until another client got its first reply.
 #[derive(Drop)]
-struct Meeting<'a> {
+struct WaitingClient<'a> {
     lines: &'static [u8],
     /// More than 0 from the first reply of this client on.
     told: &'a AtomicU64,
@@ -35,14 +35,14 @@ struct Meeting<'a> {
 
 /// The lines of a client. The second one comes when the other client got its first reply.
 #[derive(Drop)]
-struct Holding<'a> {
+struct HeldLines<'a> {
     events: MemoryInbox,
     taken: u64,
     other: &'a AtomicU64,
     late: &'a AtomicU64,
 }
 
-impl Inbox for Holding<'_> {
+impl Inbox for HeldLines<'_> {
     ghost use Rattle.std.specs.Prelude.{None};
 
     ghost left = { λ _. None };
@@ -68,12 +68,12 @@ fn comes(count: &AtomicU64) -> bool {
 
 /// A writer that tells of the first reply.
 #[derive(Drop)]
-struct Telling<'a> {
+struct FirstReplyWriter<'a> {
     bytes: Vec<u8>,
     told: &'a AtomicU64,
 }
 
-impl Write for Telling<'_> {
+impl Write for FirstReplyWriter<'_> {
     fn write(&mut self, bytes: &[u8]) -> io::Result<usize> {
         let count = self.bytes.write(bytes)?;
         if self.bytes.contains(&b'\n') {
@@ -121,21 +121,28 @@ fn talk_meeting<R: Threads + Wait + Copy + Drop + Sync>(
     rt: R,
     alloc: Global,
     shelf: Arc<Mutex<SharedShelf>>,
-    client: &Meeting<'_>,
+    client: &WaitingClient<'_>,
 ) -> Option<Vec<u8>> {
     let events = VecDeque::from(Splitter::new(alloc).feed(client.lines).ok()?);
-    let mut inbox = Holding {
+    let mut inbox = HeldLines {
         events: MemoryInbox::new(events),
         taken: 0,
         other: client.other,
         late: client.late,
     };
-    let mut writer = Telling {
+    let mut writer = FirstReplyWriter {
         bytes: Vec::new(alloc),
         told: client.told,
     };
     let blank = Blank::new(alloc, &rt, 1).ok()?;
-    talk::<Brand, R, Holding<'_>, Telling<'_>>(rt, alloc, blank, shelf, &mut inbox, &mut writer)?;
+    talk::<Brand, R, HeldLines<'_>, FirstReplyWriter<'_>>(
+        rt,
+        alloc,
+        blank,
+        shelf,
+        &mut inbox,
+        &mut writer,
+    )?;
     Some(writer.bytes)
 }
 
@@ -147,13 +154,13 @@ fn talk_at_once<R: Threads + Wait + Copy + Drop + Sync>(
     let shelf = shared_shelf(alloc)?;
     let (first, second, late) = (AtomicU64::new(0), AtomicU64::new(0), AtomicU64::new(0));
     let clients = (
-        Meeting {
+        WaitingClient {
             lines: ADDS_YES,
             told: &first,
             other: &second,
             late: &late,
         },
-        Meeting {
+        WaitingClient {
             lines: ADDS_NO,
             told: &second,
             other: &first,

@@ -62,12 +62,12 @@ impl<N: Named, R: Wait + Drop> Roots<N> for Publishing<'_, N, R> {
 
 /// A desk that publishes twice before it holds the shelf, also if it is to find a program or to keep one.
 #[derive(Drop)]
-struct Holding<'a, N: Named, R: Wait + Drop> {
+struct PublishingDesk<'a, N: Named, R: Wait + Drop> {
     desk: LockDesk<R>,
     roots: LockRoots<'a, N, R, Turning, Still, Stays>,
 }
 
-impl<N: Named, R: Wait + Drop> Desk for Holding<'_, N, R> {
+impl<N: Named, R: Wait + Drop> Desk for PublishingDesk<'_, N, R> {
     ghost use Rattle.std.specs.Prelude.{None};
 
     ghost shelf = { λ _. None };
@@ -95,12 +95,12 @@ impl<N: Named, R: Wait + Drop> Desk for Holding<'_, N, R> {
 
 /// A writer that publishes twice before each write.
 #[derive(Drop)]
-struct Telling<'a, N: Named, R: Wait + Drop> {
+struct PublishingWriter<'a, N: Named, R: Wait + Drop> {
     bytes: Vec<u8>,
     roots: LockRoots<'a, N, R, Turning, Still, Stays>,
 }
 
-impl<N: Named, R: Wait + Drop> Write for Telling<'_, N, R> {
+impl<N: Named, R: Wait + Drop> Write for PublishingWriter<'_, N, R> {
     fn write(&mut self, bytes: &[u8]) -> io::Result<usize> {
         publish_twice(&mut self.roots);
         self.bytes.write(bytes)
@@ -138,11 +138,11 @@ fn talk<N: Named, R: Threads + Wait + Copy + Drop + Sync>(
     let caller = Stays {};
     let workers = Workers { count: 1 };
     let mut inbox = MemoryInbox::new(VecDeque::from(Splitter::new(alloc).feed(lines).ok()?));
-    let mut writer = Telling {
+    let mut writer = PublishingWriter {
         bytes: Vec::new(alloc),
         roots: LockRoots::new(&caller, Arc::try_clone(&crawler).ok()?, rt, workers),
     };
-    let mut desk = Holding {
+    let mut desk = PublishingDesk {
         desk: LockDesk::new(shared_shelf(alloc)?, rt),
         roots: LockRoots::new(&caller, Arc::try_clone(&crawler).ok()?, rt, workers),
     };

@@ -13,14 +13,14 @@ use wq_serve::SharedShelf;
 use wq_view::{Kind, Seen, SharedBytes, is_valid_name};
 
 /// The names of the files of a tree.
-pub(crate) type Names = &'static [&'static [u8]];
+pub(crate) type ServedNames = &'static [&'static [u8]];
 
 /// A tree in which each root has these files at one listing, and the others at the next.
 #[derive(Drop)]
 pub(crate) struct Turning {
     pub(crate) alloc: Global,
-    pub(crate) names: Names,
-    pub(crate) others: Names,
+    pub(crate) names: ServedNames,
+    pub(crate) others: ServedNames,
 }
 
 impl Tree for Turning {
@@ -38,17 +38,17 @@ impl Tree for Turning {
     }
 }
 
-/// Rows that a tree may give.
+/// TreeRows that a tree may give.
 #[derive(Drop)]
-struct Rows {
+struct TreeRows {
     rows: Vec<Seen>,
     ghost lawful: { IsTrue (list_all is_lawful_row rows.items) },
 }
 
-impl Rows {
+impl TreeRows {
     /// No rows yet, with room for so many.
-    fn with_room(alloc: Global, room: usize) -> Result<Rows, AllocError> {
-        Ok(Rows {
+    fn with_room(alloc: Global, room: usize) -> Result<TreeRows, AllocError> {
+        Ok(TreeRows {
             rows: Vec::with_capacity(alloc, room)?,
         })
     }
@@ -85,7 +85,7 @@ fn row(alloc: Global, name: &[u8]) -> Result<Seen, AllocError>
 fn rows_of(alloc: Global, names: &[&[u8]]) -> Result<Vec<Seen>, AllocError>
     ensures { IfOk result (λ rows. IsTrue (list_all is_lawful_row rows.items)) }
 {
-    let mut rows = Rows::with_room(alloc, names.len())?;
+    let mut rows = TreeRows::with_room(alloc, names.len())?;
     for name in names {
         if is_valid_name(name) {
             rows.add(row(alloc, name)?)?;

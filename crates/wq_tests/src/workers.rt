@@ -28,12 +28,12 @@ const FIVE: &[&[u8]] = &[b"a", b"b", b"c", b"d", b"e"];
 
 /// A gate that holds the worker of the first piece until the second piece is begun.
 #[derive(Drop)]
-struct Meeting {
+struct FirstPieceGate {
     begun: AtomicU64,
     late: AtomicU64,
 }
 
-impl Gate for Meeting {
+impl Gate for FirstPieceGate {
     fn enter(&self, piece: u32) {
         if piece > 0 {
             self.begun.store(1, Ordering::SeqCst);
@@ -65,7 +65,7 @@ impl Asker for Gone {
 
 /// A view of some files, and the program that says yes to each.
 #[derive(Drop)]
-struct Asked {
+struct Search {
     view: View,
     program: Program,
 }
@@ -82,14 +82,14 @@ fn view_of(alloc: Global, names: &[&[u8]]) -> Option<View> {
 }
 
 /// A view of files of these names, with that program; none if memory ran out.
-fn made(alloc: Global, names: &[&[u8]]) -> Option<Asked> {
+fn made(alloc: Global, names: &[&[u8]]) -> Option<Search> {
     let view = view_of(alloc, names)?;
     let expr = Expr::True;
     if !expr.fits() {
         return None;
     }
     let program = compile(alloc, &expr).ok()?;
-    Some(Asked { view, program })
+    Some(Search { view, program })
 }
 
 /// The generators of a query that has none.
@@ -115,7 +115,7 @@ fn kept<R: Threads + Sync, G: Gate + Sync, A: Asker>(
     requires workers { AreFew workers }
     requires piece { 1 ≤ piece }
 {
-    let Asked { view, program } = made(alloc, names)?;
+    let Search { view, program } = made(alloc, names)?;
     // Only the proof uses the contracts of these calls: each position is one of a record.
     view.len();
     positions_are_there();
@@ -128,7 +128,7 @@ fn kept<R: Threads + Sync, G: Gate + Sync, A: Asker>(
 
 /// The positions of five files in three pieces, of which a worker evaluated only the second one.
 fn collected(alloc: Global) -> Option<Vec<u32>> {
-    let Asked { view, program } = made(alloc, FIVE)?;
+    let Search { view, program } = made(alloc, FIVE)?;
     view.len();
     positions_are_there();
     let positions = candidates(alloc, &Stays {}, &view, &no_generators()).ok()?;
@@ -176,7 +176,7 @@ fn are_kept<R: Threads + Sync>(rt: &R, alloc: Global, workers: u32) -> bool
 
 #[test]
 fn workers_at_once(rt: HostRuntime) {
-    let gate = Meeting {
+    let gate = FirstPieceGate {
         begun: AtomicU64::new(0),
         late: AtomicU64::new(0),
     };

@@ -16,7 +16,7 @@ use wq_view::Pass;
 
 /// Something that happens. A root and a client's line are texts, and the listing of a root is one of the trees below.
 #[derive(Clone, Copy)]
-pub(crate) enum Step {
+pub(crate) enum Happens {
     Crawl(&'static str, Result<usize, CrawlFault>),
     Watch(&'static str, Result<usize, CrawlFault>),
     Line(i64, &'static str),
@@ -64,7 +64,7 @@ fn play(alloc: Global, happenings: Vec<Happening<'_>>) -> Result<Vec<Sent>, Allo
 }
 
 /// The lines that such a world sends in these steps.
-fn played(alloc: Global, steps: &[Step]) -> Result<Vec<Sent>, Fail> {
+fn played(alloc: Global, steps: &[Happens]) -> Result<Vec<Sent>, Fail> {
     let trees = trees(alloc)?;
     let happenings = happenings(alloc, &trees, steps)?;
     Ok(play(alloc, happenings)?)
@@ -73,7 +73,7 @@ fn played(alloc: Global, steps: &[Step]) -> Result<Vec<Sent>, Fail> {
 fn happenings<'a>(
     alloc: Global,
     trees: &'a [Pass],
-    steps: &[Step],
+    steps: &[Happens],
 ) -> Result<Vec<Happening<'a>>, AllocError> {
     let mut happenings = Vec::new(alloc);
     for step in steps {
@@ -85,17 +85,17 @@ fn happenings<'a>(
 fn happening<'a>(
     alloc: Global,
     trees: &'a [Pass],
-    step: Step,
+    step: Happens,
 ) -> Result<Happening<'a>, AllocError> {
     match step {
-        Step::Crawl(root, tree) => crawl(alloc, root, seen(trees, tree)),
-        Step::Watch(root, tree) => watch(alloc, root, seen(trees, tree)),
-        Step::Line(client, line) => Ok(asked(alloc, client, line_event(alloc, line)?)),
-        Step::Long(client) => Ok(asked(alloc, client, Event::Long)),
-        Step::End(client) => Ok(asked(alloc, client, Event::End)),
-        Step::Idle(client, root) => Ok(Happening::Idle { client, root }),
-        Step::Round(root, answers) => round(alloc, root, answers),
-        Step::Ended(run) => Ok(Happening::Ended { run }),
+        Happens::Crawl(root, tree) => crawl(alloc, root, seen(trees, tree)),
+        Happens::Watch(root, tree) => watch(alloc, root, seen(trees, tree)),
+        Happens::Line(client, line) => Ok(asked(alloc, client, line_event(alloc, line)?)),
+        Happens::Long(client) => Ok(asked(alloc, client, Event::Long)),
+        Happens::End(client) => Ok(asked(alloc, client, Event::End)),
+        Happens::Idle(client, root) => Ok(Happening::Idle { client, root }),
+        Happens::Round(root, answers) => round(alloc, root, answers),
+        Happens::Ended(run) => Ok(Happening::Ended { run }),
     }
 }
 
@@ -192,7 +192,7 @@ fn show(client: i64, line: &[u8], written: &mut Vec<u8>) -> Result<(), AllocErro
 pub(crate) fn check(
     rt: &impl Abort,
     alloc: Global,
-    steps: &[Step],
+    steps: &[Happens],
     want: &str,
 ) -> Result<(), Fail> {
     let written = shown(alloc, &played(alloc, steps)?)?;
@@ -208,12 +208,12 @@ fn a_crawl_is_seen_by_each_line_behind_it(rt: HostRuntime) -> Result<(), Fail> {
         &rt,
         rt.alloc(),
         &[
-            Step::Line(1, NAMES_AT_ONCE),
-            Step::Crawl("/r", Ok(A)),
-            Step::Line(1, NAMES),
-            Step::Line(2, NAMES_AT_ONCE),
-            Step::Crawl("/r", Ok(B)),
-            Step::Line(2, NAMES_AT_ONCE),
+            Happens::Line(1, NAMES_AT_ONCE),
+            Happens::Crawl("/r", Ok(A)),
+            Happens::Line(1, NAMES),
+            Happens::Line(2, NAMES_AT_ONCE),
+            Happens::Crawl("/r", Ok(B)),
+            Happens::Line(2, NAMES_AT_ONCE),
         ],
         concat!(
             "1 {\"clock\":\"c:7:9:1:0\",\"files\":[],\"is_fresh_instance\":true,\"version\":\"wq-1\"}\n",
@@ -232,12 +232,12 @@ fn a_refused_crawl_refuses_the_line_behind_it(rt: HostRuntime) -> Result<(), Fai
         &rt,
         rt.alloc(),
         &[
-            Step::Crawl("/r", Ok(A)),
-            Step::Line(1, NAMES),
-            Step::Crawl("/r", Err(CrawlFault::Unreadable)),
-            Step::Line(1, NAMES),
-            Step::Line(1, NAMES_AT_ONCE),
-            Step::Line(1, NAMES),
+            Happens::Crawl("/r", Ok(A)),
+            Happens::Line(1, NAMES),
+            Happens::Crawl("/r", Err(CrawlFault::Unreadable)),
+            Happens::Line(1, NAMES),
+            Happens::Line(1, NAMES_AT_ONCE),
+            Happens::Line(1, NAMES),
         ],
         concat!(
             "1 {\"clock\":\"c:7:9:1:1\",\"files\":[\"a\"],\"is_fresh_instance\":true,\"version\":\"wq-1\"}\n",
@@ -256,13 +256,13 @@ fn a_refused_crawl_refuses_no_other_line(rt: HostRuntime) -> Result<(), Fail> {
         &rt,
         rt.alloc(),
         &[
-            Step::Crawl("/r", Err(CrawlFault::TooManyFiles)),
-            Step::Line(1, NAMES_AT_ONCE),
-            Step::Crawl("/r", Err(CrawlFault::TooManyFiles)),
-            Step::Line(2, r#"["version"]"#),
-            Step::Line(1, NAMES),
-            Step::Crawl("/q", Err(CrawlFault::Unreadable)),
-            Step::Line(1, NAMES),
+            Happens::Crawl("/r", Err(CrawlFault::TooManyFiles)),
+            Happens::Line(1, NAMES_AT_ONCE),
+            Happens::Crawl("/r", Err(CrawlFault::TooManyFiles)),
+            Happens::Line(2, r#"["version"]"#),
+            Happens::Line(1, NAMES),
+            Happens::Crawl("/q", Err(CrawlFault::Unreadable)),
+            Happens::Line(1, NAMES),
         ],
         concat!(
             "1 {\"clock\":\"c:7:9:1:0\",\"files\":[],\"is_fresh_instance\":true,\"version\":\"wq-1\"}\n",
@@ -280,8 +280,8 @@ fn a_line_behind_the_end_of_the_server_is_answered(rt: HostRuntime) -> Result<()
         &rt,
         rt.alloc(),
         &[
-            Step::Line(1, r#"["shutdown-server"]"#),
-            Step::Line(2, r#"["version"]"#),
+            Happens::Line(1, r#"["shutdown-server"]"#),
+            Happens::Line(2, r#"["version"]"#),
         ],
         "!1 {\"shutdown-server\":true,\"version\":\"wq-1\"}\n2 {\"version\":\"wq-1\"}\n",
     )
@@ -295,10 +295,10 @@ fn a_line_behind_the_end_of_a_session_begins_another(rt: HostRuntime) -> Result<
         &rt,
         rt.alloc(),
         &[
-            Step::Long(1),
-            Step::Line(1, r#"["version"]"#),
-            Step::End(1),
-            Step::Line(1, r#"["watch-list"]"#),
+            Happens::Long(1),
+            Happens::Line(1, r#"["version"]"#),
+            Happens::End(1),
+            Happens::Line(1, r#"["watch-list"]"#),
         ],
         concat!(
             "1 {\"error\":\"E1: line too long\",\"version\":\"wq-1\"}\n",
@@ -316,15 +316,15 @@ fn a_root_is_opened_for_its_watch(rt: HostRuntime) -> Result<(), Fail> {
         &rt,
         rt.alloc(),
         &[
-            Step::Line(1, watch),
-            Step::Watch("/q", Err(CrawlFault::Unreadable)),
-            Step::Line(1, watch),
-            Step::Watch("/q", Ok(A)),
-            Step::Line(1, watch),
-            Step::Watch("/q", Err(CrawlFault::Unreadable)),
-            Step::Line(2, watch),
-            Step::Line(1, r#"["clock","/q"]"#),
-            Step::Line(1, r#"["watch-list"]"#),
+            Happens::Line(1, watch),
+            Happens::Watch("/q", Err(CrawlFault::Unreadable)),
+            Happens::Line(1, watch),
+            Happens::Watch("/q", Ok(A)),
+            Happens::Line(1, watch),
+            Happens::Watch("/q", Err(CrawlFault::Unreadable)),
+            Happens::Line(2, watch),
+            Happens::Line(1, r#"["clock","/q"]"#),
+            Happens::Line(1, r#"["watch-list"]"#),
         ],
         concat!(
             "1 {\"error\":\"E14: root is not watched\",\"version\":\"wq-1\"}\n",
@@ -344,14 +344,14 @@ fn a_root_is_deleted_and_watched_again(rt: HostRuntime) -> Result<(), Fail> {
         &rt,
         rt.alloc(),
         &[
-            Step::Crawl("/r", Ok(A)),
-            Step::Line(1, r#"["watch-del","/r"]"#),
-            Step::Crawl("/r", Ok(B)),
-            Step::Line(1, NAMES),
-            Step::Line(1, r#"["watch-del","/r"]"#),
-            Step::Watch("/r", Ok(B)),
-            Step::Line(1, r#"["watch","/r"]"#),
-            Step::Line(1, NAMES_AT_ONCE),
+            Happens::Crawl("/r", Ok(A)),
+            Happens::Line(1, r#"["watch-del","/r"]"#),
+            Happens::Crawl("/r", Ok(B)),
+            Happens::Line(1, NAMES),
+            Happens::Line(1, r#"["watch-del","/r"]"#),
+            Happens::Watch("/r", Ok(B)),
+            Happens::Line(1, r#"["watch","/r"]"#),
+            Happens::Line(1, NAMES_AT_ONCE),
         ],
         concat!(
             "1 {\"root\":\"/r\",\"version\":\"wq-1\",\"watch-del\":true}\n",
@@ -370,27 +370,27 @@ fn sixteen_roots_are_shown(rt: HostRuntime) -> Result<(), Fail> {
         &rt,
         rt.alloc(),
         &[
-            Step::Watch("/1", Ok(NONE)),
-            Step::Watch("/2", Ok(NONE)),
-            Step::Watch("/3", Ok(NONE)),
-            Step::Watch("/4", Ok(NONE)),
-            Step::Watch("/5", Ok(NONE)),
-            Step::Watch("/6", Ok(NONE)),
-            Step::Watch("/7", Ok(NONE)),
-            Step::Watch("/8", Ok(NONE)),
-            Step::Watch("/9", Ok(NONE)),
-            Step::Watch("/a", Ok(NONE)),
-            Step::Watch("/b", Ok(NONE)),
-            Step::Watch("/c", Ok(NONE)),
-            Step::Watch("/d", Ok(NONE)),
-            Step::Watch("/e", Ok(NONE)),
-            Step::Watch("/f", Ok(NONE)),
-            Step::Watch("/q", Err(CrawlFault::Unreadable)),
-            Step::Line(1, r#"["watch","/q"]"#),
-            Step::Line(1, r#"["watch-del","/r"]"#),
-            Step::Watch("/q", Ok(NONE)),
-            Step::Line(1, r#"["watch","/q"]"#),
-            Step::Line(1, r#"["clock","/q"]"#),
+            Happens::Watch("/1", Ok(NONE)),
+            Happens::Watch("/2", Ok(NONE)),
+            Happens::Watch("/3", Ok(NONE)),
+            Happens::Watch("/4", Ok(NONE)),
+            Happens::Watch("/5", Ok(NONE)),
+            Happens::Watch("/6", Ok(NONE)),
+            Happens::Watch("/7", Ok(NONE)),
+            Happens::Watch("/8", Ok(NONE)),
+            Happens::Watch("/9", Ok(NONE)),
+            Happens::Watch("/a", Ok(NONE)),
+            Happens::Watch("/b", Ok(NONE)),
+            Happens::Watch("/c", Ok(NONE)),
+            Happens::Watch("/d", Ok(NONE)),
+            Happens::Watch("/e", Ok(NONE)),
+            Happens::Watch("/f", Ok(NONE)),
+            Happens::Watch("/q", Err(CrawlFault::Unreadable)),
+            Happens::Line(1, r#"["watch","/q"]"#),
+            Happens::Line(1, r#"["watch-del","/r"]"#),
+            Happens::Watch("/q", Ok(NONE)),
+            Happens::Line(1, r#"["watch","/q"]"#),
+            Happens::Line(1, r#"["clock","/q"]"#),
         ],
         concat!(
             "1 {\"error\":\"E13: too many roots\",\"version\":\"wq-1\"}\n",
@@ -411,17 +411,17 @@ fn an_idle_moment_is_one_of_a_root(rt: HostRuntime) -> Result<(), Fail> {
         &rt,
         rt.alloc(),
         &[
-            Step::Watch("/q", Ok(NONE)),
-            Step::Line(-7, r#"["watch","/q"]"#),
-            Step::Line(-7, r#"["subscribe","/q","q",{"fields":["name"]}]"#),
-            Step::Line(-7, SUBSCRIBES),
-            Step::Crawl("/r", Ok(A)),
-            Step::Crawl("/q", Ok(B)),
-            Step::Idle(1, 1),
-            Step::Idle(-7, 3),
-            Step::Idle(-7, 1),
-            Step::Idle(-7, 2),
-            Step::Idle(-7, 1),
+            Happens::Watch("/q", Ok(NONE)),
+            Happens::Line(-7, r#"["watch","/q"]"#),
+            Happens::Line(-7, r#"["subscribe","/q","q",{"fields":["name"]}]"#),
+            Happens::Line(-7, SUBSCRIBES),
+            Happens::Crawl("/r", Ok(A)),
+            Happens::Crawl("/q", Ok(B)),
+            Happens::Idle(1, 1),
+            Happens::Idle(-7, 3),
+            Happens::Idle(-7, 1),
+            Happens::Idle(-7, 2),
+            Happens::Idle(-7, 1),
         ],
         concat!(
             "-7 {\"version\":\"wq-1\",\"watch\":\"/q\",\"watcher\":\"poll\"}\n",
@@ -442,9 +442,9 @@ fn an_idle_moment_follows_a_refused_crawl(rt: HostRuntime) -> Result<(), Fail> {
         &rt,
         rt.alloc(),
         &[
-            Step::Crawl("/r", Err(CrawlFault::Unreadable)),
-            Step::Idle(1, 1),
-            Step::Line(1, NAMES),
+            Happens::Crawl("/r", Err(CrawlFault::Unreadable)),
+            Happens::Idle(1, 1),
+            Happens::Line(1, NAMES),
         ],
         "1 {\"clock\":\"c:7:9:1:0\",\"files\":[],\"is_fresh_instance\":true,\"version\":\"wq-1\"}\n",
     )
@@ -457,11 +457,11 @@ fn a_session_ends_with_its_subscriptions(rt: HostRuntime) -> Result<(), Fail> {
         &rt,
         rt.alloc(),
         &[
-            Step::Line(1, SUBSCRIBES),
-            Step::Long(1),
-            Step::Crawl("/r", Ok(A)),
-            Step::Idle(1, 1),
-            Step::Line(1, r#"["unsubscribe","/r","s"]"#),
+            Happens::Line(1, SUBSCRIBES),
+            Happens::Long(1),
+            Happens::Crawl("/r", Ok(A)),
+            Happens::Idle(1, 1),
+            Happens::Line(1, r#"["unsubscribe","/r","s"]"#),
         ],
         concat!(
             "1 {\"clock\":\"c:7:9:1:0\",\"subscribe\":\"s\",\"version\":\"wq-1\"}\n",
