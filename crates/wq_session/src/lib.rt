@@ -19,7 +19,6 @@ mod read_trigger;
 mod reply;
 mod session;
 mod shelving;
-mod turn;
 mod turns;
 mod unset;
 mod views;
@@ -34,7 +33,6 @@ pub use law::{
 };
 pub use prepared::Prepared;
 pub use session::Session;
-pub use turn::Turn;
 pub use turns::round;
 pub use unset::Unset;
 pub use views::{RootAt, Views};

@@ -24,8 +24,12 @@ use wq_registry::{CacheKey, Compiled, Shelf};
 use wq_verify::StoredProgram;
 
 /// An ask, at the root that is looked at, with its object, if it has one, read there.
+///
+/// Whoever holds a shelf makes work of it there, and can reach nothing that is in it. So a desk has no allocator with
+/// which it could make a shelf of its own.
 #[derive(Drop)]
 pub struct Prepared<'a> {
+    alloc: Global,
     pub(crate) ask: Ask,
     pub(crate) at: Option<At<'a>>,
     pub(crate) read: ReadObject,
@@ -41,7 +45,12 @@ impl<'a> Prepared<'a> {
     {
         hands_in_valid(&ask);
         let read = read_at(alloc, &ask, at);
-        Prepared { ask, at, read }
+        Prepared {
+            alloc,
+            ask,
+            at,
+            read,
+        }
     }
 
     /// The expression that needs a program. There is none if the ask has no expression, or its key could not be made.
@@ -54,20 +63,27 @@ impl<'a> Prepared<'a> {
     /// The ask with the program of its expression: the one that was found for its [`key`](Prepared::key), or one that
     /// is compiled now, which is then also given for the cache. If memory runs out it has no program, and
     /// [`take`](Prepared::take) says so.
-    pub fn compiled(
-        self,
-        alloc: Global,
-        found: Option<Arc<StoredProgram>>,
-    ) -> (Prepared<'a>, Option<Compiled>)
+    pub fn compiled(self, found: Option<Arc<StoredProgram>>) -> (Prepared<'a>, Option<Compiled>)
         requires prepared { IsPrepared self }
         requires found { IsFoundFor (key_in self) found }
         ensures prepared { IsPrepared result.0 }
         ensures ask { asked result.0 ≡ asked self.entry }
         ensures at { asked_at result.0 ≡ asked_at self.entry }
     {
-        let Prepared { ask, at, read } = self;
+        let Prepared {
+            alloc,
+            ask,
+            at,
+            read,
+        } = self;
         let (read, compiled) = read.compiled(alloc, found);
-        (Prepared { ask, at, read }, compiled)
+        let prepared = Prepared {
+            alloc,
+            ask,
+            at,
+            read,
+        };
+        (prepared, compiled)
     }
 }
 
@@ -78,12 +94,17 @@ impl Prepared<'_> {
     /// puts it there under that number.
     ///
     /// If memory runs out, the answer says so, and the shelf is as before.
-    pub fn take(self, alloc: Global, shelf: &mut Shelf<Trigger>) -> Work
+    pub fn take(self, shelf: &mut Shelf<Trigger>) -> Work
         requires { IsPrepared self }
         ensures { TakesAsk (asked self.entry) (asked_at self.entry) (shelf_data shelf.old)
             (work_data result) (shelf_data shelf.new) }
     {
-        let Prepared { ask, at, read } = self;
+        let Prepared {
+            alloc,
+            ask,
+            at,
+            read,
+        } = self;
         let (begun, ask) = tried(alloc, ask, at, read, shelf);
         let rest = match begun {
             Ok(rest) => rest,

@@ -20,7 +20,6 @@ use crate::crawl::crawl_refusal;
 use crate::desk::Desk;
 use crate::prepared::Prepared;
 use crate::reply::printed;
-use crate::turn::Turn;
 use crate::views::{RootAt, Views};
 use crate::work::{Rest, Work};
 use std::alloc::Global;
@@ -195,7 +194,7 @@ fn take_at<D: Desk>(alloc: Global, ask: Ask, at: Option<At<'_>>, desk: &mut D) -
         (D.shelf desk.new) }
 {
     let prepared = prepare_at(alloc, ask, at, desk);
-    desk.hold(Turn::new(alloc, prepared))
+    desk.hold(prepared)
 }
 
 /// An ask with its query read. The program of the query is found at the desk, or compiled and kept
@@ -216,7 +215,7 @@ fn prepare_at<'a, D: Desk>(
         Some(key) => desk.find(key),
         None => None,
     };
-    let (prepared, compiled) = prepared.compiled(alloc, found);
+    let (prepared, compiled) = prepared.compiled(found);
     if let Some(compiled) = compiled {
         let _ = desk.keep(compiled);
     }
