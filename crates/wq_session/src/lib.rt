@@ -14,8 +14,6 @@ mod moment;
 mod plain;
 mod prepared;
 mod read_object;
-mod read_query;
-mod read_trigger;
 mod reply;
 mod session;
 mod shelving;

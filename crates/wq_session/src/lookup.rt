@@ -1,15 +1,12 @@
 //! The knowledge of the program of an expression, before the shelf is held.
-ghost use Rattle.std.specs.Prelude.{◌≡◌, Ok, Some, false, IfSome};
+ghost use Rattle.std.specs.Prelude.{◌≡◌, None, Ok, false, IfSome};
 ghost use Rattle.serde_json.specs.View.{view as data_of};
 ghost use Rattle.wq_clock.specs.Instance.{instance_data};
 ghost use Rattle.wq_query.specs.Meaning.{AnswersWithin};
 ghost use Rattle.wq_query.specs.Query.{asked_of};
 ghost use Rattle.wq_query.specs.Reading.{asks as queries};
-ghost use Rattle.wq_registry.specs.CacheKey.{Says};
 ghost use Rattle.wq_session.specs.Prepared.{IsFoundFor, IsLookup};
 ghost use Rattle.wq_term.specs.Expr.{ExprData};
-ghost use Rattle.wq_term.specs.Limit.{max_depth};
-ghost use Rattle.wq_term.specs.Reading.{reads_as};
 
 use serde_json::Value;
 use std::alloc::Global;
@@ -47,16 +44,33 @@ impl Lookup {
             ≡ Ok (asked_of query.now) }
         ensures { IsLookup (asked_of query.now).expression result }
     {
+        let key = match object.get("expression") {
+            Some(expression) => CacheKey::new(alloc, instance, expression).ok(),
+            None => None,
+        };
         Lookup {
             is_large: is_too_large(query.expr()),
             stays,
-            key: key_of(alloc, object, instance, query),
+            key,
+            program: None,
+        }
+    }
+
+    /// Nothing, of an ask without an expression.
+    pub(crate) fn none() -> Lookup
+        ensures { (result.key ≡ None) × (result.program ≡ None) }
+    {
+        Lookup {
+            is_large: false,
+            stays: false,
+            key: None,
             program: None,
         }
     }
 
     /// The program of a query's expression: the one that was found, or one that is compiled now, and is then also given
-    /// for the cache. There is none if the query names a program, if it would be too large, or if memory ran out.
+    /// for the cache. There is none if the query names a program, if it would be too large, or if memory ran out. A
+    /// program that stays has the form in which it is kept.
     pub(crate) fn compiled(
         self,
         alloc: Global,
@@ -70,14 +84,20 @@ impl Lookup {
         if query.program().is_some() || self.is_large {
             return (self, None);
         }
-        match found {
-            Some(program) => (self.with(program, query), None),
-            None => self.compiled_now(alloc, query),
-        }
+        let Some(program) = found else {
+            return self.compiled_now(alloc, query);
+        };
+        let lookup = Lookup {
+            is_large: self.is_large,
+            stays: self.stays,
+            key: self.key,
+            program: Some(program),
+        };
+        (lookup.kept(alloc), None)
     }
 
     /// The knowledge with the program in the form in which it is kept, if it stays. If memory runs out there is no program.
-    pub(crate) fn kept(self, alloc: Global) -> Lookup
+    fn kept(self, alloc: Global) -> Lookup
         ensures { (t : ExprData) → IsLookup t self → IsLookup t result }
     {
         if !self.stays {
@@ -110,29 +130,13 @@ impl Lookup {
             Some(key) => Compiled::new(key, query.expr(), &program),
             None => None,
         };
-        (
-            Lookup {
-                is_large,
-                stays,
-                key: None,
-                program: Some(program),
-            },
-            compiled,
-        )
-    }
-
-    /// This program, which was found under the key.
-    fn with(self, program: Arc<StoredProgram>, query: &Query) -> Lookup
-        requires lookup { IsLookup (asked_of query.now).expression self }
-        requires found { IsFoundFor self.key (Some program) }
-        ensures { IsLookup (asked_of query.now).expression result }
-    {
-        Lookup {
-            is_large: self.is_large,
-            stays: self.stays,
-            key: self.key,
+        let lookup = Lookup {
+            is_large,
+            stays,
+            key: None,
             program: Some(program),
-        }
+        };
+        (lookup.kept(alloc), compiled)
     }
 }
 
@@ -145,28 +149,4 @@ fn kept_program(alloc: Global, program: Option<Arc<StoredProgram>>) -> Option<Ar
         return None;
     };
     Some(kept)
-}
-
-/// The key of the expression of a query that was read from this object, if it has one.
-fn key_of(alloc: Global, object: &Value, instance: &Instance, query: &Query) -> Option<CacheKey>
-    requires { queries (instance_data instance.now) (data_of object.now)
-        ≡ Ok (asked_of query.now) }
-    ensures { IfSome result (λ key. Says key (asked_of query.now).expression) }
-{
-    let Some(value) = object.get("expression") else {
-        return None;
-    };
-    key_at(alloc, value, instance, query)
-}
-
-/// The key of the expression of a query that was read from this value.
-fn key_at(alloc: Global, value: &Value, instance: &Instance, query: &Query) -> Option<CacheKey>
-    requires { reads_as (instance_data instance.now) max_depth (data_of value.now)
-        ≡ Ok (asked_of query.now).expression }
-    ensures { IfSome result (λ key. Says key (asked_of query.now).expression) }
-{
-    let Ok(key) = CacheKey::new(alloc, instance, value) else {
-        return None;
-    };
-    Some(key)
 }

@@ -1,24 +1,20 @@
 //! Prepared asks: each has all that can be read of it before the shelf is held. So the shelf is held for looking up
 //! names alone.
 ghost use Rattle.std.specs.Prelude.{◌≡◌, option_map};
-ghost use Rattle.wq_clock.specs.Instance.{instance_data};
 ghost use Rattle.wq_session.specs.Answer.{TakesAsk};
 ghost use Rattle.wq_session.specs.At.{at_data};
-ghost use Rattle.wq_session.specs.Prepared.{IsFoundFor, IsPrepared, IsReadAt, IsReadThere, asked, asked_at};
-ghost use Rattle.wq_session.specs.Prepared.{key_in, object_in, object_of};
+ghost use Rattle.wq_session.specs.Prepared.{IsFoundFor, IsPrepared, asked, asked_at, key_in};
 ghost use Rattle.wq_session.specs.Shelved.{shelf_data};
 ghost use Rattle.wq_session.specs.Work.{work_data};
 
 use crate::at::At;
 use crate::command::tried;
+use crate::lookup::Lookup;
 use crate::read_object::ReadObject;
-use crate::read_query::ReadQuery;
-use crate::read_trigger::ReadTrigger;
 use crate::work::{Rest, Work};
 use std::alloc::Global;
 use std::sync::Arc;
-use wq_ask::{Ask, Out, RootAsk, hands_in_valid};
-use wq_clock::Instance;
+use wq_ask::{Ask, Out, hands_in_valid};
 use wq_follow::Trigger;
 use wq_registry::{CacheKey, Compiled, Shelf};
 use wq_verify::StoredProgram;
@@ -32,7 +28,8 @@ pub struct Prepared<'a> {
     alloc: Global,
     pub(crate) ask: Ask,
     pub(crate) at: Option<At<'a>>,
-    pub(crate) read: ReadObject,
+    pub(crate) object: ReadObject,
+    pub(crate) lookup: Lookup,
 }
 
 impl<'a> Prepared<'a> {
@@ -44,12 +41,13 @@ impl<'a> Prepared<'a> {
         ensures at { asked_at result ≡ option_map at_data at.entry }
     {
         hands_in_valid(&ask);
-        let read = read_at(alloc, &ask, at);
+        let (object, lookup) = ReadObject::read(alloc, &ask, at);
         Prepared {
             alloc,
             ask,
             at,
-            read,
+            object,
+            lookup,
         }
     }
 
@@ -57,7 +55,7 @@ impl<'a> Prepared<'a> {
     pub fn key(&self) -> Option<&CacheKey>
         ensures { option_map (λ key. key.now) result ≡ key_in self.now }
     {
-        self.read.key()
+        self.lookup.key.as_ref()
     }
 
     /// The ask with the program of its expression: the one that was found for its [`key`](Prepared::key), or one that
@@ -74,14 +72,19 @@ impl<'a> Prepared<'a> {
             alloc,
             ask,
             at,
-            read,
+            object,
+            lookup,
         } = self;
-        let (read, compiled) = read.compiled(alloc, found);
+        let (lookup, compiled) = match object.query() {
+            Some(query) => lookup.compiled(alloc, query, found),
+            None => (lookup, None),
+        };
         let prepared = Prepared {
             alloc,
             ask,
             at,
-            read,
+            object,
+            lookup,
         };
         (prepared, compiled)
     }
@@ -103,53 +106,19 @@ impl Prepared<'_> {
             alloc,
             ask,
             at,
-            read,
+            mut object,
+            lookup,
         } = self;
-        let (begun, ask) = tried(alloc, ask, at, read, shelf);
+        let (begun, ask) = tried(alloc, ask, at, &mut object, &lookup, shelf);
         let rest = match begun {
             Ok(rest) => rest,
             Err(refusal) => Rest::Says(Out::refused(alloc, refusal)),
         };
-        Work { rest, ask }
-    }
-}
-
-/// The object of an ask, if it has one, at the root that is looked at. It is read only if a view is shown.
-#[tactic(auto, unfolding(crate::specs::Prepared::IsReadAt))]
-fn read_at(alloc: Global, ask: &Ask, at: Option<At<'_>>) -> ReadObject
-    ensures { IsReadAt (object_in ask.now) (option_map at_data at.entry) result }
-{
-    let Some(at) = at else {
-        return ReadObject::None;
-    };
-    if at.view.is_none() {
-        return ReadObject::None;
-    }
-    read_there(alloc, ask, &at.instance)
-}
-
-/// The object of an ask, if it has one, at this instance of the server.
-fn read_there(alloc: Global, ask: &Ask, instance: &Instance) -> ReadObject
-    ensures { IsReadThere (object_in ask.now) (instance_data instance.now) result }
-{
-    match ask {
-        Ask::OfRoot { what, .. } => read_in(alloc, what, instance),
-        _ => ReadObject::None,
-    }
-}
-
-/// The object of an ask of a root, if it has one, at this instance of the server.
-fn read_in(alloc: Global, what: &RootAsk, instance: &Instance) -> ReadObject
-    ensures { IsReadThere (object_of what.now) (instance_data instance.now) result }
-{
-    match what {
-        RootAsk::Query(query) => ReadObject::of_query(ReadQuery::read(alloc, query, instance)),
-        RootAsk::Subscribe { query, .. } => {
-            ReadObject::of_query(ReadQuery::read_subscription(alloc, query, instance))
+        Work {
+            rest,
+            ask,
+            object,
+            lookup,
         }
-        RootAsk::AddTrigger(trigger) => {
-            ReadObject::of_trigger(ReadTrigger::read(alloc, trigger, instance))
-        }
-        _ => ReadObject::None,
     }
 }

@@ -5,7 +5,7 @@ use Rattle.wq_clock.specs.Instance.{instance_data}
 use Rattle.wq_follow.specs.Defined.{definition_data}
 use Rattle.wq_query.specs.Reading.{asks}
 use Rattle.wq_session.proofs.Before.{definition_asks}
-use Rattle.wq_session.proofs.read_trigger.ReadTrigger.read.Goals as goal
+use Rattle.wq_session.proofs.read_object.ReadObject.of_trigger.Goals as goal
 
 pub of-requires : goal.of-requires
 of-requires c =
