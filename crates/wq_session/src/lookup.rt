@@ -5,8 +5,11 @@ ghost use Rattle.wq_clock.specs.Instance.{instance_data};
 ghost use Rattle.wq_query.specs.Meaning.{AnswersWithin};
 ghost use Rattle.wq_query.specs.Query.{asked_of};
 ghost use Rattle.wq_query.specs.Reading.{asks as queries};
+ghost use Rattle.wq_registry.specs.CacheKey.{Says};
 ghost use Rattle.wq_session.specs.Prepared.{IsFoundFor, IsLookup};
 ghost use Rattle.wq_term.specs.Expr.{ExprData};
+ghost use Rattle.wq_term.specs.Limit.{max_depth};
+ghost use Rattle.wq_term.specs.Reading.{reads_as};
 
 use serde_json::Value;
 use std::alloc::Global;
@@ -44,14 +47,10 @@ impl Lookup {
             ≡ Ok (asked_of query.now) }
         ensures { IsLookup (asked_of query.now).expression result }
     {
-        let key = match object.get("expression") {
-            Some(expression) => CacheKey::new(alloc, instance, expression).ok(),
-            None => None,
-        };
         Lookup {
             is_large: is_too_large(query.expr()),
             stays,
-            key,
+            key: key_of(alloc, object, instance, query),
             program: None,
         }
     }
@@ -149,4 +148,28 @@ fn kept_program(alloc: Global, program: Option<Arc<StoredProgram>>) -> Option<Ar
         return None;
     };
     Some(kept)
+}
+
+/// The key of the expression of a query that was read from this object, if it has one.
+fn key_of(alloc: Global, object: &Value, instance: &Instance, query: &Query) -> Option<CacheKey>
+    requires { queries (instance_data instance.now) (data_of object.now)
+        ≡ Ok (asked_of query.now) }
+    ensures { IfSome result (λ key. Says key (asked_of query.now).expression) }
+{
+    let Some(value) = object.get("expression") else {
+        return None;
+    };
+    key_at(alloc, value, instance, query)
+}
+
+/// The key of the expression of a query that was read from this value.
+fn key_at(alloc: Global, value: &Value, instance: &Instance, query: &Query) -> Option<CacheKey>
+    requires { reads_as (instance_data instance.now) max_depth (data_of value.now)
+        ≡ Ok (asked_of query.now).expression }
+    ensures { IfSome result (λ key. Says key (asked_of query.now).expression) }
+{
+    let Ok(key) = CacheKey::new(alloc, instance, value) else {
+        return None;
+    };
+    Some(key)
 }

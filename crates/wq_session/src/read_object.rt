@@ -92,15 +92,14 @@ impl ReadObject {
             → GivesReadObject said result.0 }
         ensures known { IsKnown result.0 result.1 }
     {
-        let refusal = match query {
+        match query {
             Ok(query) => {
                 let lookup = Lookup::of(alloc, object, instance, &query, stays);
-                return (ReadObject::Query(query), lookup);
+                (ReadObject::Query(query), lookup)
             }
-            Err(QueryFault::NoMemory) => Refusal::NoMemory,
-            Err(fault) => Refusal::Query(fault),
-        };
-        (ReadObject::Refused(refusal), Lookup::none())
+            Err(QueryFault::NoMemory) => (ReadObject::Refused(Refusal::NoMemory), Lookup::none()),
+            Err(fault) => (ReadObject::Refused(Refusal::Query(fault)), Lookup::none()),
+        }
     }
 
     /// The trigger of an object, or the reason to refuse it; and the knowledge of its program, which stays.

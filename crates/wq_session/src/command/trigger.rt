@@ -167,10 +167,7 @@ fn objects_on(
 }
 
 /// The objects of the triggers of a root.
-fn objects_of(
-    alloc: Global,
-    root: &Root<Trigger>,
-) -> Result<Vec<Arc<ObjectText>>, AllocError>
+fn objects_of(alloc: Global, root: &Root<Trigger>) -> Result<Vec<Arc<ObjectText>>, AllocError>
     ensures { IfOk result (λ objects. objects_in objects.items
         ≡ objects_of (each trigger_data root.now.triggers)) }
 {

@@ -11,9 +11,6 @@ returns g c =
     subst (λ (w : WorkData). Finishes w (option_map at_data c.args.at) (follows_of c.args.self.now) c.drop_called.result
     (follows_of c.drop_called.new.self)) (sym (ap rest_data c.in-Drops.is)) (c.drop_called.ensures (option_map at_data c.args.at))
 
-pub returns-in-Evaluates : goal.returns-in-Evaluates
-returns-in-Evaluates g c = c.listed.ensures (follows_of c.args.self.now)
-
 pub returns-in-Prints : goal.returns-in-Prints
 returns-in-Prints g c =
     subst (λ (w : WorkData). Finishes w (option_map at_data c.args.at) (follows_of c.args.self.now) c.printed.result
