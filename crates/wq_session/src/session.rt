@@ -63,8 +63,7 @@ impl Session {
         ensures { Finishes (work_data work) (option_map at_data at.entry) (follows_of self.old)
             result (follows_of self.new) }
     {
-        let Work { rest, .. } = work;
-        match rest {
+        match work.into_rest() {
             Rest::Says(mut out) => {
                 let _ = out.settle();
                 out

@@ -1,4 +1,5 @@
 //! The rest of the work of an answer, when the shelf is no longer held.
+ghost use Rattle.std.specs.Prelude.{◌≡◌};
 
 use crate::lookup::Lookup;
 use crate::plain::Plain;
@@ -17,6 +18,16 @@ pub struct Work {
     pub(crate) ask: Option<RootAsk>,
     pub(crate) object: ReadObject,
     pub(crate) lookup: Lookup,
+}
+
+impl Work {
+    /// The rest of the work. What was read of the ask is freed here, since what frees it is long.
+    pub(crate) fn into_rest(self) -> Rest
+        ensures { result ≡ self.rest }
+    {
+        let Work { rest, .. } = self;
+        rest
+    }
 }
 
 /// The rest of the work of an answer.
