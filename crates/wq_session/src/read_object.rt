@@ -110,8 +110,13 @@ impl ReadObject {
     {
         let refusal = match Definition::read(alloc, object, instance) {
             Ok(definition) => {
-                let (object, query) = (definition.object(), definition.query());
-                let lookup = Lookup::of(alloc, object, instance, query, true);
+                let lookup = Lookup::of(
+                    alloc,
+                    definition.object(),
+                    instance,
+                    definition.query(),
+                    true,
+                );
                 return (ReadObject::Trigger(definition), lookup);
             }
             Err(TriggerFault::BadName) => Refusal::BadName,
