@@ -5,7 +5,7 @@ use crate::shared_shelf::SharedShelf;
 use std::sync::{Arc, Mutex, Wait};
 use wq_ask::Cursor;
 use wq_registry::{CacheKey, Compiled, Forgotten};
-use wq_session::{Desk, Turn, Unset, Work};
+use wq_session::{Desk, Prepared, Unset, Work};
 use wq_verify::StoredProgram;
 
 /// A desk over a shelf that threads share. It shows no shelf, and keeps none.
@@ -37,8 +37,8 @@ impl<R: Wait + Drop> Desk for LockDesk<R> {
         self.shelf.lock(&self.rt).keep(compiled)
     }
 
-    fn hold(&mut self, turn: Turn<'_>) -> Work {
-        self.shelf.lock(&self.rt).take(turn)
+    fn hold(&mut self, prepared: Prepared<'_>) -> Work {
+        self.shelf.lock(&self.rt).take(prepared)
     }
 
     fn unset(&mut self, cursor: Cursor) -> Unset {

@@ -20,7 +20,9 @@ use wq_clock::{Bound, Instance};
 use wq_follow::{Launch, Trigger};
 use wq_query::Ahead;
 use wq_registry::{Cache, CacheKey, Compiled, Forgotten, Root, Shelf};
-use wq_session::{Turn, Unset, Work, added_are_asked, answers_are_calls, round, rounds_are_calls};
+use wq_session::{
+    Prepared, Unset, Work, added_are_asked, answers_are_calls, round, rounds_are_calls,
+};
 use wq_verify::StoredProgram;
 use wq_view::View;
 
@@ -70,14 +72,14 @@ impl ReachedShelf<Trigger> {
         self.shelf.roots()
     }
 
-    /// Takes a session's turn ([`Turn::take`]).
-    pub(crate) fn take(&mut self, turn: Turn<'_>) -> Work
-        requires { IsPrepared turn.prepared }
+    /// Takes a session's ask ([`Prepared::take`]).
+    pub(crate) fn take(&mut self, prepared: Prepared<'_>) -> Work
+        requires { IsPrepared prepared }
         ensures reached { IsReached (shelf_data self.old) }
-        ensures taken { TakesAsk (asked turn.entry.prepared) (asked_at turn.entry.prepared)
+        ensures taken { TakesAsk (asked prepared.entry) (asked_at prepared.entry)
             (shelf_data self.old) (work_data result) (shelf_data self.new) }
     {
-        turn.take(&mut self.shelf)
+        prepared.take(&mut self.shelf)
     }
 
     /// The program that the cache keeps for an expression.

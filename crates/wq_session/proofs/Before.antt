@@ -17,6 +17,7 @@ use Rattle.wq_query.specs.declared.fault.QueryFault.{QueryFault}
 use Rattle.wq_query.specs.declared.fault.QueryFault.TheVariants.{LeftOutKey, ExpressionAndProgram, Expression, UnknownField}
 use Rattle.wq_query.specs.declared.fault.QueryFault.TheVariants.{BadGenerator, BadClockSpec, WrongValue}
 use Rattle.wq_follow.specs.Defined.{definition_data}
+use Rattle.wq_follow.specs.declared.definition.Definition.{Definition}
 use Rattle.wq_follow.specs.Definition.{DefinitionData, ShapeData, defines, has_bad_length, known_part, shape_of}
 use Rattle.wq_follow.specs.declared.fault.TriggerFault.{TriggerFault}
 use Rattle.wq_follow.specs.declared.fault.TriggerFault.TheVariants.{BadName as BadTriggerName, Query as BadTriggerQuery}
@@ -34,92 +35,14 @@ use Rattle.wq_ask.specs.declared.refusal.Refusal.TheVariants.{WrongFile, WrongPr
 use Rattle.wq_crawl.specs.At.{AtData}
 use Rattle.wq_session.specs.At.{ShelfNow, is_watched, watched}
 use Rattle.wq_session.specs.Moment.{Shown, shown_in}
-use Rattle.wq_session.specs.Prepared.{AreRead, GivesDefined, GivesDefinedObject, GivesRead, GivesReadObject, IsReadAgain, IsReadAt, IsReadShown}
-use Rattle.wq_session.specs.Prepared.{IsReadThere, ObjectData, asks_query, asks_subscription, asks_trigger, asks_nothing}
+use Rattle.wq_session.specs.Prepared.{GivesDefined, GivesRead, IsReadAt, IsReadShown}
+use Rattle.wq_session.specs.Prepared.{IsReadThere, ObjectData}
 use Rattle.wq_session.specs.Trigger.{begun_trigger, defined_by, try_trigger}
 use Rattle.wq_session.specs.Query.{begun_query, try_query}
 use Rattle.wq_session.specs.Subscribe.{begun_subscription, try_subscribe}
 use Rattle.wq_session.specs.Work.{BegunData, Begins}
 use Rattle.wq_session.specs.declared.read_object.ReadObject.{ReadObject}
-use Rattle.wq_session.specs.declared.read_object.ReadObject.TheVariants.{None as Unread, Query as QueryRead, Trigger as TriggerRead}
-use Rattle.wq_session.specs.declared.read_object.ReadObject.TheVariants.{Refused as ObjectRefused}
-use Rattle.wq_session.specs.declared.read_query.ReadQuery.{ReadQuery}
-use Rattle.wq_session.specs.declared.read_trigger.ReadTrigger.{ReadTrigger}
 use Rattle.wq_session.specs.declared.work.Rest.{Rest}
-
--- an object that was read is known
-module _ (instance : InstanceData) where
-  query_known : (said : Result QueryData QueryFault) (read : ReadObject) → GivesReadObject said read → AreRead read
-  query_known said (QueryRead read) is = is.1
-  query_known said (ObjectRefused refusal) is = tt
-  query_known said Unread is = elim is [ ]
-  query_known said (TriggerRead read) is = elim is [ ]
-
-  trigger_known : (said : Result DefinitionData Refusal) (read : ReadObject) → GivesDefinedObject said read → AreRead read
-  trigger_known said (TriggerRead read) is = is.1
-  trigger_known said (ObjectRefused refusal) is = tt
-  trigger_known said Unread is = elim is [ ]
-  trigger_known said (QueryRead read) is = elim is [ ]
-
-  known_there : (object : ObjectData) (read : ReadObject) → IsReadThere object instance read → AreRead read
-  known_there asks_nothing read is = subst AreRead (sym is) tt
-  known_there (asks_query d) read is = query_known (queries instance d) read is
-  known_there (asks_subscription d) read is = query_known (subscribes instance d) read is
-  known_there (asks_trigger d) read is = trigger_known (defined_by instance d) read is
-
-known_shown : (object : ObjectData) (shown : Shown) (read : ReadObject) → IsReadShown object shown read → AreRead read
-known_shown object None read is = subst AreRead (sym is) tt
-known_shown object (Some (instance, view)) read is = known_there instance object read is
-
-pub are_read : (object : ObjectData) (at : Option AtData) (read : ReadObject) → IsReadAt object at read → AreRead read
-unfolding IsReadAt
-are_read object at read is = known_shown object (shown_in at) read is
-
--- nothing stays nothing
-still_unread : (read after : ReadObject) → read ≡ Unread → IsReadAgain read after → after ≡ Unread
-still_unread Unread after is again = again
-still_unread (QueryRead read) after is again = absurd cc
-still_unread (TriggerRead read) after is again = absurd cc
-still_unread (ObjectRefused refusal) after is again = absurd cc
-
--- it stays read when more becomes known of its program
-module _ (instance : InstanceData) where
-  query_again : (said : Result QueryData QueryFault) (read after : ReadObject) → GivesReadObject said read → IsReadAgain read after
-      → GivesReadObject said after
-  query_again said (QueryRead read) (QueryRead after) is again = (is.0 ∙ ap Ok (sym again.0), again.1)
-  query_again said (QueryRead read) Unread is again = elim again [ ]
-  query_again said (QueryRead read) (TriggerRead after) is again = elim again [ ]
-  query_again said (QueryRead read) (ObjectRefused refusal) is again = elim again [ ]
-  query_again said (ObjectRefused refusal) after is again = subst (GivesReadObject said) (sym again) is
-  query_again said Unread after is again = elim is [ ]
-  query_again said (TriggerRead read) after is again = elim is [ ]
-
-  trigger_again : (said : Result DefinitionData Refusal) (read after : ReadObject) → GivesDefinedObject said read → IsReadAgain read after
-      → GivesDefinedObject said after
-  trigger_again said (TriggerRead read) (TriggerRead after) is again = (is.0 ∙ ap Ok (sym again.0), again.1)
-  trigger_again said (TriggerRead read) Unread is again = elim again [ ]
-  trigger_again said (TriggerRead read) (QueryRead after) is again = elim again [ ]
-  trigger_again said (TriggerRead read) (ObjectRefused refusal) is again = elim again [ ]
-  trigger_again said (ObjectRefused refusal) after is again = subst (GivesDefinedObject said) (sym again) is
-  trigger_again said Unread after is again = elim is [ ]
-  trigger_again said (QueryRead read) after is again = elim is [ ]
-
-  there_again : (object : ObjectData) (read after : ReadObject) → IsReadThere object instance read → IsReadAgain read after
-      → IsReadThere object instance after
-  there_again asks_nothing read after is again = still_unread read after is again
-  there_again (asks_query d) read after is again = query_again (queries instance d) read after is again
-  there_again (asks_subscription d) read after is again = query_again (subscribes instance d) read after is again
-  there_again (asks_trigger d) read after is again = trigger_again (defined_by instance d) read after is again
-
-shown_again : (object : ObjectData) (shown : Shown) (read after : ReadObject) → IsReadShown object shown read → IsReadAgain read after
-    → IsReadShown object shown after
-shown_again object None read after is again = still_unread read after is again
-shown_again object (Some (instance, view)) read after is again = there_again instance object read after is again
-
-pub read_again : (object : ObjectData) (at : Option AtData) (read after : ReadObject) → IsReadAt object at read → IsReadAgain read after
-    → IsReadAt object at after
-unfolding IsReadAt
-read_again object at read after is again = shown_again object (shown_in at) read after is again
 
 -- the watched root is the one that is looked at
 pub there : (root : List ℕ) (at : Option AtData) (shelf : ShelfNow) (a : AtData) → watched root at shelf ≡ Some a → at ≡ Some a
@@ -145,16 +68,16 @@ module _ (d : Data) (shelf : ShelfNow) (a : AtData) (view : ViewData) (shown : a
       or_its_fault BadQuery (queries a.instance d) (λ q. begun_query (a.instance).root view.tick q shelf))) shown
 
   -- so the query that was read begins as `query` does
-  pub begins_read : (read : ReadQuery) → GivesRead (Ok read) (queries a.instance d)
+  pub begins_read : (query : Query) → GivesRead (Ok query) (queries a.instance d)
       → (tick : ℕ) → tick ≡ view.tick → (result : Result Rest Refusal) (after : ShelfNow)
-      → Begins (begun_query (a.instance).root tick (asked_of read.query) shelf) shelf result after
+      → Begins (begun_query (a.instance).root tick (asked_of query) shelf) shelf result after
       → Begins (try_query d a shelf) shelf result after
-  begins_read read said tick told result after begins =
+  begins_read query said tick told result after begins =
       subst (λ b. Begins b shelf result after)
       (sym (at_view
       ∙ ap (λ r. or_its_fault BadQuery r (λ q. begun_query (a.instance).root view.tick q shelf))
-      said.0
-      ∙ ap (λ t. begun_query (a.instance).root t (asked_of read.query) shelf) (sym told)))
+      said
+      ∙ ap (λ t. begun_query (a.instance).root t (asked_of query) shelf) (sym told)))
       begins
 
 -- the fault of an object that was read is the reason to refuse a line
@@ -205,13 +128,13 @@ module _ (root name : List ℕ) (d : Data) (shelf : ShelfNow) (a : AtData) (view
       or_its_fault BadQuery (subscribes a.instance d) (λ q. begun_subscription root name (a.instance).root q shelf))) named
 
   -- the query of a subscription that was read begins as `subscribe` does
-  pub begins_subscribed : (read : ReadQuery) → GivesRead (Ok read) (subscribes a.instance d) → (result : Result Rest Refusal)
-      → Begins (begun_subscription root name (a.instance).root (asked_of read.query) shelf) shelf result shelf
+  pub begins_subscribed : (query : Query) → GivesRead (Ok query) (subscribes a.instance d) → (result : Result Rest Refusal)
+      → Begins (begun_subscription root name (a.instance).root (asked_of query) shelf) shelf result shelf
       → Begins (try_subscribe root name d a shelf) shelf result shelf
-  begins_subscribed read said result begins =
+  begins_subscribed query said result begins =
       subst (λ b. Begins b shelf result shelf)
       (sym (subscribed_at
-      ∙ ap (λ r. or_its_fault BadQuery r (λ q. begun_subscription root name (a.instance).root q shelf)) said.0))
+      ∙ ap (λ r. or_its_fault BadQuery r (λ q. begun_subscription root name (a.instance).root q shelf)) said))
       begins
 
   -- and its fault is the reason to refuse `subscribe`
@@ -259,14 +182,14 @@ module _ (root : List ℕ) (d : Data) (shelf : ShelfNow) (a : AtData) (view : Vi
       or_own_fault (defined_by a.instance d) (λ definition. begun_trigger root (a.instance).root definition shelf))) shown
 
   -- the trigger that was read begins as `trigger` does
-  pub begins_defined : (read : ReadTrigger) → GivesDefined (Ok read) (defined_by a.instance d)
+  pub begins_defined : (definition : Definition) → GivesDefined (Ok definition) (defined_by a.instance d)
       → (result : Result Rest Refusal) (after : ShelfNow)
-      → Begins (begun_trigger root (a.instance).root (definition_data read.definition) shelf) shelf result after
+      → Begins (begun_trigger root (a.instance).root (definition_data definition) shelf) shelf result after
       → Begins (try_trigger root d a shelf) shelf result after
-  begins_defined read said result after begins =
+  begins_defined definition said result after begins =
       subst (λ b. Begins b shelf result after)
       (sym (triggered_at
-      ∙ ap (λ r. or_own_fault r (λ definition. begun_trigger root (a.instance).root definition shelf)) said.0))
+      ∙ ap (λ r. or_own_fault r (λ definition. begun_trigger root (a.instance).root definition shelf)) said))
       begins
 
   -- and its fault is the reason to refuse `trigger`

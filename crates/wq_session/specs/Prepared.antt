@@ -10,11 +10,13 @@ use Rattle.wq_code.specs.declared.raw.Raw.{Raw}
 use Rattle.wq_compile.specs.Large.{is_too_large}
 use Rattle.wq_follow.specs.Defined.{definition_data}
 use Rattle.wq_follow.specs.Definition.{DefinitionData}
+use Rattle.wq_follow.specs.declared.definition.Definition.{Definition}
 use Rattle.wq_query.specs.Meaning.{AnswersWithin}
 use Rattle.wq_query.specs.Query.{QueryData, asked_of}
 use Rattle.wq_query.specs.Reading.{asks as queries}
 use Rattle.wq_query.specs.Subscribed.{subscribes}
 use Rattle.wq_query.specs.declared.fault.QueryFault.{QueryFault}
+use Rattle.wq_query.specs.declared.query.Query.{Query}
 use Rattle.wq_registry.specs.CacheKey.{CacheKeyData, Says}
 use Rattle.wq_registry.specs.Kept.{StandsFor}
 use Rattle.wq_term.specs.Expr.{ExprData}
@@ -24,7 +26,7 @@ use Rattle.wq_ask.specs.declared.ask.Ask.TheVariants.{OfRoot}
 use Rattle.wq_ask.specs.declared.ask.RootAsk.{RootAsk}
 use Rattle.wq_ask.specs.declared.ask.RootAsk.TheVariants.{Query as AsksQuery, Subscribe, AddTrigger}
 use Rattle.wq_ask.specs.declared.refusal.Refusal.{Refusal}
-use Rattle.wq_ask.specs.declared.refusal.Refusal.TheVariants.{NoMemory, Query}
+use Rattle.wq_ask.specs.declared.refusal.Refusal.TheVariants.{NoMemory, Query as BadQuery}
 use Rattle.wq_crawl.specs.At.{AtData, at_data}
 use Rattle.wq_session.specs.Moment.{Shown, shown_in}
 use Rattle.wq_session.specs.Trigger.{defined_by}
@@ -35,8 +37,6 @@ use Rattle.wq_session.specs.declared.read_object.ReadObject.TheVariants.{None as
 use Rattle.wq_session.specs.declared.read_object.ReadObject.TheVariants.{Query as QueryRead}
 use Rattle.wq_session.specs.declared.read_object.ReadObject.TheVariants.{Trigger as TriggerRead}
 use Rattle.wq_session.specs.declared.read_object.ReadObject.TheVariants.{Refused as ObjectRefused}
-use Rattle.wq_session.specs.declared.read_query.ReadQuery.{ReadQuery}
-use Rattle.wq_session.specs.declared.read_trigger.ReadTrigger.{ReadTrigger}
 
 -- the knowledge of the program of an expression: whether the program would be too large, the key
 -- that says the expression, and a program that answers what the expression means within its
@@ -47,37 +47,28 @@ IsLookup expression lookup =
     × IfSome lookup.key (λ key. Says key expression)
     × IfSome lookup.program (λ program. AnswersWithin program.value expression)
 
--- the knowledge of the program of a query that was read
-abbrev pub IsRead : ReadQuery → Type 0
-IsRead read = IsLookup (asked_of read.query).expression read.lookup
-
--- the knowledge of the program of a trigger that was read
-abbrev pub IsReadTrigger : ReadTrigger → Type 0
-IsReadTrigger read =
-    IsLookup ((definition_data read.definition).query).expression read.lookup
-
 -- a query was read, or its fault was found, or memory ran out
-abbrev pub GivesRead : Result ReadQuery Refusal → Result QueryData QueryFault → Type 0
-GivesRead (Ok read) said = (said ≡ Ok (asked_of read.query)) × IsRead read
+abbrev pub GivesRead : Result Query Refusal → Result QueryData QueryFault → Type 0
+GivesRead (Ok query) said = said ≡ Ok (asked_of query)
 GivesRead (Err NoMemory) said = Unit {0}
-GivesRead (Err (Query fault)) said = said ≡ Err fault
+GivesRead (Err (BadQuery fault)) said = said ≡ Err fault
 GivesRead (Err _) said = ⊥
 
 -- a trigger was read, or its fault was found, or memory ran out
-abbrev pub GivesDefined : Result ReadTrigger Refusal → Result DefinitionData Refusal → Type 0
-GivesDefined (Ok read) said = (said ≡ Ok (definition_data read.definition)) × IsReadTrigger read
+abbrev pub GivesDefined : Result Definition Refusal → Result DefinitionData Refusal → Type 0
+GivesDefined (Ok definition) said = said ≡ Ok (definition_data definition)
 GivesDefined (Err NoMemory) said = Unit {0}
 GivesDefined (Err refusal) said = said ≡ Err refusal
 
 -- the result of reading an object as a query
 abbrev pub GivesReadObject : Result QueryData QueryFault → ReadObject → Type 0
-GivesReadObject said (QueryRead read) = GivesRead (Ok read) said
+GivesReadObject said (QueryRead query) = GivesRead (Ok query) said
 GivesReadObject said (ObjectRefused refusal) = GivesRead (Err refusal) said
 GivesReadObject said _ = ⊥
 
 -- the result of reading an object as a trigger
 abbrev pub GivesDefinedObject : Result DefinitionData Refusal → ReadObject → Type 0
-GivesDefinedObject said (TriggerRead read) = GivesDefined (Ok read) said
+GivesDefinedObject said (TriggerRead definition) = GivesDefined (Ok definition) said
 GivesDefinedObject said (ObjectRefused refusal) = GivesDefined (Err refusal) said
 GivesDefinedObject said _ = ⊥
 
@@ -120,21 +111,15 @@ IsReadShown object (Some (instance, view)) read = IsReadThere object instance re
 unfoldable pub IsReadAt : ObjectData → Option AtData → ReadObject → Type 0
 IsReadAt object at read = IsReadShown object (shown_in at) read
 
--- the knowledge of the program of an object, if the object was read
-abbrev pub AreRead : ReadObject → Type 0
-AreRead (QueryRead read) = IsRead read
-AreRead (TriggerRead read) = IsReadTrigger read
-AreRead _ = Unit {0}
+-- the query of an object, if it was read: of a trigger, the one that selects its files
+abbrev pub object_query : ReadObject → Option QueryData
+object_query (QueryRead query) = Some (asked_of query)
+object_query (TriggerRead definition) = Some (definition_data definition).query
+object_query _ = None
 
--- the same object, after more became known of its program; nothing else changed
-abbrev pub IsReadAgain : ReadObject → ReadObject → Type 0
-IsReadAgain (QueryRead read) (QueryRead after) =
-    (asked_of after.query ≡ asked_of read.query) × IsRead after
-IsReadAgain (QueryRead read) _ = ⊥
-IsReadAgain (TriggerRead read) (TriggerRead after) =
-    (definition_data after.definition ≡ definition_data read.definition) × IsReadTrigger after
-IsReadAgain (TriggerRead read) _ = ⊥
-IsReadAgain before after = after ≡ before
+-- the knowledge of the program of an object, if the object was read
+abbrev pub IsKnown : ReadObject → Lookup → Type 0
+IsKnown object lookup = IfSome (object_query object) (λ q. IsLookup q.expression lookup)
 
 -- the ask that was prepared
 abbrev pub asked : Prepared → Ask
@@ -144,20 +129,16 @@ asked prepared = prepared.ask
 abbrev pub asked_at : Prepared → Option AtData
 asked_at prepared = option_map at_data prepared.at
 
--- an ask was prepared: a program that it hands in may run, and its object, if it has one, was read
+-- an ask was prepared: a program that it hands in may run, and its object, if it has one, was read,
+-- with the knowledge of its program
 pub record IsPrepared (prepared : Prepared) : Type 0 where
   pub valid : HandsInValid (asked prepared)
-  pub read : IsReadAt (object_in (asked prepared)) (asked_at prepared) prepared.read
-
--- the key that keeps the program of an object that was read
-abbrev pub key_of_read : ReadObject → Option CacheKeyData
-key_of_read (QueryRead read) = (read.lookup).key
-key_of_read (TriggerRead read) = (read.lookup).key
-key_of_read _ = None
+  pub read : IsReadAt (object_in (asked prepared)) (asked_at prepared) prepared.object
+  pub known : IsKnown prepared.object prepared.lookup
 
 -- the key of a prepared ask
 abbrev pub key_in : Prepared → Option CacheKeyData
-key_in prepared = key_of_read prepared.read
+key_in prepared = (prepared.lookup).key
 
 -- a program that was found has the meaning of the key's text, if there is a key
 abbrev pub IsFoundFor : Option CacheKeyData → Option (Arc Raw Global) → Type 0

@@ -6,7 +6,7 @@ ghost use Rattle.wq_ask.specs.Refusal.{ends_session};
 ghost use Rattle.wq_crawl.specs.At.{at_data};
 ghost use Rattle.wq_session.specs.At.{ShelfNow};
 ghost use Rattle.wq_session.specs.Begun.{lone_takes_memory, takes_memory, tried, tried_alone, tried_of, tried_on, tried_there};
-ghost use Rattle.wq_session.specs.Prepared.{AreRead, IsReadAt, object_in, object_of};
+ghost use Rattle.wq_session.specs.Prepared.{IsKnown, IsReadAt, object_in, object_of};
 ghost use Rattle.wq_session.specs.Shelved.{shelf_data};
 ghost use Rattle.wq_session.specs.Work.{Begins};
 
@@ -19,6 +19,7 @@ mod trigger;
 mod watch;
 
 use crate::at::watched;
+use crate::lookup::Lookup;
 use crate::read_object::ReadObject;
 use crate::work::Rest;
 use clock::begin_clock;
@@ -37,15 +38,17 @@ use wq_follow::Trigger;
 use wq_registry::Shelf;
 
 /// The beginning of an ask while the shelf is held, or the reason to refuse the line; and the ask, if it is of a root.
-/// Its object is not needed after it was read.
+/// Its object was read, and is only lent, so that it is freed when the shelf is no longer held.
 pub(crate) fn tried(
     alloc: Global,
     ask: Ask,
     at: Option<At<'_>>,
-    read: ReadObject,
+    object: &mut ReadObject,
+    lookup: &Lookup,
     shelf: &mut Shelf<Trigger>,
 ) -> (Result<Rest, Refusal>, Option<RootAsk>)
-    requires { IsReadAt (object_in ask) (option_map at_data at) read }
+    requires read { IsReadAt (object_in ask) (option_map at_data at) object.old }
+    requires known { IsKnown object.old lookup.now }
     ensures begun { Begins (tried ask (option_map at_data at.entry) (shelf_data shelf.old))
         (shelf_data shelf.old)
         result.0 (shelf_data shelf.new) }
@@ -53,26 +56,14 @@ pub(crate) fn tried(
         ends_session refusal ≡ false → takes_memory ask ≡ true) }
 {
     match ask {
-        Ask::Watch { root } => {
-            read.let_go();
-            (begin_watch(alloc, &root, at, shelf), None)
-        }
-        Ask::Unwatch { root } => {
-            read.let_go();
-            (begin_unwatch(alloc, &root, at, shelf), None)
-        }
+        Ask::Watch { root } => (begin_watch(alloc, &root, at, shelf), None),
+        Ask::Unwatch { root } => (begin_unwatch(alloc, &root, at, shelf), None),
         Ask::OfRoot { root, what, .. } => {
-            let begun = tried_of(alloc, &root, &what, at, read, shelf);
+            let begun = tried_of(alloc, &root, &what, at, object, lookup, shelf);
             (begun, Some(what))
         }
-        Ask::OfShelf(what) => {
-            read.let_go();
-            (tried_on(alloc, what, shelf), None)
-        }
-        Ask::Alone(what) => {
-            read.let_go();
-            (tried_alone(what), None)
-        }
+        Ask::OfShelf(what) => (tried_on(alloc, what, shelf), None),
+        Ask::Alone(what) => (tried_alone(what), None),
     }
 }
 
@@ -82,19 +73,20 @@ fn tried_of(
     root: &RootText,
     what: &RootAsk,
     at: Option<At<'_>>,
-    read: ReadObject,
+    object: &mut ReadObject,
+    lookup: &Lookup,
     shelf: &mut Shelf<Trigger>,
 ) -> Result<Rest, Refusal>
-    requires { IsReadAt (object_of what.now) (option_map at_data at) read }
+    requires read { IsReadAt (object_of what.now) (option_map at_data at) object.old }
+    requires known { IsKnown object.old lookup.now }
     ensures { Begins (tried_of what.now root.now (option_map at_data at.entry)
         (shelf_data shelf.old))
         (shelf_data shelf.old) result (shelf_data shelf.new) }
 {
     let Some(at) = watched(root, at, shelf) else {
-        read.let_go();
         return Err(Refusal::NotWatched);
     };
-    tried_there(alloc, root, what, at, read, shelf)
+    tried_there(alloc, root, what, at, object, lookup, shelf)
 }
 
 /// The beginning of an ask of the root that is looked at.
@@ -103,35 +95,26 @@ fn tried_there(
     root: &RootText,
     what: &RootAsk,
     at: At<'_>,
-    read: ReadObject,
+    object: &mut ReadObject,
+    lookup: &Lookup,
     shelf: &mut Shelf<Trigger>,
 ) -> Result<Rest, Refusal>
-    requires read { IsReadAt (object_of what.now) (Some (at_data at)) read }
-    requires known { AreRead read }
+    requires read { IsReadAt (object_of what.now) (Some (at_data at)) object.old }
+    requires known { IsKnown object.old lookup.now }
     requires watched { is_none (numbered at.instance.root shelf.old.roots) ≡ false }
     ensures { Begins (tried_there what.now root.now (at_data at.entry) (shelf_data shelf.old))
         (shelf_data shelf.old) result (shelf_data shelf.new) }
 {
     match what {
-        RootAsk::Query(_) => begin_query(alloc, read, at, shelf),
-        RootAsk::Clock => {
-            read.let_go();
-            begin_clock(alloc, at, shelf)
-        }
-        RootAsk::Subscribe { name, .. } => begin_subscribe(alloc, root, name, read, at, shelf),
-        RootAsk::Unsubscribe { name } => {
-            read.let_go();
-            begin_unsubscribe(alloc, name, at)
-        }
-        RootAsk::AddTrigger(_) => begin_trigger(alloc, root, read, at, shelf),
-        RootAsk::ListTriggers => {
-            read.let_go();
-            begin_list_triggers(alloc, at, shelf)
-        }
-        RootAsk::DeleteTrigger { name } => {
-            read.let_go();
-            begin_delete_trigger(alloc, name, at, shelf)
-        }
+        RootAsk::Query(_) => begin_query(alloc, object, lookup, at, shelf),
+        RootAsk::Clock => begin_clock(alloc, at, shelf),
+        RootAsk::Subscribe { name, .. } => begin_subscribe(
+            alloc, root, name, object, lookup, at, shelf,
+        ),
+        RootAsk::Unsubscribe { name } => begin_unsubscribe(alloc, name, at),
+        RootAsk::AddTrigger(_) => begin_trigger(alloc, root, object, lookup, at, shelf),
+        RootAsk::ListTriggers => begin_list_triggers(alloc, at, shelf),
+        RootAsk::DeleteTrigger { name } => begin_delete_trigger(alloc, name, at, shelf),
     }
 }
 

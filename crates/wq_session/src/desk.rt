@@ -5,7 +5,7 @@ ghost use Rattle.wq_session.specs.Desk.{HoldsShelf, Unsets};
 ghost use Rattle.wq_session.specs.Prepared.{IsPrepared, asked, asked_at};
 ghost use Rattle.wq_session.specs.Work.{work_data};
 
-use crate::turn::Turn;
+use crate::prepared::Prepared;
 use crate::unset::Unset;
 use crate::work::Work;
 use std::sync::Arc;
@@ -36,11 +36,11 @@ pub trait Desk {
     fn keep(&mut self, compiled: Compiled) -> Option<Forgotten>
         ensures { shelf self.new ≡ shelf self.old };
 
-    /// Takes a session's turn ([`Turn::take`]) at the shelf as it is.
-    fn hold(&mut self, turn: Turn<'_>) -> Work
-        requires { IsPrepared turn.prepared }
-        ensures { HoldsShelf (shelf self.old) (asked turn.entry.prepared)
-            (asked_at turn.entry.prepared) (work_data result) (shelf self.new) };
+    /// Takes an ask ([`Prepared::take`]) at the shelf as it is.
+    fn hold(&mut self, prepared: Prepared<'_>) -> Work
+        requires { IsPrepared prepared }
+        ensures { HoldsShelf (shelf self.old) (asked prepared.entry) (asked_at prepared.entry)
+            (work_data result) (shelf self.new) };
 
     /// Unsets a cursor ([`Shelf::unset_cursor`]) on the shelf as it is, and gives the receipt that only this makes.
     fn unset(&mut self, cursor: Cursor) -> Unset
@@ -63,8 +63,8 @@ impl Desk for Shelf<Trigger> {
         self.cache().keep(compiled)
     }
 
-    fn hold(&mut self, turn: Turn<'_>) -> Work {
-        turn.take(self)
+    fn hold(&mut self, prepared: Prepared<'_>) -> Work {
+        prepared.take(self)
     }
 
     fn unset(&mut self, cursor: Cursor) -> Unset {

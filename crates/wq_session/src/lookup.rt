@@ -1,5 +1,5 @@
 //! The knowledge of the program of an expression, before the shelf is held.
-ghost use Rattle.std.specs.Prelude.{◌≡◌, Ok, Some, false, IfSome};
+ghost use Rattle.std.specs.Prelude.{◌≡◌, None, Ok, false, IfSome};
 ghost use Rattle.serde_json.specs.View.{view as data_of};
 ghost use Rattle.wq_clock.specs.Instance.{instance_data};
 ghost use Rattle.wq_query.specs.Meaning.{AnswersWithin};
@@ -55,8 +55,21 @@ impl Lookup {
         }
     }
 
+    /// Nothing, of an ask without an expression.
+    pub(crate) fn none() -> Lookup
+        ensures { (result.key ≡ None) × (result.program ≡ None) }
+    {
+        Lookup {
+            is_large: false,
+            stays: false,
+            key: None,
+            program: None,
+        }
+    }
+
     /// The program of a query's expression: the one that was found, or one that is compiled now, and is then also given
-    /// for the cache. There is none if the query names a program, if it would be too large, or if memory ran out.
+    /// for the cache. There is none if the query names a program, if it would be too large, or if memory ran out. A
+    /// program that stays has the form in which it is kept.
     pub(crate) fn compiled(
         self,
         alloc: Global,
@@ -70,14 +83,20 @@ impl Lookup {
         if query.program().is_some() || self.is_large {
             return (self, None);
         }
-        match found {
-            Some(program) => (self.with(program, query), None),
-            None => self.compiled_now(alloc, query),
-        }
+        let Some(program) = found else {
+            return self.compiled_now(alloc, query);
+        };
+        let lookup = Lookup {
+            is_large: self.is_large,
+            stays: self.stays,
+            key: self.key,
+            program: Some(program),
+        };
+        (lookup.kept(alloc), None)
     }
 
     /// The knowledge with the program in the form in which it is kept, if it stays. If memory runs out there is no program.
-    pub(crate) fn kept(self, alloc: Global) -> Lookup
+    fn kept(self, alloc: Global) -> Lookup
         ensures { (t : ExprData) → IsLookup t self → IsLookup t result }
     {
         if !self.stays {
@@ -110,29 +129,13 @@ impl Lookup {
             Some(key) => Compiled::new(key, query.expr(), &program),
             None => None,
         };
-        (
-            Lookup {
-                is_large,
-                stays,
-                key: None,
-                program: Some(program),
-            },
-            compiled,
-        )
-    }
-
-    /// This program, which was found under the key.
-    fn with(self, program: Arc<StoredProgram>, query: &Query) -> Lookup
-        requires lookup { IsLookup (asked_of query.now).expression self }
-        requires found { IsFoundFor self.key (Some program) }
-        ensures { IsLookup (asked_of query.now).expression result }
-    {
-        Lookup {
-            is_large: self.is_large,
-            stays: self.stays,
-            key: self.key,
+        let lookup = Lookup {
+            is_large,
+            stays,
+            key: None,
             program: Some(program),
-        }
+        };
+        (lookup.kept(alloc), compiled)
     }
 }
 

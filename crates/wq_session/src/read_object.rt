@@ -1,19 +1,28 @@
 //! The object of an ask, read before the shelf is held.
-ghost use Rattle.std.specs.Prelude.{◌≡◌, IfOk, Result, option_map};
+ghost use Rattle.std.specs.Prelude.{◌≡◌, Ok, Result, IfOk, option_map};
+ghost use Rattle.serde_json.specs.View.{view as data_of};
+ghost use Rattle.wq_clock.specs.Instance.{instance_data};
+ghost use Rattle.wq_follow.specs.Defined.{definition_data};
 ghost use Rattle.wq_follow.specs.Definition.{DefinitionData};
-ghost use Rattle.wq_query.specs.Query.{QueryData};
+ghost use Rattle.wq_query.specs.Outcome.{GivesQuery};
+ghost use Rattle.wq_query.specs.Query.{QueryData, asked_of};
+ghost use Rattle.wq_query.specs.Reading.{asks as queries};
 ghost use Rattle.wq_query.specs.declared.fault.QueryFault.{QueryFault};
 ghost use Rattle.wq_ask.specs.declared.refusal.Refusal.{Refusal};
-ghost use Rattle.wq_session.specs.Prepared.{AreRead, GivesDefined, GivesDefinedObject, GivesRead};
-ghost use Rattle.wq_session.specs.Prepared.{GivesReadObject, IsFoundFor, IsRead, IsReadAgain, IsReadTrigger, key_of_read};
+ghost use Rattle.wq_crawl.specs.At.{at_data};
+ghost use Rattle.wq_session.specs.Prepared.{GivesDefined, GivesDefinedObject, GivesRead, GivesReadObject};
+ghost use Rattle.wq_session.specs.Prepared.{IsKnown, IsLookup, IsReadAt, IsReadThere, object_in, object_query};
+ghost use Rattle.wq_session.specs.Trigger.{defined_by};
 
-use crate::read_query::ReadQuery;
-use crate::read_trigger::ReadTrigger;
+use crate::lookup::Lookup;
+use serde_json::Value;
 use std::alloc::Global;
-use std::sync::Arc;
-use wq_ask::Refusal;
-use wq_registry::{CacheKey, Compiled};
-use wq_verify::StoredProgram;
+use std::mem;
+use wq_ask::{Ask, Refusal, RootAsk};
+use wq_clock::Instance;
+use wq_crawl::At;
+use wq_follow::{Definition, TriggerFault};
+use wq_query::{Query, QueryFault};
 
 /// The object of an ask, read at the root that is looked at.
 #[derive(Drop)]
@@ -21,100 +30,141 @@ pub(crate) enum ReadObject {
     /// The ask has no object, or no view is shown to read it at.
     None,
     /// A query, or the query of a subscription.
-    Query(ReadQuery),
+    Query(Query),
     /// A trigger.
-    Trigger(ReadTrigger),
+    Trigger(Definition),
     /// The first reason to refuse the object.
     Refused(Refusal),
 }
 
 impl ReadObject {
-    /// The object of a query that was read.
-    pub(crate) fn of_query(read: Result<ReadQuery, Refusal>) -> ReadObject
-        ensures { (said : Result QueryData QueryFault) → GivesRead read said
-            → GivesReadObject said result }
+    /// The object of an ask, if it has one, and the knowledge of its program. It is read only if a view is shown.
+    #[tactic(auto, unfolding(crate::specs::Prepared::IsReadAt))]
+    pub(crate) fn read(alloc: Global, ask: &Ask, at: Option<At<'_>>) -> (ReadObject, Lookup)
+        ensures read { IsReadAt (object_in ask.now) (option_map at_data at.entry) result.0 }
+        ensures known { IsKnown result.0 result.1 }
     {
-        match read {
-            Ok(read) => ReadObject::Query(read),
-            Err(refusal) => ReadObject::Refused(refusal),
+        match at {
+            Some(
+                At {
+                    instance,
+                    view: Some(_),
+                },
+            ) => ReadObject::read_there(alloc, ask, &instance),
+            _ => (ReadObject::None, Lookup::none()),
         }
     }
 
-    /// The object of a trigger that was read.
-    pub(crate) fn of_trigger(read: Result<ReadTrigger, Refusal>) -> ReadObject
-        ensures { (said : Result DefinitionData Refusal) → GivesDefined read said
-            → GivesDefinedObject said result }
+    /// The object of an ask, if it has one, at this instance of the server, and the knowledge of its program.
+    fn read_there(alloc: Global, ask: &Ask, instance: &Instance) -> (ReadObject, Lookup)
+        ensures read { IsReadThere (object_in ask.now) (instance_data instance.now) result.0 }
+        ensures known { IsKnown result.0 result.1 }
     {
-        match read {
-            Ok(read) => ReadObject::Trigger(read),
-            Err(refusal) => ReadObject::Refused(refusal),
+        let Ask::OfRoot { what, .. } = ask else {
+            return (ReadObject::None, Lookup::none());
+        };
+        match what {
+            RootAsk::Query(object) => {
+                let query = Query::read(alloc, object, instance);
+                ReadObject::of_query(alloc, object, instance, query, false)
+            }
+            RootAsk::Subscribe { query: object, .. } => {
+                let query = Query::read_subscription(alloc, object, instance);
+                ReadObject::of_query(alloc, object, instance, query, true)
+            }
+            RootAsk::AddTrigger(object) => ReadObject::of_trigger(alloc, object, instance),
+            _ => (ReadObject::None, Lookup::none()),
         }
     }
 
-    /// Lets the object go. What drops an object is long, so it is in one place.
-    pub(crate) fn let_go(self) {}
+    /// The query that was read of an object, or the reason to refuse it; and the knowledge of its program, which may
+    /// stay.
+    fn of_query(
+        alloc: Global,
+        object: &Value,
+        instance: &Instance,
+        query: Result<Query, QueryFault>,
+        stays: bool,
+    ) -> (ReadObject, Lookup)
+        requires { IfOk query (λ query.
+            queries (instance_data instance.now) (data_of object.now) ≡ Ok (asked_of query)) }
+        ensures read { (said : Result QueryData QueryFault) → GivesQuery query said
+            → GivesReadObject said result.0 }
+        ensures known { IsKnown result.0 result.1 }
+    {
+        match query {
+            Ok(query) => {
+                let lookup = Lookup::of(alloc, object, instance, &query, stays);
+                (ReadObject::Query(query), lookup)
+            }
+            Err(QueryFault::NoMemory) => (ReadObject::Refused(Refusal::NoMemory), Lookup::none()),
+            Err(fault) => (ReadObject::Refused(Refusal::Query(fault)), Lookup::none()),
+        }
+    }
 
-    /// The query that was read, or the reason to refuse the ask. An object is not read if no view is shown.
-    pub(crate) fn query(self) -> Result<ReadQuery, Refusal>
-        requires { AreRead self }
-        ensures read { IfOk result IsRead }
-        ensures said { (said : Result QueryData QueryFault) → GivesReadObject said self
-            → GivesRead result said }
+    /// The trigger of an object, or the reason to refuse it; and the knowledge of its program, which stays.
+    fn of_trigger(alloc: Global, object: &Value, instance: &Instance) -> (ReadObject, Lookup)
+        ensures read { GivesDefinedObject (defined_by (instance_data instance.now)
+            (data_of object.now)) result.0 }
+        ensures known { IsKnown result.0 result.1 }
+    {
+        let refusal = match Definition::read(alloc, object, instance) {
+            Ok(definition) => {
+                let lookup = Lookup::of(
+                    alloc,
+                    definition.object(),
+                    instance,
+                    definition.query(),
+                    true,
+                );
+                return (ReadObject::Trigger(definition), lookup);
+            }
+            Err(TriggerFault::BadName) => Refusal::BadName,
+            Err(TriggerFault::BadShape) => Refusal::BadTrigger,
+            Err(TriggerFault::Query(fault)) => Refusal::Query(fault),
+            Err(TriggerFault::NoMemory) => Refusal::NoMemory,
+        };
+        (ReadObject::Refused(refusal), Lookup::none())
+    }
+
+    /// The query of the object, if it was read: of a trigger, the one that selects its files.
+    pub(crate) fn query(&self) -> Option<&Query>
+        ensures { option_map (λ query. asked_of query.now) result ≡ object_query self.now }
     {
         match self {
-            ReadObject::Query(read) => Ok(read),
+            ReadObject::Query(query) => Some(query),
+            ReadObject::Trigger(definition) => Some(definition.query()),
+            ReadObject::None | ReadObject::Refused(_) => None,
+        }
+    }
+
+    /// Takes the query that was read, or gives the reason to refuse the ask. An object is not read if no view is shown.
+    pub(crate) fn take_query(&mut self) -> Result<Query, Refusal>
+        ensures known { (lookup : Lookup) → IsKnown self.old lookup
+            → IfOk result (λ query. IsLookup (asked_of query).expression lookup) }
+        ensures said { (said : Result QueryData QueryFault) → GivesReadObject said self.old
+            → GivesRead result said }
+    {
+        match mem::replace(self, ReadObject::None) {
+            ReadObject::Query(query) => Ok(query),
             ReadObject::Refused(refusal) => Err(refusal),
             ReadObject::Trigger(_) | ReadObject::None => Err(Refusal::NotWatched),
         }
     }
 
-    /// The trigger that was read, or the reason to refuse the ask. An object is not read if no view is shown.
-    pub(crate) fn trigger(self) -> Result<ReadTrigger, Refusal>
-        requires { AreRead self }
-        ensures read { IfOk result IsReadTrigger }
-        ensures said { (said : Result DefinitionData Refusal) → GivesDefinedObject said self
+    /// Takes the trigger that was read, or gives the reason to refuse the ask. An object is not read if no view is
+    /// shown.
+    pub(crate) fn take_trigger(&mut self) -> Result<Definition, Refusal>
+        ensures known { (lookup : Lookup) → IsKnown self.old lookup
+            → IfOk result (λ definition.
+            IsLookup ((definition_data definition).query).expression lookup) }
+        ensures said { (said : Result DefinitionData Refusal) → GivesDefinedObject said self.old
             → GivesDefined result said }
     {
-        match self {
-            ReadObject::Trigger(read) => Ok(read),
+        match mem::replace(self, ReadObject::None) {
+            ReadObject::Trigger(definition) => Ok(definition),
             ReadObject::Refused(refusal) => Err(refusal),
             ReadObject::Query(_) | ReadObject::None => Err(Refusal::NotWatched),
-        }
-    }
-
-    /// The expression that needs a program. There is none if the object has no expression, or its key could not be
-    /// made.
-    pub(crate) fn key(&self) -> Option<&CacheKey>
-        ensures { option_map (λ key. key.now) result ≡ key_of_read self.now }
-    {
-        match self {
-            ReadObject::Query(read) => read.lookup.key.as_ref(),
-            ReadObject::Trigger(read) => read.lookup.key.as_ref(),
-            _ => None,
-        }
-    }
-
-    /// The object with the program of its expression, if it has one, and the program for the cache if it was compiled
-    /// now.
-    pub(crate) fn compiled(
-        self,
-        alloc: Global,
-        found: Option<Arc<StoredProgram>>,
-    ) -> (ReadObject, Option<Compiled>)
-        requires read { AreRead self }
-        requires found { IsFoundFor (key_of_read self) found }
-        ensures { IsReadAgain self result.0 }
-    {
-        match self {
-            ReadObject::Query(read) => {
-                let (read, compiled) = read.compiled(alloc, found);
-                (ReadObject::Query(read), compiled)
-            }
-            ReadObject::Trigger(read) => {
-                let (read, compiled) = read.compiled(alloc, found);
-                (ReadObject::Trigger(read), compiled)
-            }
-            read => (read, None),
         }
     }
 }

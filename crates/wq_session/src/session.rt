@@ -1,34 +1,28 @@
 //! A session's answer to an ask. It prepares the ask, takes it at the shelf of a desk, finishes it
 //! with the view and its own state alone, and unsets a cursor if memory ran out then.
-ghost use Rattle.std.specs.Prelude.{◌≡◌, [], Some, map, option_map};
-ghost use Rattle.wq_clock.specs.Instance.{instance_data};
+ghost use Rattle.std.specs.Prelude.{◌≡◌, [], map, option_map};
 ghost use Rattle.wq_follow.specs.Followed.{subscription_data};
-ghost use Rattle.wq_query.specs.Query.{planned};
-ghost use Rattle.wq_ask.specs.Out.{settled};
 ghost use Rattle.wq_ask.specs.Need.{need_of};
 ghost use Rattle.wq_session.specs.Answer.{CanFinish, Finishes};
 ghost use Rattle.wq_crawl.specs.At.{at_data};
-ghost use Rattle.wq_session.specs.Desk.{AnswersAt, AnswersShelf, HoldsShelf, stand};
+ghost use Rattle.wq_session.specs.Desk.{AnswersShelf, HoldsShelf, stand};
 ghost use Rattle.wq_session.specs.Followed.{follows_of};
 ghost use Rattle.wq_session.specs.Prepared.{IsPrepared, asked, asked_at};
-ghost use Rattle.wq_crawl.specs.Views.{ReadyData, root_at_data};
+ghost use Rattle.wq_crawl.specs.Views.{ReadyData};
 ghost use Rattle.wq_session.specs.Desk.{Replies};
-ghost use Rattle.wq_session.specs.Work.{evaluates, work_data};
+ghost use Rattle.wq_session.specs.Work.{work_data};
 
 use crate::command::{listed, listed_triggers};
 use crate::crawl::crawl_refusal;
 use crate::desk::Desk;
 use crate::prepared::Prepared;
 use crate::reply::printed;
-use crate::turn::Turn;
 use crate::work::{Rest, Work};
 use std::alloc::Global;
-use wq_ask::{Ask, Cursor, Out, Refusal};
-use wq_clock::Instance;
+use wq_ask::{Ask, Out};
 use wq_crawl::{At, RootAt, Views};
 use wq_follow::Subscription;
-use wq_query::{Crew, Plan};
-use wq_view::View;
+use wq_query::Crew;
 
 /// A server's record of one client: its subscriptions. An ask of a session depends on nothing else that came before.
 #[derive(Drop)]
@@ -69,8 +63,7 @@ impl Session {
         ensures { Finishes (work_data work) (option_map at_data at.entry) (follows_of self.old)
             result (follows_of self.new) }
     {
-        let Work { rest, .. } = work;
-        match rest {
+        match work.into_rest() {
             Rest::Says(mut out) => {
                 let _ = out.settle();
                 out
@@ -83,7 +76,7 @@ impl Session {
                         instance,
                         view: Some(view),
                     },
-                ) => self.list(crew, alloc, &plan, cursor, &instance, view),
+                ) => listed(crew, alloc, &plan, cursor, &instance, view),
                 _ => unreachable!(),
             },
             Rest::Begins(subscription) => match at {
@@ -97,32 +90,6 @@ impl Session {
             },
             Rest::Drops(root, name) => self.drop_called(alloc, root, &name),
         }
-    }
-
-    /// The listing of the files of a plan, of a root with this view, by a crew. The subscriptions stay.
-    fn list<C: Crew>(
-        &self,
-        crew: &C,
-        alloc: Global,
-        plan: &Plan,
-        cursor: Option<Cursor>,
-        instance: &Instance,
-        view: &View,
-    ) -> Out
-        ensures { Finishes (evaluates (planned plan.now) cursor)
-            (Some (record { instance = instance_data instance.now; view = Some view.now }))
-            (follows_of self.now) result (follows_of self.now) }
-    {
-        listed(crew, alloc, plan, cursor, instance, view)
-    }
-
-    /// The cursor to unset on the shelf: memory ran out for its reply after it was moved. The caller unsets it before
-    /// the next event.
-    pub fn settle(&self, out: &mut Out) -> Option<Cursor>
-        ensures named { result ≡ out.old.unset }
-        ensures taken { out.new ≡ settled out.old }
-    {
-        out.settle()
     }
 
     /// The whole answer to an ask. The views meet the need of the ask, and the ask is answered at the
@@ -141,32 +108,17 @@ impl Session {
     {
         let (views, ready) = views.ready(ask.need());
         match ready {
-            Ok(root) => (views, self.answer_ready(crew, alloc, ask, root, desk)),
+            Ok(root) => {
+                let at = root.as_ref().map(RootAt::at);
+                (views, self.answer_at(crew, alloc, ask, at, desk))
+            }
             Err(fault) => (views, Out::refused(alloc, crawl_refusal(fault))),
-        }
-    }
-
-    /// The answer to an ask at a root with a share of its view, or at none.
-    fn answer_ready<C: Crew, D: Desk>(
-        &mut self,
-        crew: &C,
-        alloc: Global,
-        ask: Ask,
-        root: Option<RootAt>,
-        desk: &mut D,
-    ) -> Out
-        ensures { AnswersAt (stand (D.shelf desk.old) (follows_of self.old)) ask
-            (option_map root_at_data root) result (stand (D.shelf desk.new) (follows_of self.new)) }
-    {
-        match &root {
-            Some(root) => self.answer_at(crew, alloc, ask, Some(root.at()), desk),
-            None => self.answer_at(crew, alloc, ask, None, desk),
         }
     }
 
     /// The whole answer to an ask, at a root or at none, at the shelf of a desk:
     /// [`of`](Prepared::of), [`take`](Prepared::take), [`finish`](Session::finish),
-    /// [`settle`](Session::settle), and the unsetting of the cursor that it names. The desk holds
+    /// [`settle`](Out::settle), and the unsetting of the cursor that it names. The desk holds
     /// the shelf while the ask is taken, and not while it is finished.
     #[tactic(auto, using(crate::proofs::Held::held_finish))]
     pub fn answer_at<C: Crew, D: Desk>(
@@ -182,7 +134,7 @@ impl Session {
     {
         let work = take_at(alloc, ask, at, desk);
         let mut out = self.finish(crew, alloc, work, at);
-        if let Some(cursor) = self.settle(&mut out) {
+        if let Some(cursor) = out.settle() {
             desk.unset(cursor);
         }
         out
@@ -195,7 +147,7 @@ fn take_at<D: Desk>(alloc: Global, ask: Ask, at: Option<At<'_>>, desk: &mut D) -
         (D.shelf desk.new) }
 {
     let prepared = prepare_at(alloc, ask, at, desk);
-    desk.hold(Turn::new(alloc, prepared))
+    desk.hold(prepared)
 }
 
 /// An ask with its query read. The program of the query is found at the desk, or compiled and kept
@@ -216,7 +168,7 @@ fn prepare_at<'a, D: Desk>(
         Some(key) => desk.find(key),
         None => None,
     };
-    let (prepared, compiled) = prepared.compiled(alloc, found);
+    let (prepared, compiled) = prepared.compiled(found);
     if let Some(compiled) = compiled {
         let _ = desk.keep(compiled);
     }

@@ -1,18 +1,33 @@
 //! The rest of the work of an answer, when the shelf is no longer held.
+ghost use Rattle.std.specs.Prelude.{◌≡◌};
 
+use crate::lookup::Lookup;
 use crate::plain::Plain;
+use crate::read_object::ReadObject;
 use std::sync::Arc;
 use wq_ask::{Cursor, Out, RootAsk};
 use wq_base::Text;
 use wq_follow::{ObjectText, Subscription};
 use wq_query::Plan;
 
-/// The rest of the work of an answer, and its ask if that is of a root. The object of the ask is freed when the work is
-/// finished, and not while the shelf is held.
+/// The rest of the work of an answer, and its ask if that is of a root, with what was read of it. These are freed when
+/// the work is finished, and not while the shelf is held.
 #[derive(Drop)]
 pub struct Work {
     pub(crate) rest: Rest,
     pub(crate) ask: Option<RootAsk>,
+    pub(crate) object: ReadObject,
+    pub(crate) lookup: Lookup,
+}
+
+impl Work {
+    /// The rest of the work. What was read of the ask is freed here, since what frees it is long.
+    pub(crate) fn into_rest(self) -> Rest
+        ensures { result ≡ self.rest }
+    {
+        let Work { rest, .. } = self;
+        rest
+    }
 }
 
 /// The rest of the work of an answer.

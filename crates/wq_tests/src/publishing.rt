@@ -17,8 +17,8 @@ use wq_clock::Run;
 use wq_crawl::{CrawlFault, LaneParts, LockRoots, Roots, SeatViews, SharedCrawler};
 use wq_live::{Blank, Named, Told};
 use wq_registry::{CacheKey, Compiled, Forgotten};
-use wq_serve::{LockDesk, serve};
-use wq_session::{Desk, Turn, Unset, Work};
+use wq_serve::{LockDesk, SeatViews, serve};
+use wq_session::{Desk, Prepared, Unset, Work};
 use wq_stream::{MemoryInbox, Splitter};
 use wq_verify::StoredProgram;
 
@@ -82,9 +82,9 @@ impl<N: Named, R: Wait + Drop> Desk for PublishingDesk<'_, N, R> {
         self.desk.keep(compiled)
     }
 
-    fn hold(&mut self, turn: Turn<'_>) -> Work {
+    fn hold(&mut self, prepared: Prepared<'_>) -> Work {
         publish_twice(&mut self.roots);
-        self.desk.hold(turn)
+        self.desk.hold(prepared)
     }
 
     fn unset(&mut self, cursor: Cursor) -> Unset {

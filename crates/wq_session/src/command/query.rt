@@ -9,14 +9,13 @@ ghost use Rattle.wq_registry.specs.Root.{numbered};
 ghost use Rattle.wq_session.specs.Answer.{Finishes};
 ghost use Rattle.wq_crawl.specs.At.{at_data};
 ghost use Rattle.wq_session.specs.Query.{begun_query, moved_cursor, try_query};
-ghost use Rattle.wq_session.specs.Prepared.{AreRead, IsLookup, IsRead, IsReadAt, asks_query};
+ghost use Rattle.wq_session.specs.Prepared.{IsKnown, IsLookup, IsReadAt, asks_query};
 ghost use Rattle.wq_session.specs.Shelved.{shelf_data};
 ghost use Rattle.wq_session.specs.Taking.{FindsCompiled, FindsNamed, FindsProgram, MovesCursor};
 ghost use Rattle.wq_session.specs.Work.{Begins, evaluates};
 
 use crate::lookup::Lookup;
 use crate::read_object::ReadObject;
-use crate::read_query::ReadQuery;
 use crate::shelving::swap_cursor;
 use crate::work::Rest;
 use std::alloc::{AllocError, Global};
@@ -34,42 +33,43 @@ use wq_view::View;
 /// `query`, of the root that is looked at, as it was read there.
 pub(super) fn begin_query(
     alloc: Global,
-    read: ReadObject,
+    object: &mut ReadObject,
+    lookup: &Lookup,
     at: At<'_>,
     shelf: &mut Shelf<Trigger>,
 ) -> Result<Rest, Refusal>
-    requires read { AreRead read }
+    requires known { IsKnown object.old lookup.now }
     requires watched { is_none (numbered at.instance.root shelf.old.roots) ≡ false }
-    ensures { (d : Data) → IsReadAt (asks_query d) (Some (at_data at.entry)) read
+    ensures { (d : Data) → IsReadAt (asks_query d) (Some (at_data at.entry)) object.old
         → Begins (try_query d (at_data at.entry) (shelf_data shelf.old)) (shelf_data shelf.old)
         result (shelf_data shelf.new) }
 {
     let Some(view) = at.view else {
-        read.let_go();
         return Err(Refusal::NotWatched);
     };
-    let read = read.query()?;
-    begin_read(alloc, read, at.instance.root, view.tick(), shelf)
+    let query = object.take_query()?;
+    begin_read(alloc, query, lookup, at.instance.root, view.tick(), shelf)
 }
 
 /// A query that was read, at a tick of its root.
 fn begin_read(
     alloc: Global,
-    read: ReadQuery,
+    query: Query,
+    lookup: &Lookup,
     root: u64,
     tick: u64,
     shelf: &mut Shelf<Trigger>,
 ) -> Result<Rest, Refusal>
-    requires read { IsRead read }
+    requires known { IsLookup (asked_of query).expression lookup.now }
     requires watched { is_none (numbered root shelf.old.roots) ≡ false }
-    ensures { Begins (begun_query root tick (asked_of read.query) (shelf_data shelf.old))
+    ensures { Begins (begun_query root tick (asked_of query) (shelf_data shelf.old))
         (shelf_data shelf.old) result
         (shelf_data shelf.new) }
 {
-    let program = program_for(&read.query, &read.lookup, shelf)?;
-    let cursor = cursor_of(alloc, &read.query, root)?;
-    let bound = move_cursor(&read.query, root, tick, shelf)?;
-    Ok(Rest::Evaluates(read.query.plan(bound, program), cursor))
+    let program = program_for(&query, lookup, shelf)?;
+    let cursor = cursor_of(alloc, &query, root)?;
+    let bound = move_cursor(&query, root, tick, shelf)?;
+    Ok(Rest::Evaluates(query.plan(bound, program), cursor))
 }
 
 /// The program that selects the files of a query.

@@ -6,14 +6,14 @@ ghost use Rattle.serde_json.specs.Data.{Data};
 ghost use Rattle.wq_query.specs.Query.{asked_of};
 ghost use Rattle.wq_crawl.specs.At.{at_data};
 ghost use Rattle.wq_session.specs.At.{ShelfNow};
-ghost use Rattle.wq_session.specs.Prepared.{AreRead, IsRead, IsReadAt, asks_subscription};
+ghost use Rattle.wq_session.specs.Prepared.{IsKnown, IsLookup, IsReadAt, asks_subscription};
 ghost use Rattle.wq_session.specs.Shelved.{shelf_data};
 ghost use Rattle.wq_session.specs.Subscribe.{begun_subscription, try_subscribe, try_unsubscribe};
 ghost use Rattle.wq_session.specs.Work.{Begins};
 
 use crate::command::query::program_for;
+use crate::lookup::Lookup;
 use crate::read_object::ReadObject;
-use crate::read_query::ReadQuery;
 use crate::work::Rest;
 use std::alloc::Global;
 use wq_ask::{Refusal, RootText, is_name};
@@ -21,6 +21,7 @@ use wq_base::Text;
 use wq_clock::Bound;
 use wq_crawl::At;
 use wq_follow::{Subscription, Trigger};
+use wq_query::Query;
 use wq_registry::Shelf;
 
 /// `subscribe`, of the root that is looked at, as its object was read there.
@@ -28,25 +29,24 @@ pub(super) fn begin_subscribe(
     alloc: Global,
     root: &RootText,
     name: &Text,
-    read: ReadObject,
+    object: &mut ReadObject,
+    lookup: &Lookup,
     at: At<'_>,
     shelf: &Shelf<Trigger>,
 ) -> Result<Rest, Refusal>
-    requires { AreRead read }
-    ensures { (d : Data) → IsReadAt (asks_subscription d) (Some (at_data at.entry)) read
+    requires { IsKnown object.old lookup.now }
+    ensures { (d : Data) → IsReadAt (asks_subscription d) (Some (at_data at.entry)) object.old
         → Begins (try_subscribe root.now name.now d (at_data at.entry) (shelf_data shelf.now))
         (shelf_data shelf.now) result (shelf_data shelf.now) }
 {
     let Some(_) = at.view else {
-        read.let_go();
         return Err(Refusal::NotWatched);
     };
     if !is_name(name) {
-        read.let_go();
         return Err(Refusal::BadName);
     }
-    let read = read.query()?;
-    begin_read(alloc, root, name, read, at.instance.root, shelf)
+    let query = object.take_query()?;
+    begin_read(alloc, root, name, query, lookup, at.instance.root, shelf)
 }
 
 /// A subscription to the files that a query asks for, of a root of this number.
@@ -54,20 +54,21 @@ fn begin_read(
     alloc: Global,
     root: &RootText,
     name: &Text,
-    read: ReadQuery,
+    query: Query,
+    lookup: &Lookup,
     number: u64,
     shelf: &Shelf<Trigger>,
 ) -> Result<Rest, Refusal>
-    requires { IsRead read }
-    ensures { Begins (begun_subscription root.now name.now number (asked_of read.query)
+    requires { IsLookup (asked_of query).expression lookup.now }
+    ensures { Begins (begun_subscription root.now name.now number (asked_of query)
         (shelf_data shelf.now))
         (shelf_data shelf.now) result (shelf_data shelf.now) }
 {
-    let program = program_for(&read.query, &read.lookup, shelf)?;
+    let program = program_for(&query, lookup, shelf)?;
     let root = Text::copied(alloc, root.as_str())?;
     let name = Text::copied(alloc, name.as_str())?;
-    let bound = read.query.bound().unwrap_or(Bound::Fresh);
-    let plan = read.query.plan(bound, program);
+    let bound = query.bound().unwrap_or(Bound::Fresh);
+    let plan = query.plan(bound, program);
     Ok(Rest::Begins(Subscription::new(name, root, number, plan)))
 }
 

@@ -16,7 +16,8 @@ ghost use Rattle.wq_ask.specs.declared.refusal.Refusal.TheVariants.{NoMemory, To
 ghost use Rattle.wq_ask.specs.Trigger.{trigger_deleted_reply, trigger_reply, triggers_reply};
 ghost use Rattle.wq_crawl.specs.At.{AtData, at_data};
 ghost use Rattle.wq_session.specs.Answer.{Finishes};
-ghost use Rattle.wq_session.specs.Prepared.{AreRead, IsReadAt, IsReadTrigger, asks_trigger};
+ghost use Rattle.wq_crawl.specs.At.{AtData, at_data};
+ghost use Rattle.wq_session.specs.Prepared.{IsKnown, IsLookup, IsReadAt, asks_trigger};
 ghost use Rattle.wq_session.specs.Shelved.{each, shelf_data};
 ghost use Rattle.wq_session.specs.Objects.{AreObjects};
 ghost use Rattle.wq_session.specs.Trigger.{begun_trigger, has_no_trigger_place, objects_of, put_trigger};
@@ -24,8 +25,10 @@ ghost use Rattle.wq_session.specs.Trigger.{listing_triggers, trigger_called, try
 ghost use Rattle.wq_session.specs.Work.{Begins, objects_in, prints};
 
 use crate::command::query::program_for;
+use crate::lookup::Lookup;
+use crate::plain::Plain;
 use crate::read_object::ReadObject;
-use crate::read_trigger::ReadTrigger;
+use crate::reply::printed;
 use crate::shelving::{add_trigger, has_trigger, remove_trigger, run_of};
 use crate::work::Rest;
 use serde_json::Value;
@@ -44,40 +47,40 @@ use wq_verify::StoredProgram;
 pub(super) fn begin_trigger(
     alloc: Global,
     root: &RootText,
-    read: ReadObject,
+    object: &mut ReadObject,
+    lookup: &Lookup,
     at: At<'_>,
     shelf: &mut Shelf<Trigger>,
 ) -> Result<Rest, Refusal>
-    requires read { AreRead read }
+    requires known { IsKnown object.old lookup.now }
     requires watched { is_none (numbered at.instance.root shelf.old.roots) ≡ false }
-    ensures { (d : Data) → IsReadAt (asks_trigger d) (Some (at_data at.entry)) read
+    ensures { (d : Data) → IsReadAt (asks_trigger d) (Some (at_data at.entry)) object.old
         → Begins (try_trigger root.now d (at_data at.entry) (shelf_data shelf.old))
         (shelf_data shelf.old) result (shelf_data shelf.new) }
 {
     let Some(_) = at.view else {
-        read.let_go();
         return Err(Refusal::NotWatched);
     };
-    let read = read.trigger()?;
-    begin_read(alloc, root, read, at.instance.root, shelf)
+    let definition = object.take_trigger()?;
+    begin_read(alloc, root, definition, lookup, at.instance.root, shelf)
 }
 
 /// The trigger that was read, of the root with this text and number.
 fn begin_read(
     alloc: Global,
     root: &RootText,
-    read: ReadTrigger,
+    definition: Definition,
+    lookup: &Lookup,
     number: u64,
     shelf: &mut Shelf<Trigger>,
 ) -> Result<Rest, Refusal>
-    requires read { IsReadTrigger read }
+    requires known { IsLookup ((definition_data definition).query).expression lookup.now }
     requires watched { is_none (numbered number shelf.old.roots) ≡ false }
     ensures { Begins
-        (begun_trigger root.now number (definition_data read.definition) (shelf_data shelf.old))
+        (begun_trigger root.now number (definition_data definition) (shelf_data shelf.old))
         (shelf_data shelf.old) result (shelf_data shelf.new) }
 {
-    let ReadTrigger { definition, lookup } = read;
-    let program = program_for(definition.query(), &lookup, shelf)?;
+    let program = program_for(definition.query(), lookup, shelf)?;
     let root = Text::copied(alloc, root.as_str())?;
     add(alloc, root, definition, program, number, shelf)
 }

@@ -1,6 +1,6 @@
 -- The root that is looked at is the watched one, and the object of the ask was read there.
 use Rattle.std.proofs.Common.{option_map, subst, sym}
-use Rattle.wq_session.proofs.Before.{are_read, there}
+use Rattle.wq_session.proofs.Before.{there}
 use Rattle.wq_crawl.specs.At.{at_data}
 use Rattle.wq_session.specs.Prepared.{IsReadAt, object_of}
 use Rattle.wq_session.specs.Shelved.{shelf_data}
@@ -8,8 +8,5 @@ use Rattle.wq_session.proofs.command.tried_of.Goals as goal
 
 pub tried_there-requires-clause-read : goal.tried_there-requires-clause-read
 tried_there-requires-clause-read c =
-    subst (λ a. IsReadAt (object_of c.args.what.now) a c.args.read)
-    (there c.args.root.now (option_map at_data c.args.at) (shelf_data c.args.shelf.now) (at_data c.in-Some.at) (sym c.in-Some.ensures.value)) c.requires
-
-pub tried_there-requires-clause-known : goal.tried_there-requires-clause-known
-tried_there-requires-clause-known c = are_read (object_of c.args.what.now) (option_map at_data c.args.at) c.args.read c.requires
+    subst (λ a. IsReadAt (object_of c.args.what.now) a c.args.object.now)
+    (there c.args.root.now (option_map at_data c.args.at) (shelf_data c.args.shelf.now) (at_data c.in-Some.at) (sym c.in-Some.ensures.value)) c.requires.read

@@ -11,20 +11,20 @@ use Rattle.wq_session.specs.Work.{Begins}
 use Rattle.wq_session.specs.declared.work.Rest.{Rest}
 use Rattle.wq_session.proofs.command.query.begin_query.Goals as goal
 
-pub returns-in_err-read : goal.returns-in_err-read
-returns-in_err-read c d said =
+pub returns-in_err-query : goal.returns-in_err-query
+returns-in_err-query c d said =
     let view = ap (option_map (λ view. view.now)) c.in-Some.is in
-    let is : c.from_residual.result ≡ Err c.in_err-read.field-0.0 = search rules in
+    let is : c.from_residual.result ≡ Err c.in_err-query.field-0.0 = search rules in
     subst (λ (r : Result Rest Refusal). Begins (try_query d (at_data c.args.at) (shelf_data c.args.shelf.now)) (shelf_data c.args.shelf.now) r
     (shelf_data c.args.shelf.now)) (sym is)
-    (refuses_read d (shelf_data c.args.shelf.now) (at_data c.args.at) c.in-Some.view.now view c.in_err-read.field-0.0
-    (c.in_err-read.ensures.said (queries (at_data c.args.at).instance d)
-    (object_there (asks_query d) (at_data c.args.at) c.in-Some.view.now view c.args.read said)))
+    (refuses_read d (shelf_data c.args.shelf.now) (at_data c.args.at) c.in-Some.view.now view c.in_err-query.field-0.0
+    (c.in_err-query.ensures.said (queries (at_data c.args.at).instance d)
+    (object_there (asks_query d) (at_data c.args.at) c.in-Some.view.now view c.args.object.now said)))
 
 pub returns : goal.returns
 returns c d said =
     let view = ap (option_map (λ view. view.now)) c.in-Some.is in
-    begins_read d (shelf_data c.args.shelf.now) (at_data c.args.at) c.in-Some.view.now view c.in_ok-read.read
-    (c.in_ok-read.ensures.said (queries (at_data c.args.at).instance d)
-    (object_there (asks_query d) (at_data c.args.at) c.in-Some.view.now view c.args.read said))
+    begins_read d (shelf_data c.args.shelf.now) (at_data c.args.at) c.in-Some.view.now view c.in_ok-query.query
+    (c.in_ok-query.ensures.said (queries (at_data c.args.at).instance d)
+    (object_there (asks_query d) (at_data c.args.at) c.in-Some.view.now view c.args.object.now said))
     c.tick.result c.tick.ensures.value c.begin_read.result (shelf_data c.begin_read.new.shelf) c.begin_read.ensures
