@@ -5,10 +5,10 @@ ghost use Rattle.wq_follow.specs.Followed.{subscription_data};
 ghost use Rattle.wq_ask.specs.Need.{need_of};
 ghost use Rattle.wq_session.specs.Answer.{CanFinish, Finishes};
 ghost use Rattle.wq_crawl.specs.At.{at_data};
-ghost use Rattle.wq_session.specs.Desk.{AnswersShelf, HoldsShelf, stand};
+ghost use Rattle.wq_session.specs.Desk.{AnswersAt, AnswersShelf, HoldsShelf, stand};
 ghost use Rattle.wq_session.specs.Followed.{follows_of};
 ghost use Rattle.wq_session.specs.Prepared.{IsPrepared, asked, asked_at};
-ghost use Rattle.wq_crawl.specs.Views.{ReadyData};
+ghost use Rattle.wq_crawl.specs.Views.{ReadyData, root_at_data};
 ghost use Rattle.wq_session.specs.Desk.{Replies};
 ghost use Rattle.wq_session.specs.Work.{work_data};
 
@@ -108,11 +108,26 @@ impl Session {
     {
         let (views, ready) = views.ready(ask.need());
         match ready {
-            Ok(root) => {
-                let at = root.as_ref().map(RootAt::at);
-                (views, self.answer_at(crew, alloc, ask, at, desk))
-            }
+            Ok(root) => (views, self.answer_ready(crew, alloc, ask, root, desk)),
             Err(fault) => (views, Out::refused(alloc, crawl_refusal(fault))),
+        }
+    }
+
+    /// The answer to an ask at a root with a share of its view, or at none.
+    fn answer_ready<C: Crew, D: Desk>(
+        &mut self,
+        crew: &C,
+        alloc: Global,
+        ask: Ask,
+        root: Option<RootAt>,
+        desk: &mut D,
+    ) -> Out
+        ensures { AnswersAt (stand (D.shelf desk.old) (follows_of self.old)) ask
+            (option_map root_at_data root) result (stand (D.shelf desk.new) (follows_of self.new)) }
+    {
+        match &root {
+            Some(root) => self.answer_at(crew, alloc, ask, Some(root.at()), desk),
+            None => self.answer_at(crew, alloc, ask, None, desk),
         }
     }
 

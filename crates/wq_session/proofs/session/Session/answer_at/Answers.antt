@@ -12,10 +12,10 @@ finish-out-requires g c = held_finish _ _ c.args.ask (option_map at_data c.args.
 pub returns-in-Some : goal.returns-in-Some
 returns-in-Some g c =
     unset_answer c.args.ask (option_map at_data c.args.at) (follows_of c.args.self.now) _ (work_data c.take_at-work.result) c.finish-out.result
-    c.settle.new.out _ _ _ c.in-Some.cursor c.take_at-work.ensures c.finish-out.ensures c.settle.ensures.taken (sym c.in-Some.ensures.named)
+    c.settle.new.self _ _ _ c.in-Some.cursor c.take_at-work.ensures c.finish-out.ensures c.settle.ensures.taken (sym c.in-Some.ensures.named)
     c.unset.ensures.unset
 
 pub returns-in_default : goal.returns-in_default
 returns-in_default g c =
     kept_answer c.args.ask (option_map at_data c.args.at) (follows_of c.args.self.now) _ (work_data c.take_at-work.result) c.finish-out.result
-    c.settle.new.out _ _ c.take_at-work.ensures c.finish-out.ensures c.settle.ensures.taken (sym c.settle.ensures.named ∙ c.in_default.is)
+    c.settle.new.self _ _ c.take_at-work.ensures c.finish-out.ensures c.settle.ensures.taken (sym c.settle.ensures.named ∙ c.in_default.is)
