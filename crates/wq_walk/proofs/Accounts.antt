@@ -7,7 +7,7 @@ use Rattle.wq_record.specs.Seen.{SeenData, Stat}
 use Rattle.wq_record.specs.declared.kind.Kind.TheVariants.{Dir}
 use Rattle.wq_walk.specs.declared.part.Part.{Part}
 use Rattle.wq_walk.specs.Part.{is_in}
-use Rattle.wq_walk.specs.Told.{GivesStat, Has, HasEntries}
+use Rattle.wq_walk.specs.Told.{GivesEntries, GivesStat, Has, HasEntries}
 use Rattle.wq_walk.specs.Accounts.{AnyOf, IsAccountedFor, IsAmongRead, IsOneOf, IsRowOfPath, NamesAreAccountedFor, ReadData, RowsAreOfPaths, WasRead}
 use Rattle.wq_walk.specs.Walk.{AreSteps, DirectoryData, HasNoneBelow, IsDone, IsEntered, IsLooked, IsPassedOver, IsStep, WalkData, after_look, fresh, name_of_path, row_with_stat, rows_of_file}
 
@@ -87,12 +87,12 @@ rows_are_of_paths says has root part rows (names, read, (steps, last, leads, don
     (([], sym (append-nil root)), All-nil (Below root), All-nil (IsRowOfPath says root part)) leads).2
 
 -- a fact of some item of a list holds of some item of a longer one
-any_left : {X : Type 0} (P : X → Type 0) (xs ys : List X) → AnyOf P xs → AnyOf P (xs ++ ys)
+pub any_left : {X : Type 0} (P : X → Type 0) (xs ys : List X) → AnyOf P xs → AnyOf P (xs ++ ys)
 any_left P [] ys none = absurd none
 any_left P (x ∷ xs) ys (inl p) = inl p
 any_left P (x ∷ xs) ys (inr a) = inr (any_left P xs ys a)
 
-any_right : {X : Type 0} (P : X → Type 0) (xs ys : List X) → AnyOf P ys → AnyOf P (xs ++ ys)
+pub any_right : {X : Type 0} (P : X → Type 0) (xs ys : List X) → AnyOf P ys → AnyOf P (xs ++ ys)
 any_right P [] ys a = a
 any_right P (x ∷ xs) ys a = inr (any_right P xs ys a)
 
@@ -108,7 +108,7 @@ any_split P (x ∷ xs) ys (inr a) = further (any_split P xs ys a)
     further (inr a) = inr a
 
 -- a fact of some item of a list and one more
-any_last : {X : Type 0} (P : X → Type 0) (xs : List X) (x : X) → AnyOf P (xs ++ (x ∷ []))
+pub any_last : {X : Type 0} (P : X → Type 0) (xs : List X) (x : X) → AnyOf P (xs ++ (x ∷ []))
     → AnyOf P xs ⊎ P x
 any_last P xs x a = only (any_split P xs (x ∷ []) a)
   where
@@ -117,75 +117,87 @@ any_last P xs x a = only (any_split P xs (x ∷ []) a)
     only (inr (inl p)) = inr p
     only (inr (inr none)) = absurd none
 
-any_map : {X : Type 0} (P Q : X → Type 0) → ((x : X) → P x → Q x) → (xs : List X) → AnyOf P xs → AnyOf Q xs
+pub any_map : {X : Type 0} (P Q : X → Type 0) → ((x : X) → P x → Q x) → (xs : List X) → AnyOf P xs → AnyOf Q xs
 any_map P Q f [] none = absurd none
 any_map P Q f (x ∷ xs) (inl p) = inl (f x p)
 any_map P Q f (x ∷ xs) (inr a) = inr (any_map P Q f xs a)
 
 -- a path is one of a directory and one of these names there
-abbrev IsIn : List ℕ → List (List ℕ) → List ℕ → Type 0
+abbrev pub IsIn : List ℕ → List (List ℕ) → List ℕ → Type 0
 IsIn directory names path = AnyOf (λ name. path ≡ directory ++ name) names
 
 -- a path at which a walk has not looked yet, and one that it enters later
-abbrev Left : WalkData → List ℕ → Type 0
+abbrev pub Left : WalkData → List ℕ → Type 0
 Left w path =
     IsIn w.here.path w.here.left path ⊎ AnyOf (λ (d : DirectoryData). IsIn d.path d.left path) w.above
 
-abbrev Waits : WalkData → List ℕ → Type 0
+abbrev pub Waits : WalkData → List ℕ → Type 0
 Waits w path =
     IsIn w.here.path w.here.waiting path ⊎ AnyOf (λ (d : DirectoryData). IsIn d.path d.waiting path) w.above
 
--- what is known of a directory at a path: no name below it is in the part, it was read, or it waits
-abbrev Entered : ℕ → Part → WalkData → List ReadData → List ℕ → Type 0
-Entered root_len part w read path =
+-- the paths of the directories that a glance kept in place of reading them, beside the rows that it
+-- lists
+abbrev pub Kept : Type 1
+Kept = List SeenData → List ℕ → Type 0
+
+-- what is kept stays so if rows come
+abbrev pub StaysKept : Kept → Type 0
+StaysKept kept = (rows more : List SeenData) (path : List ℕ) → kept rows path → kept (rows ++ more) path
+
+-- what is known of a directory at a path: no name below it is in the part, it was kept or read, or it
+-- waits
+abbrev pub Entered : Kept → ℕ → Part → WalkData → List ReadData → List ℕ → Type 0
+Entered kept root_len part w read path =
     HasNoneBelow part (name_of_path root_len path)
-    ⊎ (IsAmongRead read (path ++ (byte "/" ∷ [])) ⊎ Waits w path)
+    ⊎ (kept w.rows path ⊎ (IsAmongRead read (path ++ (byte "/" ∷ [])) ⊎ Waits w path))
 
 -- what is known of a path in the midst of a walk
-abbrev Known : GivesStat → ℕ → Part → WalkData → List ReadData → List ℕ → Type 0
-Known says root_len part w read path =
+abbrev pub Known : Kept → GivesStat → ℕ → Part → WalkData → List ReadData → List ℕ → Type 0
+Known kept says root_len part w read path =
     Left w path ⊎ (IsPassedOver says part path (name_of_path root_len path)
     ⊎ ((stat : Stat) × says path (Some stat)
     × (IsTrue (is_in part (name_of_path root_len path))
     → IsOneOf (row_with_stat (name_of_path root_len path) stat) w.rows)
-    × (stat.kind ≡ Dir → Entered root_len part w read path)))
+    × (stat.kind ≡ Dir → Entered kept root_len part w read path)))
 
 -- what was known of a path before a step, after it
-carry : (says : GivesStat) (root_len : ℕ) (part : Part) (before after : WalkData) (read more : List ReadData)
-    (path : List ℕ) → (Left before path → Known says root_len part after more path)
-    → (Waits before path → IsAmongRead more (path ++ (byte "/" ∷ [])) ⊎ Waits after path)
+pub carry : (kept : Kept) (says : GivesStat) (root_len : ℕ) (part : Part) (before after : WalkData) (read more : List ReadData)
+    (path : List ℕ) → (Left before path → Known kept says root_len part after more path)
+    → (Waits before path → kept after.rows path ⊎ (IsAmongRead more (path ++ (byte "/" ∷ [])) ⊎ Waits after path))
     → (IsAmongRead read (path ++ (byte "/" ∷ [])) → IsAmongRead more (path ++ (byte "/" ∷ [])))
     → ((row : SeenData) → IsOneOf row before.rows → IsOneOf row after.rows)
-    → Known says root_len part before read path → Known says root_len part after more path
-carry says root_len part before after read more path left waits reads rows (inl is) = left is
-carry says root_len part before after read more path left waits reads rows (inr (inl over)) = inr (inl over)
-carry says root_len part before after read more path left waits reads rows (inr (inr (stat, told, listed, entered))) =
+    → (kept before.rows path → kept after.rows path)
+    → Known kept says root_len part before read path → Known kept says root_len part after more path
+carry kept says root_len part before after read more path left waits reads rows keeps (inl is) = left is
+carry kept says root_len part before after read more path left waits reads rows keeps (inr (inl over)) = inr (inl over)
+carry kept says root_len part before after read more path left waits reads rows keeps (inr (inr (stat, told, listed, entered))) =
     inr (inr (stat, told, (λ within. rows _ (listed within)), λ kind. further (entered kind)))
   where
-    further : Entered root_len part before read path → Entered root_len part after more path
+    further : Entered kept root_len part before read path → Entered kept root_len part after more path
     further (inl none) = inl none
-    further (inr (inl was)) = inr (inl (reads was))
-    further (inr (inr wait)) = inr (waits wait)
+    further (inr (inl is)) = inr (inl (keeps is))
+    further (inr (inr (inl was))) = inr (inr (inl (reads was)))
+    further (inr (inr (inr wait))) = inr (waits wait)
 
 -- the directories that were read account for all names, as far as the walk has come
-abbrev Accounts : GivesStat → Has → List ℕ → Part → WalkData → Type 0
-Accounts says has root part w =
+abbrev pub Accounts : Kept → GivesStat → Has → List ℕ → Part → WalkData → Type 0
+Accounts kept says has root part w =
     (read : List ReadData) × IsAmongRead read root
     × ((d : ReadData) → IsOneOf d read → WasRead has root d)
     × ((d : ReadData) → IsOneOf d read → (name : List ℕ) → IsOneOf name d.names
-    → Known says (length root) part w read (d.path ++ name))
+    → Known kept says (length root) part w read (d.path ++ name))
 
 -- what is known of the path of a look
-look_known : (says : GivesStat) (root_len : ℕ) (part : Part) (before : WalkData) (read : List ReadData)
+look_known : (kept : Kept) (says : GivesStat) (root_len : ℕ) (part : Part) (before : WalkData) (read : List ReadData)
     (name : List ℕ) (left : List (List ℕ)) (added : List SeenData) (enters : Bool)
     → IsLooked says root_len part (before.here.path ++ name) added enters
-    → Known says root_len part (record {
+    → Known kept says root_len part (record {
       above = before.above;
       here = after_look before.here left name enters;
       rows = before.rows ++ added;
     }) read (before.here.path ++ name)
-look_known says root_len part before read name left added enters (inl (over, none, not)) = inr (inl over)
-look_known says root_len part before read name left added enters (inr (stat, told, are, entered)) =
+look_known kept says root_len part before read name left added enters (inl (over, none, not)) = inr (inl over)
+look_known kept says root_len part before read name left added enters (inr (stat, told, are, entered)) =
     inr (inr (stat, told, listed, goes enters entered))
   where
     path : List ℕ
@@ -200,13 +212,13 @@ look_known says root_len part before read name left added enters (inr (stat, tol
         (subst (IsOneOf row) (sym (are ∙ ap (λ b. if b then row ∷ [] else []) within)) (inl refl))
 
     goes : (b : Bool) → IsEntered part (name_of_path root_len path) stat b → stat.kind ≡ Dir
-        → Entered root_len part (record {
+        → Entered kept root_len part (record {
           above = before.above;
           here = after_look before.here left name b;
           rows = before.rows ++ added;
         }) read path
     goes true entered kind =
-        inr (inr (inl (any_right (λ n. path ≡ before.here.path ++ n) before.here.waiting (name ∷ []) (inl refl))))
+        inr (inr (inr (inl (any_right (λ n. path ≡ before.here.path ++ n) before.here.waiting (name ∷ []) (inl refl)))))
     goes false entered kind = inl (entered kind)
 
 -- a path that waited before a look still waits
@@ -220,24 +232,24 @@ look_waits before name left rows true path (inr is) = inr is
 look_waits before name left rows false path (inr is) = inr is
 
 -- a look accounts for its name
-account_look : (says : GivesStat) (has : Has) (root : List ℕ) (part : Part) (before : WalkData) (name : List ℕ)
+account_look : (kept : Kept) (still : StaysKept kept) (says : GivesStat) (has : Has) (root : List ℕ) (part : Part) (before : WalkData) (name : List ℕ)
     (left : List (List ℕ)) (added : List SeenData) (enters : Bool)
     → before.here.left ≡ left ++ (name ∷ [])
     → IsLooked says (length root) part (before.here.path ++ name) added enters
-    → Accounts says has root part before
-    → Accounts says has root part (record {
+    → Accounts kept says has root part before
+    → Accounts kept says has root part (record {
       above = before.above;
       here = after_look before.here left name enters;
       rows = before.rows ++ added;
     })
-account_look says has root part before name left added enters next look (read, top, was, known) = (
+account_look kept still says has root part before name left added enters next look (read, top, was, known) = (
   read,
   top,
   was,
   λ d one n among.
-      carry says (length root) part before after read read (d.path ++ n) (from (d.path ++ n))
-      (λ wait. inr (look_waits before name left (before.rows ++ added) enters (d.path ++ n) wait)) (λ is. is)
-      (λ row is. any_left (λ (y : SeenData). y ≡ row) before.rows added is) (known d one n among),
+      carry kept says (length root) part before after read read (d.path ++ n) (from (d.path ++ n))
+      (λ wait. inr (inr (look_waits before name left (before.rows ++ added) enters (d.path ++ n) wait))) (λ is. is)
+      (λ row is. any_left (λ (y : SeenData). y ≡ row) before.rows added is) (still before.rows added (d.path ++ n)) (known d one n among),
 )
   where
     after : WalkData
@@ -249,28 +261,28 @@ account_look says has root part before name left added enters next look (read, t
 
     at : (path : List ℕ)
         → IsIn before.here.path left path ⊎ (path ≡ before.here.path ++ name)
-        → Known says (length root) part after read path
+        → Known kept says (length root) part after read path
     at path (inl is) = inl (inl is)
     at path (inr is) =
-        subst (Known says (length root) part after read) (sym is)
-        (look_known says (length root) part before read name left added enters look)
+        subst (Known kept says (length root) part after read) (sym is)
+        (look_known kept says (length root) part before read name left added enters look)
 
-    from : (path : List ℕ) → Left before path → Known says (length root) part after read path
+    from : (path : List ℕ) → Left before path → Known kept says (length root) part after read path
     from path (inl is) =
         at path (any_last (λ n. path ≡ before.here.path ++ n) left name
         (subst (λ names. IsIn before.here.path names path) next is))
     from path (inr is) = inl (inr is)
 
 -- to enter a directory keeps all accounts
-account_enter : (says : GivesStat) (has : Has) (root : List ℕ) (part : Part) (before : WalkData) (name : List ℕ)
+account_enter : (kept : Kept) (says : GivesStat) (has : Has) (root : List ℕ) (part : Part) (before : WalkData) (name : List ℕ)
     (waiting names : List (List ℕ)) → before.here.waiting ≡ waiting ++ (name ∷ [])
-    → HasEntries has (before.here.path ++ name) names → Accounts says has root part before
-    → Accounts says has root part (record {
+    → HasEntries has (before.here.path ++ name) names → Accounts kept says has root part before
+    → Accounts kept says has root part (record {
       above = before.above ++ (record before.here { waiting = waiting } ∷ []);
       here = fresh (before.here.path ++ name ++ (byte "/" ∷ [])) names;
       rows = before.rows;
     })
-account_enter says has root part before name waiting names next told (read, top, was, known) =
+account_enter kept says has root part before name waiting names next told (read, top, was, known) =
     (new ∷ read, (top.0, inr top.1), all, λ d one n among. of d one n among)
   where
     new : ReadData
@@ -290,7 +302,7 @@ account_enter says has root part before name waiting names next told (read, top,
     all d (inl is) = subst (WasRead has root) is (inr (before.here.path ++ name, refl, told))
     all d (inr one) = was d one
 
-    from : (path : List ℕ) → Left before path → Known says (length root) part after (new ∷ read) path
+    from : (path : List ℕ) → Left before path → Known kept says (length root) part after (new ∷ read) path
     from path (inl is) = inl (inr (any_right (λ (d : DirectoryData). IsIn d.path d.left path) before.above (over ∷ []) (inl is)))
     from path (inr is) = inl (inr (any_left (λ (d : DirectoryData). IsIn d.path d.left path) before.above (over ∷ []) is))
 
@@ -308,26 +320,27 @@ account_enter says has root part before name waiting names next told (read, top,
         inr (inr (any_left (λ (d : DirectoryData). IsIn d.path d.waiting path) before.above (over ∷ []) is))
 
     of : (d : ReadData) → IsOneOf d (new ∷ read) → (n : List ℕ) → IsOneOf n d.names
-        → Known says (length root) part after (new ∷ read) (d.path ++ n)
+        → Known kept says (length root) part after (new ∷ read) (d.path ++ n)
     of d (inl is) n among =
-        subst (λ (e : ReadData). IsOneOf n e.names → Known says (length root) part after (new ∷ read) (e.path ++ n)) is
+        subst (λ (e : ReadData). IsOneOf n e.names → Known kept says (length root) part after (new ∷ read) (e.path ++ n)) is
         (λ one. inl (inl (any_map (λ m. m ≡ n) (λ m. new.path ++ n ≡ new.path ++ m) (λ m e. ap (λ k. new.path ++ k) (sym e)) names one)))
         among
     of d (inr one) n among =
-        carry says (length root) part before after read (new ∷ read) (d.path ++ n) (from (d.path ++ n))
-        (waits (d.path ++ n)) (λ is. (is.0, inr is.1)) (λ row is. is) (known d one n among)
+        carry kept says (length root) part before after read (new ∷ read) (d.path ++ n) (from (d.path ++ n))
+        (λ wait. inr (waits (d.path ++ n) wait)) (λ is. (is.0, inr is.1)) (λ row is. is) (λ is. is) (known d one n among)
 
 -- so does to leave one
-account_leave : (says : GivesStat) (has : Has) (root : List ℕ) (part : Part) (before after : WalkData)
+account_leave : (kept : Kept) (says : GivesStat) (has : Has) (root : List ℕ) (part : Part) (before after : WalkData)
     → IsDone before.here → before.above ≡ after.above ++ (after.here ∷ []) → after.rows ≡ before.rows
-    → Accounts says has root part before → Accounts says has root part after
-account_leave says has root part before after (none, still) up same (read, top, was, known) = (
+    → Accounts kept says has root part before → Accounts kept says has root part after
+account_leave kept says has root part before after (none, still) up same (read, top, was, known) = (
   read,
   top,
   was,
   λ d one n among.
-      carry says (length root) part before after read read (d.path ++ n) (λ is. inl (left (d.path ++ n) is))
-      (λ is. inr (waits (d.path ++ n) is)) (λ is. is) (λ row is. subst (IsOneOf row) (sym same) is)
+      carry kept says (length root) part before after read read (d.path ++ n) (λ is. inl (left (d.path ++ n) is))
+      (λ is. inr (inr (waits (d.path ++ n) is))) (λ is. is) (λ row is. subst (IsOneOf row) (sym same) is)
+      (λ is. subst (λ rows. kept rows (d.path ++ n)) (sym same) is)
       (known d one n among),
 )
   where
@@ -348,52 +361,60 @@ account_leave says has root part before after (none, still) up same (read, top, 
         (subst (AnyOf (λ (d : DirectoryData). IsIn d.path d.waiting path)) up is))
 
 -- each step keeps all accounts
-account_step : (says : GivesStat) (has : Has) (root : List ℕ) (part : Part) (before after : WalkData)
-    → Accounts says has root part before → IsStep says has (length root) part before after
-    → Accounts says has root part after
-account_step says has root part before after all (inl (name, left, added, enters, next, look, is)) =
-    subst (Accounts says has root part) (sym is)
-    (account_look says has root part before name left added enters next look all)
-account_step says has root part before after all (inr (inl (name, waiting, names, next, told, is))) =
-    subst (Accounts says has root part) (sym is)
-    (account_enter says has root part before name waiting names next told all)
-account_step says has root part before after all (inr (inr (done, up, same))) =
-    account_leave says has root part before after done up same all
+pub account_step : (kept : Kept) (still : StaysKept kept) (says : GivesStat) (has : Has) (root : List ℕ) (part : Part) (before after : WalkData)
+    → Accounts kept says has root part before → IsStep says has (length root) part before after
+    → Accounts kept says has root part after
+account_step kept still says has root part before after all (inl (name, left, added, enters, next, look, is)) =
+    subst (Accounts kept says has root part) (sym is)
+    (account_look kept still says has root part before name left added enters next look all)
+account_step kept still says has root part before after all (inr (inl (name, waiting, names, next, told, is))) =
+    subst (Accounts kept says has root part) (sym is)
+    (account_enter kept says has root part before name waiting names next told all)
+account_step kept still says has root part before after all (inr (inr (done, up, same))) =
+    account_leave kept says has root part before after done up same all
 
-account_steps : (says : GivesStat) (has : Has) (root : List ℕ) (part : Part) (n : ℕ) (before after : WalkData)
-    → Accounts says has root part before → AreSteps says has (length root) part n before after
-    → Accounts says has root part after
+account_steps : (kept : Kept) (still : StaysKept kept) (says : GivesStat) (has : Has) (root : List ℕ) (part : Part) (n : ℕ) (before after : WalkData)
+    → Accounts kept says has root part before → AreSteps says has (length root) part n before after
+    → Accounts kept says has root part after
 unfolding AreSteps
-account_steps says has root part zero before after all is = subst (Accounts says has root part) (sym is) all
-account_steps says has root part (suc n) before after all (mid, leads, one) =
-    account_step says has root part mid after (account_steps says has root part n before mid all leads) one
+account_steps kept still says has root part zero before after all is = subst (Accounts kept says has root part) (sym is) all
+account_steps kept still says has root part (suc n) before after all (mid, leads, one) =
+    account_step kept still says has root part mid after (account_steps kept still says has root part n before mid all leads) one
+
+-- what is known of a path at the end
+abbrev pub IsEnded : Kept → GivesStat → ℕ → Part → List ReadData → List SeenData → List ℕ → Type 0
+IsEnded kept says root_len part read rows path =
+    IsPassedOver says part path (name_of_path root_len path)
+    ⊎ ((stat : Stat) × says path (Some stat)
+    × (IsTrue (is_in part (name_of_path root_len path))
+    → IsOneOf (row_with_stat (name_of_path root_len path) stat) rows)
+    × (stat.kind ≡ Dir → HasNoneBelow part (name_of_path root_len path)
+    ⊎ (kept rows path ⊎ IsAmongRead read (path ++ (byte "/" ∷ [])))))
 
 -- at the end nothing is left and nothing waits
-account_end : (says : GivesStat) (root_len : ℕ) (part : Part) (last : DirectoryData) (rows : List SeenData)
+pub account_end : (kept : Kept) (says : GivesStat) (root_len : ℕ) (part : Part) (last : DirectoryData) (rows : List SeenData)
     (read : List ReadData) (path : List ℕ) → IsDone last
-    → Known says root_len part (record { above = []; here = last; rows = rows }) read path
-    → IsAccountedFor says root_len part read rows path
-account_end says root_len part last rows read path (none, still) (inl (inl is)) =
+    → Known kept says root_len part (record { above = []; here = last; rows = rows }) read path
+    → IsEnded kept says root_len part read rows path
+account_end kept says root_len part last rows read path (none, still) (inl (inl is)) =
     absurd (subst (λ names. IsIn last.path names path) none is)
-account_end says root_len part last rows read path (none, still) (inl (inr is)) = absurd is
-account_end says root_len part last rows read path (none, still) (inr (inl over)) = inl over
-account_end says root_len part last rows read path (none, still) (inr (inr (stat, told, listed, entered))) =
+account_end kept says root_len part last rows read path (none, still) (inl (inr is)) = absurd is
+account_end kept says root_len part last rows read path (none, still) (inr (inl over)) = inl over
+account_end kept says root_len part last rows read path (none, still) (inr (inr (stat, told, listed, entered))) =
     inr (stat, told, listed, λ kind. further (entered kind))
   where
-    further : Entered root_len part (record { above = []; here = last; rows = rows }) read path
-        → HasNoneBelow part (name_of_path root_len path) ⊎ IsAmongRead read (path ++ (byte "/" ∷ []))
+    further : Entered kept root_len part (record { above = []; here = last; rows = rows }) read path
+        → HasNoneBelow part (name_of_path root_len path) ⊎ (kept rows path ⊎ IsAmongRead read (path ++ (byte "/" ∷ [])))
     further (inl none) = inl none
-    further (inr (inl was)) = inr was
-    further (inr (inr (inl is))) = absurd (subst (λ names. IsIn last.path names path) still is)
-    further (inr (inr (inr is))) = absurd is
+    further (inr (inl is)) = inr (inl is)
+    further (inr (inr (inl was))) = inr (inr was)
+    further (inr (inr (inr (inl is)))) = absurd (subst (λ names. IsIn last.path names path) still is)
+    further (inr (inr (inr (inr is)))) = absurd is
 
--- a walk accounts for each name of each directory that it read
-pub names_are_accounted_for : (says : GivesStat) (has : Has) → NamesAreAccountedFor says has
-names_are_accounted_for says has root part rows (names, read, (steps, last, leads, done)) =
-    let all = account_steps says has root part steps (record { above = []; here = fresh root names; rows = [] })
-    (record { above = []; here = last; rows = rows })
-    (top ∷ [], (names, inl refl), first, begun) leads in
-    (all.0, all.1, all.2, λ d one n among. account_end says (length root) part last rows all.0 (d.path ++ n) done (all.3 d one n among))
+-- a walk begins with the names in the root's directory
+pub account_first : (kept : Kept) (says : GivesStat) (has : Has) (root : List ℕ) (part : Part) (names : List (List ℕ))
+    → GivesEntries has root names → Accounts kept says has root part (record { above = []; here = fresh root names; rows = [] })
+account_first kept says has root part names read = (top ∷ [], (names, inl refl), first, begun)
   where
     top : ReadData
     top = record { path = root; names = names }
@@ -403,9 +424,31 @@ names_are_accounted_for says has root part rows (names, read, (steps, last, lead
     first d (inr none) = absurd none
 
     begun : (d : ReadData) → IsOneOf d (top ∷ []) → (n : List ℕ) → IsOneOf n d.names
-        → Known says (length root) part (record { above = []; here = fresh root names; rows = [] }) (top ∷ []) (d.path ++ n)
+        → Known kept says (length root) part (record { above = []; here = fresh root names; rows = [] }) (top ∷ []) (d.path ++ n)
     begun d (inl is) n among =
-        subst (λ (e : ReadData). IsOneOf n e.names → Known says (length root) part (record { above = []; here = fresh root names; rows = [] }) (top ∷ []) (e.path ++ n)) is
+        subst (λ (e : ReadData). IsOneOf n e.names → Known kept says (length root) part (record { above = []; here = fresh root names; rows = [] }) (top ∷ []) (e.path ++ n)) is
         (λ one. inl (inl (any_map (λ m. m ≡ n) (λ m. root ++ n ≡ root ++ m) (λ m e. ap (λ k. root ++ k) (sym e)) names one)))
         among
     begun d (inr none) n among = absurd none
+
+-- a walk keeps no directory
+abbrev none_kept : Kept
+none_kept rows path = ⊥
+
+-- a walk accounts for each name of each directory that it read
+pub names_are_accounted_for : (says : GivesStat) (has : Has) → NamesAreAccountedFor says has
+names_are_accounted_for says has root part rows (names, read, (steps, last, leads, done)) =
+    let all = account_steps none_kept (λ rows more path is. is) says has root part steps (record { above = []; here = fresh root names; rows = [] })
+    (record { above = []; here = last; rows = rows }) (account_first none_kept says has root part names read) leads in
+    (all.0, all.1, all.2, λ d one n among. of (d.path ++ n) all.0 (account_end none_kept says (length root) part last rows all.0 (d.path ++ n) done (all.3 d one n among)))
+  where
+    of : (path : List ℕ) (among : List ReadData) → IsEnded none_kept says (length root) part among rows path
+        → IsAccountedFor says (length root) part among rows path
+    of path among (inl over) = inl over
+    of path among (inr (stat, told, listed, entered)) = inr (stat, told, listed, λ kind. read_only (entered kind))
+      where
+        read_only : HasNoneBelow part (name_of_path (length root) path) ⊎ (⊥ ⊎ IsAmongRead among (path ++ (byte "/" ∷ [])))
+            → HasNoneBelow part (name_of_path (length root) path) ⊎ IsAmongRead among (path ++ (byte "/" ∷ []))
+        read_only (inl none) = inl none
+        read_only (inr (inl none)) = absurd none
+        read_only (inr (inr was)) = inr was

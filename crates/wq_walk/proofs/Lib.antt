@@ -19,3 +19,4 @@ mod Glancing
 mod GlanceRows
 mod Joined
 mod GlanceSeen
+mod GlanceAccounts

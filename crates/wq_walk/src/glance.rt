@@ -14,13 +14,14 @@ ghost use Rattle.wq_record.specs.Seen.{is_lawful_row};
 ghost use Rattle.wq_record.specs.declared.kind.Kind.TheVariants.{Dir};
 ghost use Rattle.wq_walk.specs.Directory.{data_of, walk_of};
 ghost use Rattle.wq_walk.specs.Found.{found_rows};
+ghost use Rattle.wq_walk.specs.Accounts.{IsOneOf};
 ghost use Rattle.wq_walk.specs.Glance.{GlanceEnds, IsGlance, IsGlanceStep, IsGlancedAt};
-ghost use Rattle.wq_walk.specs.Glance.{IsKnownDirectory};
+ghost use Rattle.wq_walk.specs.Glance.{IsUnchanged, ListAll, ListsAt};
 ghost use Rattle.wq_walk.specs.Listed.{IsRooted, IsUnread};
 ghost use Rattle.wq_walk.specs.Part.{whole_part};
 ghost use Rattle.wq_walk.specs.Tiles.{piece_records};
 ghost use Rattle.wq_walk.specs.Told.{HasStat, IsFailure, IsRootFault};
-ghost use Rattle.wq_walk.specs.Walk.{IsDone, name_of_path};
+ghost use Rattle.wq_walk.specs.Walk.{IsDone, name_of_path, row_with_stat};
 
 use crate::directory::{Directory, Step};
 use crate::disk::Disk;
@@ -29,7 +30,8 @@ use crate::path::with_slash;
 use crate::piece::whole_piece;
 use crate::progress::Progress;
 use crate::rows::Rows;
-use crate::sweep::changed_directories;
+use crate::stat::Stat;
+use crate::sweep::{changed_directories, is_as};
 use crate::walk::Walk;
 use crate::walkers::Walkers;
 use std::alloc::{AllocError, Global};
@@ -37,7 +39,7 @@ use std::str;
 use std::thread::Threads;
 use std::time::CpuClock;
 use wq_crawl::{Listing, TreeFault};
-use wq_view::{Kind, Reach, Recent, Record, Seen, View};
+use wq_view::{Kind, Reach, Recent, Record, View};
 
 /// A glance that has not ended yet.
 #[derive(Drop)]
@@ -48,9 +50,9 @@ struct Glance<'a, 'p> {
     /// The names of the directories that were not as the last view has them before the glance began, and of those above
     /// them, rising, if the glance looks so far.
     swept: Vec<&'a [u8]>,
-    /// The names of the directories that the glance found to be not as the last view has them. They rise if the tree
+    /// The places of the records of directories that the glance listed just as these records say. They rise if the tree
     /// does not change meanwhile.
-    changed: Vec<Vec<u8>>,
+    unchanged: Vec<usize>,
     ghost part: { walk.rows.piece.part ≡ whole_part },
     ghost whole: { piece_records walk.rows.piece ≡ last.now.records },
 }
@@ -117,7 +119,7 @@ fn rows_seen<'a, D: Disk>(
         last,
         recent,
         swept,
-        changed: Vec::new(alloc),
+        unchanged: Vec::new(alloc),
     };
     glance.run(disk, top)?;
     let Glance { walk, .. } = glance;
@@ -154,6 +156,8 @@ fn listing_of(alloc: Global, last: &View, rows: Rows<'_>) -> Result<Listing, Tre
 impl<'a> Glance<'a, '_> {
     /// Continues from a directory to the end.
     fn run<D: Disk>(&mut self, disk: &D, mut here: Directory) -> Result<(), TreeFault>
+        requires { ListAll self.old.last.now.records (found_rows self.old.walk.rows.found)
+            self.old.unchanged.items }
         ensures last { self.new.last.now ≡ self.old.last.now }
         ensures recent { self.new.recent.now ≡ self.old.recent.now }
         ensures ends { OnOk result (GlanceEnds (D.says disk.now) (D.has disk.now)
@@ -173,6 +177,10 @@ impl<'a> Glance<'a, '_> {
 
     /// Does the next step in the directory in which the glance is, and returns whether there was one.
     fn take<D: Disk>(&mut self, disk: &D, here: &mut Directory) -> Result<bool, TreeFault>
+        requires { ListAll self.old.last.now.records (found_rows self.old.walk.rows.found)
+            self.old.unchanged.items }
+        ensures unchanged { OnOk result (ListAll self.old.last.now.records
+            (found_rows self.new.walk.rows.found) self.new.unchanged.items) }
         ensures last { self.new.last.now ≡ self.old.last.now }
         ensures recent { self.new.recent.now ≡ self.old.recent.now }
         ensures root { self.new.walk.path.root_len ≡ self.old.walk.path.root_len }
@@ -190,8 +198,9 @@ impl<'a> Glance<'a, '_> {
         self.walk.progress.keep_on()?;
         match here.step() {
             Step::Look(name) => {
-                self.walk.look(disk, here, name)?;
-                self.note_changed()?;
+                if let Some(stat) = self.walk.look(disk, here, name)? {
+                    self.note_directory(&stat)?;
+                }
             }
             Step::Enter(name) => {
                 self.walk.path.set(here.path(), here.name(name))?;
@@ -210,9 +219,11 @@ impl<'a> Glance<'a, '_> {
 
     /// The range of the positions of the records below the directory at the path, if the glance does not enter it.
     fn range_kept(&self) -> Option<(usize, usize)>
-        ensures known { IfSome result (λ _. IsKnownDirectory
-            (name_of_path self.now.walk.path.root_len self.now.walk.path.bytes.items)
-            self.now.last.now.records) }
+        requires { ListAll self.now.last.now.records (found_rows self.now.walk.rows.found)
+            self.now.unchanged.items }
+        ensures unchanged { IfSome result (λ _. IsUnchanged self.now.last.now.records
+            (found_rows self.now.walk.rows.found)
+            (name_of_path self.now.walk.path.root_len self.now.walk.path.bytes.items)) }
         ensures unasked { IfSome result (λ _. is_one_of_names self.now.recent.now
             (name_of_path self.now.walk.path.root_len self.now.walk.path.bytes.items) ≡ false) }
         ensures range { IfSome result (λ range. (i : ℕ) → passes_at (is_below
@@ -220,11 +231,11 @@ impl<'a> Glance<'a, '_> {
             self.now.last.now.records i ≡ (nat_le range.0 i && nat_lt i range.1)) }
     {
         let name = str::from_utf8(self.walk.path.name()).ok()?;
-        if self.recent.has(name.as_bytes()) || self.has_changed(name.as_bytes()) {
+        if self.recent.has(name.as_bytes()) || self.swept.binary_search(&name.as_bytes()).is_ok() {
             return None;
         }
-        let known = self.last.get(self.last.find(name)?);
-        if !is_directory(known) {
+        let at = self.last.find(name)?;
+        if !self.is_unchanged(at) || !is_directory(self.last.get(at)) {
             return None;
         }
         Some(self.last.below(name))
@@ -236,6 +247,7 @@ impl<'a> Glance<'a, '_> {
         ensures recent { self.new.recent.now ≡ self.old.recent.now }
         ensures root { self.new.walk.path.root_len ≡ self.old.walk.path.root_len }
         ensures above { self.new.walk.above ≡ self.old.walk.above }
+        ensures unchanged { self.new.unchanged ≡ self.old.unchanged }
         ensures rows { OnOk result (found_rows self.new.walk.rows.found
             ≡ found_rows self.old.walk.rows.found
             ++ seen_rows (take (end - start) (drop start self.old.last.now.records))) }
@@ -249,30 +261,39 @@ impl<'a> Glance<'a, '_> {
         self.walk.rows.add_all(more)
     }
 
-    /// Notes the directory that was listed last, if its row is not as its record says.
-    fn note_changed(&mut self) -> Result<(), AllocError>
+    /// Notes that the directory at the path, which has this stat and was listed, is as its record says, if it is.
+    fn note_directory(&mut self, stat: &Stat) -> Result<(), AllocError>
+        requires listed { IsOneOf (row_with_stat
+            (name_of_path self.old.walk.path.root_len self.old.walk.path.bytes.items) stat.now)
+            (found_rows self.old.walk.rows.found) }
+        requires unchanged { ListAll self.old.last.now.records
+            (found_rows self.old.walk.rows.found) self.old.unchanged.items }
         ensures walk { self.new.walk ≡ self.old.walk }
         ensures last { self.new.last.now ≡ self.old.last.now }
         ensures recent { self.new.recent.now ≡ self.old.recent.now }
+        ensures unchanged { OnOk result (ListAll self.old.last.now.records
+            (found_rows self.old.walk.rows.found) self.new.unchanged.items) }
     {
-        // Where no row is made, all is as the record says.
-        let Some(row) = self.walk.rows.last() else {
+        let Ok(name) = str::from_utf8(self.walk.path.name()) else {
             return Ok(());
         };
-        if row.kind == Kind::Dir && !is_as_known(self.last, row) {
-            let name = Vec::from_slice(self.walk.alloc, row.name.as_slice())?;
-            self.changed.push(name)?;
+        let Some(at) = self.last.find(name) else {
+            return Ok(());
+        };
+        if is_as(self.last.get(at), stat) {
+            self.unchanged.push(at)?;
         }
         Ok(())
     }
 
-    /// Whether a directory is not as the view has it, or one is below it.
-    fn has_changed(&self, name: &[u8]) -> bool {
-        self.swept.binary_search(&name).is_ok()
-            || self
-                .changed
-                .binary_search_by(|it| it.as_slice().cmp(name))
-                .is_ok()
+    /// Whether the glance noted that it listed the directory whose record is at a place just as the record says.
+    fn is_unchanged(&self, at: usize) -> bool
+        requires { ListAll self.now.last.now.records (found_rows self.now.walk.rows.found)
+            self.now.unchanged.items }
+        ensures { IsTrue result → ListsAt self.now.last.now.records
+            (found_rows self.now.walk.rows.found) at }
+    {
+        self.unchanged.binary_search(&at).is_ok()
     }
 }
 
@@ -282,21 +303,4 @@ pub(crate) fn is_directory(known: &Record) -> bool
     ensures kind { IsTrue result → known.now.kind ≡ Dir }
 {
     known.exists && known.kind == Kind::Dir
-}
-
-/// Whether a view has a record that says what a row says.
-fn is_as_known(view: &View, row: &Seen) -> bool {
-    let Ok(name) = str::from_utf8(row.name.as_slice()) else {
-        return false;
-    };
-    match view.find(name) {
-        Some(at) => {
-            let known = view.get(at);
-            known.exists
-                && known.kind == row.kind
-                && known.size == row.size
-                && known.mtime_ms == row.mtime_ms
-        }
-        None => false,
-    }
 }

@@ -25,8 +25,8 @@ mod walks;
 
 pub use disk::{Disk, FileDisk};
 pub use law::{
-    glance_rows_are_known, listings_list_once, names_are_accounted_for, rows_are_of_paths,
-    walks_list_once,
+    glance_names_are_accounted_for, glance_rows_are_known, listings_list_once,
+    names_are_accounted_for, rows_are_of_paths, walks_list_once,
 };
 pub use names::{Block, Names};
 pub use stat::Stat;

@@ -194,7 +194,7 @@ fn names_of<D: Read>(
     ensures fault { IfErr result IsCallFault }
 {
     let mut text = Vec::new(block.allocator());
-    let mut read = ReadNames::none();
+    let mut read = ReadNames::new();
     for _ in 0..u64::MAX {
         block.progress.keep_on()?;
         match directory.read(&mut block.bytes) {
@@ -202,7 +202,7 @@ fn names_of<D: Read>(
             Ok(count) => {
                 text.extend_from_slice(&block.bytes[..count])?;
                 read.add(&block.bytes[..count]);
-                read.test(block.allocator(), &text, path_len)?;
+                read.check(block.allocator(), &text, path_len)?;
             }
             Err(error) if error.kind() == ErrorKind::Interrupted => {}
             Err(error) => return nothing(&error),
@@ -221,7 +221,8 @@ struct ReadNames {
 }
 
 impl ReadNames {
-    fn none() -> ReadNames {
+    /// The count before the first name is read.
+    fn new() -> ReadNames {
         ReadNames {
             count: 0,
             // The directory itself and the one above it may be there too.
@@ -240,7 +241,7 @@ impl ReadNames {
 
     /// Fails if so far the text of the directory, whose path has so many bytes, has more names than a listing has rows.
     /// A name that a pass never takes does not count.
-    fn test(&mut self, alloc: Global, text: &[u8], path_len: usize) -> Result<(), TreeFault>
+    fn check(&mut self, alloc: Global, text: &[u8], path_len: usize) -> Result<(), TreeFault>
         ensures { IfErr result IsCallFault }
     {
         if self.count <= self.most {
@@ -254,8 +255,9 @@ impl ReadNames {
     }
 }
 
-/// How many rows the names in the text of a directory give at least, whose path has so many bytes, if no file is deleted
-/// meanwhile.
+/// Counts the names of entries in the text of a directory, whose path has so many bytes. It counts only names that are
+/// in UTF-8, and short enough for a pass even with the root's path before them. So a walk lists a row for each of them,
+/// unless the file goes before the walk looks at it.
 fn rows_of(alloc: Global, text: &[u8], path_len: usize) -> Result<usize, AllocError> {
     let places = each_once(text, places_in(alloc, text)?);
     let mut count = 0usize;

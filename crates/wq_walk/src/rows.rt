@@ -137,11 +137,6 @@ impl<'a> Rows<'a> {
         Ok(())
     }
 
-    /// The row that was added last, if no record was passed after it.
-    pub(crate) fn last(&self) -> Option<&Seen> {
-        self.found.last_row()
-    }
-
     /// Ends the piece: the files of the records that are not passed were not found.
     pub(crate) fn finish(&mut self) -> Result<(), AllocError>
         ensures piece { self.new.piece ≡ self.old.piece }

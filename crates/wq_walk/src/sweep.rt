@@ -1,9 +1,11 @@
 //! The directories of a view whose own rows are not as the disk says now: a file came, went or was renamed there. A glance
 //! looks into them. No contract speaks of which directories these are, since nothing that is proved of a glance rests on
 //! it.
-ghost use Rattle.std.specs.Prelude.{◌≤◌, IfErr};
+ghost use Rattle.std.specs.Prelude.{◌≡◌, ◌≤◌, IfErr, IsTrue};
 ghost use Rattle.std.specs.Thread.{IsSync};
+ghost use Rattle.wq_view.specs.Again.{seen_row};
 ghost use Rattle.wq_walk.specs.Told.{IsFailure};
+ghost use Rattle.wq_walk.specs.Walk.{row_with_stat};
 
 use crate::disk::Disk;
 use crate::glance::is_directory;
@@ -112,7 +114,8 @@ impl<'a, D: Disk> Sweep<'a, '_, D> {
             }
             self.progress.keep_on()?;
             path.set(self.root.as_bytes(), known.name.as_bytes())?;
-            if !is_as(known, stat_at(self.disk, &path)?) {
+            let stat = stat_at(self.disk, &path)?;
+            if !stat.is_some_and(|stat| is_as(known, &stat)) {
                 add_with_those_above(&mut names, known.name.as_bytes())?;
             }
         }
@@ -120,14 +123,11 @@ impl<'a, D: Disk> Sweep<'a, '_, D> {
     }
 }
 
-/// Whether a file is as its record says.
-fn is_as(known: &Record, stat: Option<Stat>) -> bool {
-    match stat {
-        Some(stat) => {
-            stat.kind == known.kind && stat.size == known.size && stat.mtime_ms == known.mtime_ms
-        }
-        None => false,
-    }
+/// Whether a file with this stat is as its record says.
+pub(crate) fn is_as(known: &Record, stat: &Stat) -> bool
+    ensures { IsTrue result → seen_row known.now ≡ row_with_stat known.now.name stat.now }
+{
+    stat.kind == known.kind && stat.size == known.size && stat.mtime_ms == known.mtime_ms
 }
 
 /// Adds a directory and those above it, without the root.

@@ -1,6 +1,6 @@
 //! The walk over a tree: from directory to directory, with a row for each file. The module of listings uses it.
 ghost use Rattle.std.specs.Prelude.{◌≡◌, ◌⊎◌, ◌++◌, ◌∷◌, [], ℕ, Bool, false, length, List, MatchOption};
-ghost use Rattle.std.specs.Prelude.{IfErr, IfOk, IsTrue, None, OnOk, Some};
+ghost use Rattle.std.specs.Prelude.{IfErr, IfOk, IfSome, IsTrue, None, OnOk, Some, is_some};
 ghost use Rattle.std.specs.Str.{IsUtf8, byte};
 ghost use Rattle.wq_crawl.specs.Tree.{is_of_device};
 ghost use Rattle.wq_record.specs.Name.{is_valid_name};
@@ -157,7 +157,9 @@ impl<'a, 'p> Walk<'a, 'p> {
     {
         self.progress.keep_on()?;
         match here.step() {
-            Step::Look(name) => self.look(disk, here, name)?,
+            Step::Look(name) => {
+                self.look(disk, here, name)?;
+            }
             Step::Enter(name) => self.enter(disk, here, name)?,
             Step::Leave => match self.above.pop() {
                 Some(above) => *here = above,
@@ -167,13 +169,14 @@ impl<'a, 'p> Walk<'a, 'p> {
         Ok(true)
     }
 
-    /// Looks at the name at a place in the directory in which the walk is, and adds its row.
+    /// Looks at the name at a place in the directory in which the walk is, and adds its row. Returns the stat of a
+    /// directory that the walk enters later.
     pub(crate) fn look<D: Disk>(
         &mut self,
         disk: &D,
         here: &mut Directory,
         name: Place,
-    ) -> Result<(), TreeFault>
+    ) -> Result<Option<Stat>, TreeFault>
         ensures piece { self.new.rows.piece ≡ self.old.rows.piece }
         ensures root { self.new.path.root_len ≡ self.old.path.root_len }
         ensures above { self.new.above ≡ self.old.above }
@@ -183,42 +186,51 @@ impl<'a, 'p> Walk<'a, 'p> {
             × (found_rows self.new.rows.found ≡ found_rows self.old.rows.found ++ rows)
             × (data_of here.new ≡ after_look (data_of here.old) (data_of here.old).left
             (entry_at here.old name) enters)) }
+        ensures entered { IfOk result (λ entered. IfSome entered (λ stat.
+            found_rows self.new.rows.found ≡ found_rows self.old.rows.found
+            ++ rows_of_file self.old.rows.piece.part
+            (name_of_path self.new.path.root_len self.new.path.bytes.items) stat)) }
         ensures fault { IfErr result (IsFailure (D.fails disk.now)) }
     {
         self.path.set(here.path(), here.name(name))?;
-        if self.list(disk, here)? {
-            here.enter_later(name)?;
-        }
-        Ok(())
+        let Some(stat) = self.list(disk, here)? else {
+            return Ok(None);
+        };
+        here.enter_later(name)?;
+        Ok(Some(stat))
     }
 
-    /// Looks at the file at the path, and adds its row if its name is in the part. Returns whether the walk enters the
-    /// file. It does if the file is a directory below which names may be in the part.
-    fn list<D: Disk>(&mut self, disk: &D, here: &mut Directory) -> Result<bool, TreeFault>
+    /// Looks at the file at the path, and adds its row if its name is in the part. Returns the file's stat if the walk
+    /// enters it. It does if the file is a directory below which names may be in the part.
+    fn list<D: Disk>(&mut self, disk: &D, here: &mut Directory) -> Result<Option<Stat>, TreeFault>
         ensures piece { self.new.rows.piece ≡ self.old.rows.piece }
         ensures path { self.new.path ≡ self.old.path }
         ensures above { self.new.above ≡ self.old.above }
         ensures directory { here.new.path ≡ here.old.path }
         ensures names { here.new.names ≡ here.old.names }
         ensures waiting { here.new.waiting ≡ here.old.waiting }
-        ensures looked { IfOk result (λ enters. (rows : List SeenData)
+        ensures looked { IfOk result (λ entered. (rows : List SeenData)
             × IsLooked (D.says disk.now) self.old.path.root_len self.old.rows.piece.part
-            self.old.path.bytes.items rows enters
+            self.old.path.bytes.items rows (is_some entered)
             × (found_rows self.new.rows.found ≡ found_rows self.old.rows.found ++ rows)) }
+        ensures entered { IfOk result (λ entered. IfSome entered (λ stat.
+            found_rows self.new.rows.found ≡ found_rows self.old.rows.found
+            ++ rows_of_file self.old.rows.piece.part
+            (name_of_path self.old.path.root_len self.old.path.bytes.items) stat)) }
         ensures fault { IfErr result (IsFailure (D.fails disk.now)) }
     {
         let reaches = self.rows.part().reaches(self.path.name());
         if !reaches && !self.rows.part().has(self.path.name()) {
-            return Ok(false);
+            return Ok(None);
         }
         let Some(stat) = stat_at(disk, &self.path)? else {
             self.pass_over();
-            return Ok(false);
+            return Ok(None);
         };
         if !self.add(here, &stat)? {
-            return Ok(false);
+            return Ok(None);
         }
-        Ok(reaches && stat.is_directory())
+        Ok((reaches && stat.is_directory()).then_some(stat))
     }
 
     /// Counts the names in a directory that was read, of those that are in the part and that a pass takes.
