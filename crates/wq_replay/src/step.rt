@@ -175,7 +175,7 @@ fn ask_of(alloc: Global, line: &[u8]) -> Ask
     }
     match Vec::from_slice(alloc, line) {
         Ok(bytes) => Ask::read(alloc, Event::Line(Table::from_vec(bytes))),
-        Err(_) => Ask::Alone(LoneAsk::UnseenRoot(Refusal::NoMemory)),
+        Err(_) => Ask::Alone(LoneAsk::Refused(Refusal::NoMemory)),
     }
 }
 

@@ -28,7 +28,7 @@ use std::mem;
 use wq_ask::{Ask, Out};
 use wq_base::{Table, Text};
 use wq_clock::Run;
-use wq_crawl::{CrawlFault, Place, TableViews, UnseenRoot, place_for};
+use wq_crawl::{CrawlFault, Place, Refused, TableViews, place_for};
 use wq_follow::Trigger;
 use wq_live::RootTable;
 use wq_registry::{Cache, Shelf};
@@ -174,7 +174,7 @@ impl World {
         match seen {
             Ok(pass) => self.pass(root, pass),
             Err(fault) => {
-                self.views.refused = Some(UnseenRoot { root, fault });
+                self.views.refused = Some(Refused { root, fault });
                 Ok(())
             }
         }
@@ -197,7 +197,7 @@ impl World {
             }
             Err(ViewFault::TicksSpent) => {
                 let fault = CrawlFault::TicksSpent;
-                self.views.refused = Some(UnseenRoot { root, fault });
+                self.views.refused = Some(Refused { root, fault });
                 Ok(())
             }
             Err(ViewFault::NoMemory) => Err(AllocError),
@@ -217,7 +217,7 @@ impl World {
             }
             Place::Full => {
                 let fault = CrawlFault::TooManyRoots;
-                self.views.refused = Some(UnseenRoot { root, fault });
+                self.views.refused = Some(Refused { root, fault });
                 Ok(())
             }
             Place::Free => self.start(root, seen),
@@ -235,7 +235,7 @@ impl World {
         match seen {
             Ok(pass) => self.start_with(root, pass),
             Err(fault) => {
-                self.views.refused = Some(UnseenRoot { root, fault });
+                self.views.refused = Some(Refused { root, fault });
                 Ok(())
             }
         }

@@ -1,6 +1,8 @@
 //! A session's answer to an ask. It prepares the ask, takes it at the shelf of a desk, finishes it
 //! with the view and its own state alone, and unsets a cursor if memory ran out then.
-ghost use Rattle.std.specs.Prelude.{◌≡◌, [], map, option_map};
+ghost use Rattle.std.specs.Prelude.{◌≡◌, [], Some, map, option_map};
+ghost use Rattle.wq_clock.specs.Instance.{instance_data};
+ghost use Rattle.wq_query.specs.Query.{planned};
 ghost use Rattle.wq_follow.specs.Followed.{subscription_data};
 ghost use Rattle.wq_ask.specs.Need.{need_of};
 ghost use Rattle.wq_session.specs.Answer.{CanFinish, Finishes};
@@ -10,7 +12,7 @@ ghost use Rattle.wq_session.specs.Followed.{follows_of};
 ghost use Rattle.wq_session.specs.Prepared.{IsPrepared, asked, asked_at};
 ghost use Rattle.wq_crawl.specs.Views.{ReadyData, root_at_data};
 ghost use Rattle.wq_session.specs.Desk.{Replies};
-ghost use Rattle.wq_session.specs.Work.{work_data};
+ghost use Rattle.wq_session.specs.Work.{evaluates, rest_data, work_data};
 
 use crate::command::{listed, listed_triggers};
 use crate::crawl::crawl_refusal;
@@ -19,10 +21,12 @@ use crate::prepared::Prepared;
 use crate::reply::printed;
 use crate::work::{Rest, Work};
 use std::alloc::Global;
-use wq_ask::{Ask, Out};
+use wq_ask::{Ask, Cursor, Out};
+use wq_clock::Instance;
 use wq_crawl::{At, RootAt, Views};
 use wq_follow::Subscription;
-use wq_query::Crew;
+use wq_query::{Crew, Plan};
+use wq_view::View;
 
 /// A server's record of one client: its subscriptions. An ask of a session depends on nothing else that came before.
 #[derive(Drop)]
@@ -63,7 +67,22 @@ impl Session {
         ensures { Finishes (work_data work) (option_map at_data at.entry) (follows_of self.old)
             result (follows_of self.new) }
     {
-        match work.into_rest() {
+        self.finish_rest(crew, alloc, work.into_rest(), at)
+    }
+
+    /// The same, of the rest of the work.
+    fn finish_rest<C: Crew>(
+        &mut self,
+        crew: &C,
+        alloc: Global,
+        rest: Rest,
+        at: Option<At<'_>>,
+    ) -> Out
+        requires { CanFinish (rest_data rest) (option_map at_data at) }
+        ensures { Finishes (rest_data rest) (option_map at_data at.entry) (follows_of self.old)
+            result (follows_of self.new) }
+    {
+        match rest {
             Rest::Says(mut out) => {
                 let _ = out.settle();
                 out
@@ -76,7 +95,7 @@ impl Session {
                         instance,
                         view: Some(view),
                     },
-                ) => listed(crew, alloc, &plan, cursor, &instance, view),
+                ) => self.list(crew, alloc, &plan, cursor, &instance, view),
                 _ => unreachable!(),
             },
             Rest::Begins(subscription) => match at {
@@ -90,6 +109,23 @@ impl Session {
             },
             Rest::Drops(root, name) => self.drop_called(alloc, root, &name),
         }
+    }
+
+    /// The listing of the files of a plan, of a root with this view, by a crew. The subscriptions stay.
+    fn list<C: Crew>(
+        &self,
+        crew: &C,
+        alloc: Global,
+        plan: &Plan,
+        cursor: Option<Cursor>,
+        instance: &Instance,
+        view: &View,
+    ) -> Out
+        ensures { Finishes (evaluates (planned plan.now) cursor)
+            (Some (record { instance = instance_data instance.now; view = Some view.now }))
+            (follows_of self.now) result (follows_of self.now) }
+    {
+        listed(crew, alloc, plan, cursor, instance, view)
     }
 
     /// The whole answer to an ask. The views meet the need of the ask, and the ask is answered at the

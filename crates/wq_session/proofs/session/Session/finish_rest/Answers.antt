@@ -5,10 +5,10 @@ use Rattle.wq_session.specs.Answer.{Finishes}
 use Rattle.wq_crawl.specs.At.{at_data}
 use Rattle.wq_session.specs.Followed.{follows_of}
 use Rattle.wq_session.specs.Work.{WorkData, objects_in, prints, rest_data}
-use Rattle.wq_session.proofs.session.Session.finish.Goals as goal
+use Rattle.wq_session.proofs.session.Session.finish_rest.Goals as goal
 
-pub returns : goal.returns
-returns g c =
+pub returns-in-Drops : goal.returns-in-Drops
+returns-in-Drops g c =
     subst (λ (w : WorkData). Finishes w (option_map at_data c.args.at) (follows_of c.args.self.now) c.drop_called.result
     (follows_of c.drop_called.new.self)) (sym (ap rest_data c.in-Drops.is)) (c.drop_called.ensures (option_map at_data c.args.at))
 
