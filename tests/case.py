@@ -1,0 +1,41 @@
+"""What the tests of all parts begin with."""
+
+import shutil
+import tempfile
+import unittest
+from pathlib import Path
+from typing import Any, Callable, Iterable
+
+# Traces of failures end at the line of the test, and do not go on here.
+__unittest = True
+
+
+def needs(*commands: str) -> Callable[[Any], Any]:
+    """Leaves out a test, or a class of tests, if one of these commands is not installed."""
+    missing = [command for command in commands if shutil.which(command) is None]
+    return unittest.skipIf(missing, f"not installed: {', '.join(missing)}")
+
+
+class Case(unittest.TestCase):
+    """Tests that go on after a check that failed. Each has a directory of its own."""
+
+    def setUp(self) -> None:
+        directory = tempfile.TemporaryDirectory()
+        self.addCleanup(directory.cleanup)
+        self.room = Path(directory.name).resolve()
+
+    def check(self, name: str, is_right: object, details: Iterable[str] = ()) -> None:
+        with self.subTest(name):
+            if not is_right:
+                self.fail("\n".join(details))
+
+    def same(self, name: str, found: object, expected: object) -> None:
+        with self.subTest(name):
+            self.assertEqual(found, expected)
+
+    def check_installed(self, command: str) -> None:
+        self.check(f"{command} is there", shutil.which(command))
+
+
+class Beside(Case):
+    """Tests that wait most of their time. Each runs in a process of its own, beside others."""
