@@ -94,8 +94,8 @@ def apply(edit: Edit, directory: Path, texts: Dict[str, str]) -> None:
 
 
 def together(edits: List[Edit], directory: Path) -> Tuple[List[Edit], Dict[str, str]]:
-    """The first of these edits with each behind it that another function is refused for and that can stand beside them, and
-    the texts of the crate's files with all of them."""
+    """The first of these edits with each behind it that another function is refused for and that can stand beside them,
+    and the texts of the crate's files with all of them."""
     chosen: List[Edit] = []
     texts: Dict[str, str] = {}
     for edit in edits:

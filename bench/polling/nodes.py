@@ -16,7 +16,8 @@ INTERVAL = "100"
 
 
 class ServedChokidar(Printed):
-    """A program of Node with the package in chokidar's place, and the server that it asks: figures are of both together."""
+    """A program of Node with the package in chokidar's place, and the server that it asks: figures are of both
+    together."""
 
     def __init__(self, root: Path, room: Path) -> None:
         sockname = str(room / "socket")

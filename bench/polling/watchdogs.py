@@ -20,7 +20,7 @@ class Observed(Printed):
     """A program in Python with an observer."""
 
     def __init__(self, kind: str, root: Path, seconds: str) -> None:
-        super().__init__([PYTHON, str(HERE / "observed.py"), kind, str(root), seconds])
+        super().__init__([PYTHON, "-B", str(HERE / "observed.py"), kind, str(root), seconds])
         self.wait_for("ready\n")
 
 

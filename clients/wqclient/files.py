@@ -1,5 +1,5 @@
-"""Opens files that somebody else may have made, such as those of a tree: a pipe is not waited for, and what is no regular
-file is refused."""
+"""Opens files that somebody else may have made, such as those of a tree: a pipe is not waited for, and what is no
+regular file is refused."""
 
 import errno
 import os

@@ -46,8 +46,8 @@ class Notes:
             keep({}, ROOTS, self.sockname, root)
 
     def look(self, root: str) -> str:
-        """What a person hears while the server looks at all files of a root that was not watched. In the run of a server
-        that is for the first time once; then the command is named that keeps the root watched."""
+        """What a person hears while the server looks at all files of a root that was not watched. In the run of a
+        server that is for the first time once; then the command is named that keeps the root watched."""
         run = run_of(self.process)
         if kept(LOOKS, self.sockname, root).get("run") == run:
             return f"the server looks at all files below {root} again; `wq watch` would keep it watched"
