@@ -21,6 +21,9 @@ TIERS = ("gate", "more")
 TIER = re.compile(r"# (%s)" % "|".join(TIERS))
 HEADLINE = re.compile(r"## ([a-z0-9-]+)")
 
+# Whether something is as it should be, and what there is to say of it.
+Verdicts = List[Tuple[bool, str]]
+
 
 class Block(NamedTuple):
     """An edit as its file has it: its tier, if it is below one, its name, and the lines below."""
@@ -109,3 +112,9 @@ def together(edits: List[Edit], directory: Path) -> Tuple[List[Edit], Dict[str, 
         chosen.append(edit)
         texts = with_it
     return chosen, texts
+
+
+def tell(verdicts: Verdicts) -> Verdicts:
+    for _, text in verdicts:
+        print(text, flush=True)
+    return verdicts

@@ -24,6 +24,12 @@ class Case(unittest.TestCase):
         self.addCleanup(directory.cleanup)
         self.room = Path(directory.name).resolve()
 
+    def directory(self, name: str) -> Path:
+        """Makes a directory in the room."""
+        made = self.room / name
+        made.mkdir()
+        return made
+
     def check(self, name: str, is_right: object, details: Iterable[str] = ()) -> None:
         with self.subTest(name):
             if not is_right:

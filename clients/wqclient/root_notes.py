@@ -6,7 +6,7 @@ import fcntl
 import time
 from typing import IO, Any, Callable, Dict, List, Optional
 
-from .files import opened_as_own
+from .files import is_locked, opened_as_own
 from .kept import LOOKS, ROOTS, WINDOWS, keep, kept, path_of, room, run_of
 
 # The purposes of a watch, of which a later one wins: one query; a window; `find --keep`; `watch`, `since` and
@@ -95,19 +95,10 @@ class Notes:
         """Whether a window has a root open, as far as can be seen."""
         try:
             with self.lock_file(root) as file:
-                return not is_alone(file)
+                return not is_locked(file)
         except OSError:
             return True
 
     def lock_file(self, root: str) -> IO[str]:
         room(WINDOWS)
         return open(path_of(WINDOWS, self.sockname, root), "a", encoding="utf-8", opener=opened_as_own)
-
-
-def is_alone(file: IO[str]) -> bool:
-    """Whether nobody else has locked a file, which is locked then."""
-    try:
-        fcntl.flock(file, fcntl.LOCK_EX | fcntl.LOCK_NB)
-    except BlockingIOError:
-        return False
-    return True

@@ -49,8 +49,7 @@ HIDDEN = "import sys; print('a sitecustomize of others', any('children' in each 
 class Tools(Case):
     def test_children(self) -> None:
         """A Python that the tool starts has the observer too, unless it is isolated; and its own sitecustomize."""
-        others = self.room / "others"
-        others.mkdir()
+        others = self.directory("others")
         (others / "sitecustomize.py").write_text(HIDDEN)
         (self.room / "tool.py").write_text(CHILD)
         environment = {**os.environ, "PYTHONPATH": str(others)}
@@ -88,8 +87,7 @@ class Tools(Case):
     @needs(WATCHMEDO)
     def test_watchmedo(self) -> None:
         """`watchmedo shell-command` runs once for each write."""
-        root = self.room / "root"
-        root.mkdir()
+        root = self.directory("root")
         (root / "a").touch()
         words = ["shell-command", "--recursive", "--command", "echo ran ${watch_event_type} ${watch_src_path}", "."]
         with served(self.room) as running, Tool([*by_server(WATCHMEDO), *words], root) as tool:

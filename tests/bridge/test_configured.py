@@ -92,8 +92,7 @@ class Configured(Case):
     def test_file_systems(self) -> None:
         """A directory on a file system that the settings forbid may not be watched. Those that are near are all of one
         name."""
-        root = self.room / "root"
-        root.mkdir()
+        root = self.directory("root")
         for settings, words in (
             ({"illegal_fstypes": ["unknown"], "illegal_fstypes_advice": "go away"}, "illegal_fstypes: go away"),
             ({"illegal_fstypes": ["unknown"]}, "illegal_fstypes: relocate the dir to an allowed filesystem type"),

@@ -58,8 +58,7 @@ class Keeping(Case):
 
     def test_a_root_that_goes_without_a_place(self) -> None:
         """The bridge tries again to give a place back, if the server had as many clients as it takes."""
-        root = self.room / "root"
-        root.mkdir()
+        root = self.directory("root")
         with Bridge(self.room, grace=0.4) as bridge:
             with bridge.client() as client:
                 client.ask("watch", str(root))

@@ -11,10 +11,8 @@ class Removed(Case):
     def test_a_socket_that_goes(self) -> None:
         """Clients that are there go on, nobody else can connect, and the server ends as ever."""
         for name, remove in (("its socket", os.unlink), ("the directory of its socket", remove_above)):
-            inside = self.room / "in"
-            inside.mkdir()
-            tree = self.room / "tree"
-            tree.mkdir()
+            inside = self.directory("in")
+            tree = self.directory("tree")
             with Server(inside) as server, server.client() as client:
                 client.ask("watch", str(tree))
                 remove(server.sockname)

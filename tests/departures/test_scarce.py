@@ -27,8 +27,7 @@ class Scarce(Case):
     def test_no_threads(self) -> None:
         """For want of threads a client is told so. The others go on, and so does everybody when there are threads
         again."""
-        tree = self.room / "tree"
-        tree.mkdir()
+        tree = self.directory("tree")
         (tree / "a").touch()
         number = unused_number()
         if os.geteuid() == 0:
@@ -72,8 +71,7 @@ class Scarce(Case):
     def test_few_handles(self) -> None:
         """For want of handles clients are told so. When others went, their handles come back before anybody else
         comes."""
-        tree = self.room / "tree"
-        tree.mkdir()
+        tree = self.directory("tree")
         for limit in HANDLES:
             through = ["sh", "-c", f'ulimit -Sn {limit}; exec "$@"', "sh"]
             with Server(self.room, interval=INTERVAL, through=through) as server, server.client() as client:

@@ -114,8 +114,7 @@ class Served(Case):
         """Each thread's writes from the second on fail: the look for the client before the reply, and the reply. A
         cursor whose reply was cut off has moved all the same."""
         self.check_installed("strace")
-        root = self.room / "tree"
-        root.mkdir()
+        root = self.directory("tree")
         (root / "a").touch()
         asked = {"since": "n:k", "sync_timeout": 0, "fields": ["name"]}
         fault = Fault("sendto", "EIO", "2+")

@@ -69,16 +69,14 @@ class Adapted(Case):
 
     def test_adapters_elsewhere(self) -> None:
         """Below a prefix in which no Python looks for packages, the command runs all the same."""
-        prefix = self.room / "a prefix"
-        prefix.mkdir()
+        prefix = self.directory("a prefix")
         ended = call(self.room, "install", str(prefix), "--adapters")
         said = f"To import wqd_watchdog, set PYTHONPATH='{prefix}/lib/wqd/python'\n".encode()
         self.same("how it ends elsewhere", (ended.status, said in ended.output), (0, True))
         self.same("no line for a Python", list(prefix.rglob("*.pth")), [])
         link = self.room / "link"
         link.symlink_to(prefix / LAUNCHER)
-        tree = self.room / "tree"
-        tree.mkdir()
+        tree = self.directory("tree")
         for name in ("re", "runpy", "shlex", "shutil", "typing", "wqd_watchdog"):
             (tree / f"{name}.py").write_text("raise SystemExit(77)\n")
         self.same("the launcher by a link, beside modules of others", head_of([str(link), "--help"], self.room, tree),

@@ -21,8 +21,7 @@ CLIENTS = ("bridge", "node", "wqasm", "watchdog", "watchman")
 class Released(Case):
     def test_archive(self) -> None:
         """Its files are those of ./install below ~/.local, and the commands run where it is unpacked."""
-        home = self.room / "home"
-        home.mkdir()
+        home = self.directory("home")
         paths = [Path(call(home, "package", "--archive", str(self.room / name)).output.decode().strip())
                  for name in ("one", "two")]
         version = version_of(home)
@@ -42,8 +41,7 @@ class Released(Case):
     def test_release(self) -> None:
         """It has the packages, the archive, the note and their checksums; of another program than the proved one there
         is none."""
-        place = self.room / "clone"
-        place.mkdir()
+        place = self.directory("clone")
         program = make_clone(place)
         note = place / "crates" / "wqd" / "out" / "wqd.proof"
         refused = release(place, self.room / "first")

@@ -44,10 +44,8 @@ class Logs(Beside):
     def test_a_home_of_another(self) -> None:
         """The superuser with the home of another user, as sudo may leave it: nothing is written there."""
         self.room.chmod(0o755)
-        home = self.room / "home"
-        home.mkdir()
-        target = self.room / "target"
-        target.mkdir()
+        home = self.directory("home")
+        target = self.directory("target")
         (home / ".local" / "state").mkdir(parents=True)
         (home / ".local" / "state" / "wq").symlink_to(target)
         for path in (home, home / ".local", home / ".local" / "state"):

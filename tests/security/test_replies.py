@@ -1,16 +1,15 @@
 """Servers of this user that send a line without end, or nothing at all."""
 
 import os
-import socket
 import sys
-import threading
 from pathlib import Path
-from typing import List
+from typing import BinaryIO, List
 
 import built
 from case import Beside
 from client import PATIENCE
 from scene import Scene
+from stand_ins import Answer, stand_in
 
 # The limits of the clients are for lists of 1,000,000 files. A run with lower ones takes less time and memory.
 SMALL = 1_048_576
@@ -18,40 +17,30 @@ WQ = f"import sys; sys.path.insert(0, {str(built.TOP / 'clients')!r}); import wq
      f"lines.LONGEST = {SMALL}; from wq.command import main; sys.exit(main(sys.argv[1:], {str(built.TOP)!r}))"
 WQASM = f"import sys; sys.path.insert(0, {str(built.TOP / 'clients')!r}); import wqclient.lines as lines; " \
         f"lines.LONGEST = {SMALL}; from wqprogram.command import main; sys.exit(main(sys.argv[1:]))"
+PIECE = b"[" * 65_536
 
 
-class Endless:
-    """A server that answers with a line that never ends, or with silence."""
+class Endless(Answer):
+    """A line that never ends."""
 
-    def __init__(self, sockname: str, piece: bytes) -> None:
-        self.piece = piece
-        self.sent = 0
-        self.listener = socket.socket(socket.AF_UNIX)
-        self.listener.bind(sockname)
-        self.listener.listen(16)
-        threading.Thread(target=self.run, daemon=True).start()
+    sent = 0
 
-    def run(self) -> None:
+    def answer(self, lines: BinaryIO, replies: BinaryIO) -> None:
+        lines.readline()
         while True:
-            stream, _ = self.listener.accept()
-            threading.Thread(target=self.serve, args=(stream,), daemon=True).start()
+            replies.write(PIECE)
+            Endless.sent += len(PIECE)
 
-    def serve(self, stream: socket.socket) -> None:
-        with stream:
-            stream.recv(65_536)
-            try:
-                while self.piece:
-                    stream.sendall(self.piece)
-                    self.sent += len(self.piece)
-                stream.recv(1)
-            except OSError:
-                pass
+
+class Silent(Answer):
+    def answer(self, lines: BinaryIO, replies: BinaryIO) -> None:
+        lines.read()
 
 
 class Replies(Beside):
     def test_replies_without_end(self) -> None:
         with Scene(self.room, starts=False) as scene:
-            server = Endless(scene.sockname, b"[" * 65_536)
+            stand_in(scene.sockname, Endless)
             program = str(built.TOP / "examples" / "large.program")
             told = f"{scene.sockname}: the server sends over {SMALL:,} bytes in a line\n"
             for text, words, begin in ((WQ, ["roots"], "wq: "), (WQASM, ["add", "x", program], "wqasm: ")):
@@ -62,13 +51,13 @@ class Replies(Beside):
             ended = said_by([sys.executable, "-I", "-S", hook, "2", ""], scene)
             reason = f"wqd: git looks at all files, since the server sends over {SMALL:,} bytes in a line\n"
             self.same("git's hook", (ended.status, ended.output, ended.errors.decode()), (1, b"", reason))
-            self.same("not much more was read", server.sent < 100 * SMALL, True)
+            self.same("not much more was read", Endless.sent < 100 * SMALL, True)
             os.unlink(scene.sockname)
 
     def test_hanging(self) -> None:
         """git's hook waits for a while, and then git looks itself."""
         with Scene(self.room, starts=False) as scene:
-            Endless(scene.sockname, b"")
+            stand_in(scene.sockname, Silent)
             hook = hook_with(self.room, "PATIENCE = 10\n", "PATIENCE = 0.5\n")
             ended = said_by([sys.executable, "-I", "-S", hook, "2", ""], scene)
             reason = f"wqd: git looks at all files, since {scene.sockname} does not answer: timed out\n"

@@ -2,7 +2,6 @@
 
 import json
 import re
-import socket
 import subprocess
 import threading
 from pathlib import Path
@@ -11,6 +10,7 @@ from typing import List
 import built
 from case import Beside
 from scene import Scene, at_terminal, called_at_terminal
+from stand_ins import answering, stand_in
 
 ESCAPES = "ev\x1b]0;title\x07\u009b31m\u202egnp\u2066"
 HARMFUL = re.compile("[\x01-\x09\x0b-\x1f\x7f-\x9f\u202a-\u202e\u2066-\u2069]")
@@ -19,28 +19,6 @@ HARMFUL = re.compile("[\x01-\x09\x0b-\x1f\x7f-\x9f\u202a-\u202e\u2066-\u2069]")
 def harm_in(text: str) -> List[str]:
     """What a terminal would obey of a text, beside the ends of lines. It ignores bytes 0."""
     return HARMFUL.findall(text.replace("\r", ""))
-
-
-class Forger:
-    """A server of this user that answers each line with the same error."""
-
-    def __init__(self, sockname: str, reply: bytes) -> None:
-        self.reply = reply
-        self.listener = socket.socket(socket.AF_UNIX)
-        self.listener.bind(sockname)
-        self.listener.listen(16)
-        threading.Thread(target=self.run, daemon=True).start()
-
-    def run(self) -> None:
-        while True:
-            stream, _ = self.listener.accept()
-            threading.Thread(target=self.serve, args=(stream,), daemon=True).start()
-
-    def serve(self, stream: socket.socket) -> None:
-        with stream, stream.makefile("rwb") as lines:
-            for _ in lines:
-                lines.write(self.reply + b"\n")
-                lines.flush()
 
 
 class Shown(Beside):
@@ -94,7 +72,8 @@ class Shown(Beside):
     def test_errors_shown(self) -> None:
         """What a server says of an error, what a file is called, and the last line of a log."""
         with Scene(self.room, starts=False) as scene:
-            Forger(scene.sockname, json.dumps({"error": f"E99: {ESCAPES}"}, ensure_ascii=False).encode())
+            error = json.dumps({"error": f"E99: {ESCAPES}"}, ensure_ascii=False).encode()
+            stand_in(scene.sockname, answering(lambda line: error))
             for words in (["find"], ["status"], ["stop"], ["roots"], ["ask", '["version"]'],
                           ["trigger", ".", "t", "--", "true"]):
                 found = at_terminal(scene, *words, NO_COLOR="1")

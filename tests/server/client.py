@@ -97,6 +97,11 @@ class Client(Lines):
         """Asks until the reply is right, or the patience ends."""
         return look_until(lambda: self.ask(name, root, query), is_right)
 
+    def names_without_a_crawl(self, root: Path, count: int) -> List[str]:
+        """The names in a root, as soon as rounds saw that many, or the patience ends."""
+        query = {"sync_timeout": 0, **query_of_names()}
+        return self.ask_until("query", str(root), query, lambda reply: len(reply["files"]) == count)["files"]
+
     def rest(self) -> bytes:
         """What comes until the server closes the stream."""
         try:

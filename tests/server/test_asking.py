@@ -42,8 +42,7 @@ def query_line(directory: Path, query: dict) -> str:
 
 class Asking(Case):
     def test_ask(self) -> None:
-        root = self.room / "tree"
-        root.mkdir()
+        root = self.directory("tree")
         (root / "a.c").touch()
         line = query_line(root, {"fields": ["name"]})
         with environment(self.room) as variables:

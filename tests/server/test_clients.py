@@ -59,8 +59,7 @@ class Clients(Case):
             self.same("nothing changed", (unchanged["files"], unchanged["clock"]), ([], seen["clock"]))
 
     def test_cursors(self) -> None:
-        root = self.room / "tree"
-        root.mkdir()
+        root = self.directory("tree")
         (root / "a").touch()
         with Server(self.room) as server, server.client() as one, server.client() as other:
             one.ask("watch", str(root))
@@ -73,8 +72,7 @@ class Clients(Case):
 
     def test_what_clients_share(self) -> None:
         """Programs are shared, and two clients are answered at once."""
-        root = self.room / "tree"
-        root.mkdir()
+        root = self.directory("tree")
         (root / "a").touch()
         with Server(self.room) as server, server.client() as one, server.client() as other:
             one.ask("watch", str(root))
@@ -106,8 +104,7 @@ class Clients(Case):
 
     def test_crawls_that_are_shared(self) -> None:
         """Each of many clients that ask at once sees the change that it made before it asked."""
-        root = self.room / "tree"
-        root.mkdir()
+        root = self.directory("tree")
         with Server(self.room) as server, server.client() as client:
             client.ask("watch", str(root))
             writers = [Writer(server, root, number) for number in range(16)]
@@ -156,8 +153,7 @@ class Clients(Case):
             self.same("half a line at the end", client.rest(), b"")
 
     def test_refused_lines(self) -> None:
-        root = self.room / "tree"
-        root.mkdir()
+        root = self.directory("tree")
         with Server(self.room) as server:
             with server.client() as client:
                 client.ask("watch", str(root))

@@ -52,8 +52,7 @@ class Blinking(threading.Thread):
 class Fleeting(Case):
     def test_paths_that_are_too_long(self) -> None:
         """Files whose path from the root the system takes are listed, and no others."""
-        root = self.room / "tree"
-        root.mkdir()
+        root = self.directory("tree")
         names = make_deep_directories(root)
         short = sorted(name for name in names if len(name) <= LONGEST_PATH)
         with Server(self.room) as server, server.client() as client:

@@ -40,8 +40,7 @@ class Gone(Case):
 
     def test_a_root_that_went(self) -> None:
         """A root that is shown and whose directory went between two crawls: its view stays."""
-        root = self.room / "tree"
-        root.mkdir()
+        root = self.directory("tree")
         (root / "a").touch()
         with Server(self.room, interval=A_HOUR) as server, server.client() as client:
             client.ask("watch", str(root))

@@ -93,8 +93,7 @@ class Handles(Case):
     def test_clients_that_went(self) -> None:
         """A client that goes gives its handle back before anybody else comes. So queries of another client find
         handles."""
-        root = self.room / "tree"
-        root.mkdir()
+        root = self.directory("tree")
         (root / "a").touch()
         with Server(self.room, interval=A_HOUR) as server, server.client() as client:
             client.ask("watch", str(root))

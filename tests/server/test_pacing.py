@@ -81,15 +81,14 @@ class Pacing(Case):
 
     def test_a_server_that_rests(self) -> None:
         """While no client is connected there is no round. The next client has one made, and so has a trigger."""
-        root = self.room / "tree"
-        root.mkdir()
+        root = self.directory("tree")
         with Server(self.room, interval=10, share=100) as server:
             with server.client() as client:
                 client.ask("watch", str(root))
             self.check_that_it_rests(server, "after its client went")
             (root / "first").touch()
             with server.client() as client:
-                found = names_without_a_crawl(client, root, 1)
+                found = client.names_without_a_crawl(root, 1)
                 self.same("a file that came while it rested", found, ["first"])
                 client.ask("trigger", str(root),
                            {"name": "copy", "command": ["cp", "second", "third"], "expression": ["name", "second"]})
@@ -183,8 +182,3 @@ def crawl_until(server: Server, root: Path, ended: threading.Event) -> None:
     with server.client() as client:
         while not ended.is_set():
             client.ask("query", str(root), query)
-
-
-def names_without_a_crawl(client: Client, root: Path, count: int) -> List[str]:
-    query = {"sync_timeout": 0, **query_of_names()}
-    return client.ask_until("query", str(root), query, lambda reply: len(reply["files"]) == count)["files"]

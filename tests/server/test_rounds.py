@@ -2,11 +2,9 @@
 
 import shutil
 import time
-from pathlib import Path
-from typing import List
 
 from case import Case
-from client import Client, Server, query_of_names
+from client import Server
 from test_gone import told_of
 
 # How long the server pauses between two rounds by itself, in seconds, and how long a round of a small tree takes at
@@ -31,29 +29,22 @@ class Rounds(Case):
             for turn in range(2):
                 for root in roots[1:]:
                     (root / f"file{turn}").touch()
-                found = [seen_without_a_crawl(client, root, turn + 1) for root in roots[1:]]
+                found = [client.names_without_a_crawl(root, turn + 1) for root in roots[1:]]
                 names = [f"file{number}" for number in range(turn + 1)]
                 self.same(f"what changed beside a root that cannot be read, turn {turn}", found, [names] * 2)
             self.same("the roots", client.ask("watch-list")["roots"], [str(root) for root in roots])
 
     def test_the_interval_by_default(self) -> None:
         """A server that is told no interval pauses for a second between two rounds."""
-        root = self.room / "tree"
-        root.mkdir()
+        root = self.directory("tree")
         with Server(self.room, interval=None) as server, server.client() as client:
             client.ask("watch", str(root))
             moments = []
             for number in range(SIGHTS):
                 (root / f"file{number}").touch()
-                seen_without_a_crawl(client, root, number + 1)
+                client.names_without_a_crawl(root, number + 1)
                 moments.append(time.monotonic())
         # A sight comes some time after its round, so one gap may be short, and another may be long.
         gap = (moments[-1] - moments[0]) / (SIGHTS - 1)
         is_right = PAUSE - 0.1 < gap < PAUSE + LATE
         self.check("the interval by default", is_right, [f"{gap:.3f} seconds from a round to the next"])
-
-
-def seen_without_a_crawl(client: Client, root: Path, count: int) -> List[str]:
-    """The names in a root, as soon as there are so many or the patience ends."""
-    query = {"sync_timeout": 0, **query_of_names()}
-    return client.ask_until("query", str(root), query, lambda reply: len(reply["files"]) == count)["files"]

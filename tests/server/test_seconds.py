@@ -18,8 +18,7 @@ def wait_until(moment: int) -> None:
 class Seconds(Case):
     def test_seconds(self) -> None:
         """Two passes in different seconds: a file that stays, one that changes, one that comes and one that goes."""
-        root = self.room / "tree"
-        root.mkdir()
+        root = self.directory("tree")
         for name in ("stays", "changes", "goes"):
             (root / name).touch()
         with Server(self.room, interval=A_HOUR) as server, server.client() as client:

@@ -19,8 +19,7 @@ class Subscribing(Case):
     def test_subscriptions(self) -> None:
         """Two clients hear of a file that is written and of one that goes. One asks for no more; the root's end is told
         to the other, once."""
-        root = self.room / "tree"
-        root.mkdir()
+        root = self.directory("tree")
         (root / "first").touch()
         with Server(self.room, interval=20) as server, server.client() as asker:
             with server.client() as one, server.client() as two:
@@ -87,8 +86,7 @@ class Subscribing(Case):
     def test_a_root_that_came_and_went(self) -> None:
         """A root is watched, subscribed to and deleted before the next round of crawls. The subscriber still hears that
         it ended."""
-        root = self.room / "tree"
-        root.mkdir()
+        root = self.directory("tree")
         with Server(self.room, interval=1000) as server, server.client() as asker, server.client() as one:
             self.same("a subscriber is there", one.ask("version"), VERSION)
             asker.ask("watch", str(root))

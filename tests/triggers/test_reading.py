@@ -27,8 +27,7 @@ class Reading(Case):
         once."""
         with Scene(self.room) as scene:
             fill(scene.root)
-            small = self.room / "small"
-            small.mkdir()
+            small = self.directory("small")
             (small / "a").touch()
             with scene.server.client() as other:
                 other.ask("watch", str(small))

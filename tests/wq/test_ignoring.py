@@ -37,8 +37,7 @@ class Ignoring(Beside):
         nothing, and six are large."""
         draw = random.Random(7)
         with Scene(self.room) as scene:
-            model = self.room / "model"
-            model.mkdir()
+            model = self.directory("model")
             git(model, "init", "--quiet", "--template=")
             names = [f"t{number}" for number in range(TREES)]
             for name in names:

@@ -1,16 +1,14 @@
 """Calls at a terminal; help, and words that are no command; a first crawl that takes long."""
 
-import contextlib
 import json
 import os
 import shlex
-import socket
-import threading
 import time
 
 import built
 from case import Beside
 from scene import Scene, at_terminal, called_at_terminal, said, wrong
+from stand_ins import answering, stand_in
 from wq.examples import EXAMPLES
 from wq.trouble import WrongWords
 from wq.usage import USAGE
@@ -19,32 +17,16 @@ from wq.words import FORMS, options_of, read
 SLOW = 2.3
 
 
-class Slow:
-    """A server that answers each `watch` after some seconds, and everything else at once."""
-
-    def __init__(self, sockname: str) -> None:
-        self.listener = socket.socket(socket.AF_UNIX)
-        self.listener.bind(sockname)
-        self.listener.listen(5)
-        threading.Thread(target=self.run, daemon=True).start()
-
-    def run(self) -> None:
-        while True:
-            stream, _ = self.listener.accept()
-            threading.Thread(target=self.serve, args=(stream,), daemon=True).start()
-
-    def serve(self, stream: socket.socket) -> None:
-        with contextlib.suppress(ConnectionError), stream.makefile("rwb") as lines:
-            for line in lines:
-                name, *rest = json.loads(line)
-                if name == "watch":
-                    time.sleep(SLOW)
-                replies = {
-                    "watch": {"watch": rest[:1]}, "watch-list": {"roots": []},
-                    "query": {"files": [], "is_fresh_instance": True, "clock": "c:1:2:3:4"},
-                }
-                lines.write(json.dumps({**replies.get(name, {}), "version": "wq-1"}).encode() + b"\n")
-                lines.flush()
+def slowly(line: bytes) -> bytes:
+    """The reply of a server that answers each `watch` after some seconds, and everything else at once."""
+    name, *rest = json.loads(line)
+    if name == "watch":
+        time.sleep(SLOW)
+    replies = {
+        "watch": {"watch": rest[:1]}, "watch-list": {"roots": []},
+        "query": {"files": [], "is_fresh_instance": True, "clock": "c:1:2:3:4"},
+    }
+    return json.dumps({**replies.get(name, {}), "version": "wq-1"}).encode()
 
 
 class Terminals(Beside):
@@ -138,7 +120,7 @@ class Terminals(Beside):
     def test_first_crawl(self) -> None:
         """A first crawl of over a second shows how long it goes on; it can be interrupted at once."""
         with Scene(self.room, starts=False) as scene:
-            Slow(scene.sockname)
+            stand_in(scene.sockname, answering(slowly))
             looks = f"the server looks at all files below {scene.tree} for the first time"
             ended = scene.wq("find")
             lines = ended.errors.decode().splitlines()
