@@ -32,8 +32,8 @@ LAST_LINES = re.compile(r"^-{70}\nRan .*\n\n.*\n+(\d+) passed, (\d+) failed\n\Z"
 class Result(unittest.TextTestResult):
     """Counts each sub-test, and each test without one."""
 
-    def __init__(self, *words: Any) -> None:
-        super().__init__(*words)
+    def __init__(self, *words: Any, **named: Any) -> None:
+        super().__init__(*words, **named)
         self.passed = 0
         self.failed_beside = 0
         self.has_parts = False

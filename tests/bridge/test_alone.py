@@ -4,8 +4,8 @@ import json
 from pathlib import Path
 from typing import Dict, List, Tuple
 
-from case import Case
 from bridged import NO_CODEC, VERSION, Bridge, codec
+from case import Case
 from test_starts import run
 
 VALIDATED = {"cli_validated": True, "version": VERSION}
@@ -57,6 +57,22 @@ class Alone(Case):
             words = b"watchman: Invalid encoding 'frob', use one of json, bser or bser-v2\n"
             self.same(f"{option}=frob", (ended.returncode, ended.stdout, ended.stderr), (64, b"", words))
         self.same("an encoding that is one", said(self.room, "--server-encoding=bser-v2", "version")[0], 0)
+
+    def test_options(self) -> None:
+        """They may be anywhere before two dashes, joined with their values, and long ones shortened."""
+        for words in (["version", "--no-p"], ["--output-enc=json", "version"], ["-U", "none", "version"],
+                      ["-pUnone", "version"], ["version", "--sockname=none", "--log-level", "2"], ["--", "version"]):
+            self.same(f"{words}", said(self.room, *words), (0, {"version": VERSION}))
+        for words, reason in (
+            (["--frob"], "Unknown or invalid option! option --frob not recognized"),
+            (["--sockname"], "Unknown or invalid option! option --sockname requires argument"),
+            (["--help=3"], "Unknown or invalid option! option --help must not have an argument"),
+            (["-x"], "Unknown or invalid option! option -x not recognized"),
+            (["-f"], "watchman: --foreground is not supported; start wqd serve and clients/bridge by themselves"),
+            ([], "watchman: there is no command"),
+        ):
+            ended = run(self.room, "--no-spawn", *words)
+            self.same(f"{words}", (ended.returncode, ended.stderr.decode().splitlines()[0]), (1, reason))
 
     def test_bser_on_input(self) -> None:
         """A command in BSER is answered in it, unless an option says otherwise."""

@@ -4,8 +4,8 @@ name."""
 import os
 from pathlib import Path
 
-from case import Case
 from bridged import Bridge, make_files
+from case import Case
 from test_lists import names_of
 
 SECOND = 1_700_000_000

@@ -5,8 +5,8 @@ import os
 from pathlib import Path
 from typing import Dict, List
 
-from case import Case
 from bridged import VERSION, Bridge, is_silent, make_files
+from case import Case
 from client import Client
 from test_lists import move_in, names_of
 from waiting import look_until

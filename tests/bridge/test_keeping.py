@@ -11,8 +11,8 @@ from pathlib import Path
 from typing import Dict, List
 
 import built
-from case import Case
 from bridged import COMMAND, PROGRAM, Bridge, make_files
+from case import Case
 from client import PATIENCE, Client
 from waiting import wait_until
 

@@ -9,8 +9,8 @@ import shutil
 from pathlib import Path
 from typing import Dict, List
 
-from case import Case
 from bridged import NO_CODEC, VERSION, Bridge, BserClient, codec, is_silent, make_files
+from case import Case
 from client import Client
 
 from bridge.fields import sum_of_content

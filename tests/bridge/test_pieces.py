@@ -4,8 +4,8 @@ import json
 import random
 from typing import Dict, List
 
-from case import Case
 from bridged import VERSION, codec
+from case import Case
 
 from bridge.encodings import JSON, Encoding, Writer
 from bridge.fields import KEPT, Lister, fields_of

@@ -3,8 +3,8 @@
 import struct
 from typing import Optional
 
-from case import Case
 from bridged import NO_CODEC, Bridge, BserClient, codec
+from case import Case
 
 from bridge.shape import NoValue, TooDeep, Walk
 

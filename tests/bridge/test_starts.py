@@ -8,8 +8,8 @@ from pathlib import Path
 from typing import Callable, Dict, List
 
 import built
-from case import Case
 from bridged import COMMAND, PROGRAM, VERSION, Bridge, codec
+from case import Case
 from client import PATIENCE, Client
 from waiting import wait_until
 

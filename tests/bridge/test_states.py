@@ -6,8 +6,8 @@ import time
 from pathlib import Path
 from typing import Dict, List
 
-from case import Case
 from bridged import VERSION, Bridge, is_silent, make_files
+from case import Case
 from client import Client
 from test_lists import move_in
 

@@ -5,8 +5,8 @@ import json
 from pathlib import Path
 from typing import Callable, Dict
 
-from case import Case
 from bridged import VERSION, Bridge, make_files
+from case import Case
 from test_lists import move_in
 from waiting import look_until
 

@@ -4,8 +4,8 @@ import json
 import os
 from typing import Dict, List, Tuple
 
-from case import Case
 from bridged import VERSION, Bridge, make_files
+from case import Case
 from client import PATIENCE
 
 HAS = ("cmd-watch-project", "cmd-state-enter", "cmd-flush-subscriptions", "cmd-log-level", "relative_root", "wildmatch",

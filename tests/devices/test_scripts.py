@@ -4,8 +4,8 @@ from pathlib import Path
 from typing import List
 
 import built
-from case import Case
 import example
+from case import Case
 from injected import Fault, each_failing, run
 
 SCRIPTS = Path(__file__).resolve().parent.parent / "scripts"

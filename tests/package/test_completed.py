@@ -7,8 +7,8 @@ from pathlib import Path
 from typing import Dict, List, Optional
 
 import built
-from case import Case
 import completion
+from case import Case
 from client import Server
 from wq.words import FORMS, options_of
 

@@ -5,9 +5,9 @@ import shutil
 import subprocess
 from typing import List
 
-from case import Case
 import files
 import manual
+from case import Case
 from test_installed import FILES
 
 MACROS = {".TH", ".SH", ".SS", ".PP", ".TP", ".IP", ".B", ".br", ".nf", ".fi", ".RS", ".RE", ".ad", ".nh"}

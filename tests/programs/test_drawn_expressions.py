@@ -5,8 +5,8 @@ import json
 from typing import List, Union
 
 import built
-from case import Case
 import generate_terms
+from case import Case
 from draws import Draws
 from test_drawn_programs import TREE, records_of, replies_to
 from wqprogram.clocks import FIRST

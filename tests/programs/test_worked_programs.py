@@ -2,8 +2,8 @@
 
 from typing import List, NamedTuple, Tuple
 
-from case import Case
 from bad_texts import BAD_TEXTS
+from case import Case
 from notation import file_of
 from wqprogram.assembler import assembled
 from wqprogram.command import LONGEST_FILE, LONGEST_TEXT

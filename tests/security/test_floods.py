@@ -7,8 +7,8 @@ import socket
 import time
 from typing import Optional
 
-from case import Beside
 from bridged import Bridge, BserClient, codec, make_files
+from case import Beside
 from client import Client
 from users import memory_of
 from waiting import wait_until

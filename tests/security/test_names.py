@@ -4,8 +4,8 @@ import shutil
 import subprocess
 from typing import List
 
-from case import Beside
 from bridged import Bridge, make_files
+from case import Beside
 from scene import Scene
 from test_triggered import text_of
 

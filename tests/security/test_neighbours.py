@@ -12,8 +12,8 @@ from pathlib import Path
 from typing import Dict, List
 
 import built
-from case import Beside
 from bridged import Bridge, make_files
+from case import Beside
 from client import PATIENCE
 from users import FORGED, OTHER, for_all, given, other, serve, of_two_users
 from waiting import wait_until

@@ -2,8 +2,8 @@
 
 import os
 
-from case import Beside
 from bridged import Bridge, make_files
+from case import Beside
 from users import memory_of
 
 # In mebibytes: what a bridge may take at most while it reads such a file.

@@ -3,8 +3,8 @@
 import json
 from typing import Any, Optional, Tuple
 
-from case import Beside
 import generate_terms
+from case import Beside
 from draws import Draws
 from scene import Scene
 from wq.questions import Questions

@@ -11,8 +11,8 @@ from pathlib import Path
 
 import built
 from case import Beside
-from test_changing import touch_until
 from scene import Scene, said
+from test_changing import touch_until
 
 TREES, AT_ONCE = 300, 15
 DIRECTORIES = ["a", "b", "build", "a b", ".x"]

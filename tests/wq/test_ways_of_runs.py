@@ -11,8 +11,8 @@ from typing import List
 import built
 from case import Beside
 from client import PATIENCE
-from test_running import Log, change_until, command, has_runs
 from scene import COMMAND, AtTerminal, Scene, called_at_terminal, following, said, wrong
+from test_running import Log, change_until, command, has_runs
 from waiting import wait_until
 
 SHOWS = 'printf "%s %s [%s]\\n" "$WQ_ROOT" "$WQ_CHANGED_COUNT" "$WQ_CHANGED"'
