@@ -9,7 +9,7 @@ from types import ModuleType
 from typing import Dict, List, Optional
 
 import built
-from client import PATIENCE, Client, Server
+from client import PATIENCE, Client, Server, client_of
 from waiting import wait_until
 
 sys.path[:0] = [str(built.TOP / "clients")]
@@ -49,8 +49,8 @@ class Bridge:
         self.server.kill()
         self.server.said.close()
 
-    def client(self) -> Client:
-        return Client(self.sockname)
+    def client(self, watched: Optional[Path] = None) -> Client:
+        return client_of(self.sockname, watched)
 
 
 def wait_for_socket(sockname: str, process: subprocess.Popen) -> None:

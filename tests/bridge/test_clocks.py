@@ -18,8 +18,7 @@ class Clocks(Case):
         make_files(root, list(FILES))
         for name, second in FILES.items():
             os.utime(root / name, (second, second))
-        with Bridge(self.room, 3_600_000) as bridge, bridge.client() as client:
-            client.ask("watch", str(root))
+        with Bridge(self.room, 3_600_000) as bridge, bridge.client(root) as client:
             for term, expected in (
                 (["since", SECOND, "mtime"], ["after", "at"]),
                 (["since", SECOND + 1, "mtime"], ["after"]),

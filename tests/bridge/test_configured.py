@@ -27,8 +27,7 @@ class Configured(Case):
         set_for(other, {"ignore_vcs": ["kept"]})
         make_files(other, [".git/objects/g", "kept/a", "kept/b/c"])
         query: Dict[str, object] = {"expression": ["type", "f"]}
-        with Bridge(self.room) as bridge, bridge.client() as client:
-            client.ask("watch", str(root))
+        with Bridge(self.room) as bridge, bridge.client(root) as client:
             self.same("get-config", client.ask("get-config", str(root)), {"config": settings, "version": VERSION})
             found = [".git/f", ".watchmanconfig", "a", "deep/d", "outer/c"]
             self.same("a list", names_of(client, root, query), found)
@@ -42,8 +41,7 @@ class Configured(Case):
             self.same("what is left out is not told", is_silent(client), True)
             move_in(self.room / "aside", root, ["new"])
             self.same("what is not left out is", client.reply()["files"], ["new"])
-        with Bridge(self.room) as bridge, bridge.client() as client:
-            client.ask("watch", str(other))
+        with Bridge(self.room) as bridge, bridge.client(other) as client:
             self.same("ignore_vcs", names_of(client, other, query), [".git/objects/g", ".watchmanconfig", "kept/a"])
 
     def test_settings_read_again(self) -> None:
@@ -51,8 +49,7 @@ class Configured(Case):
         one."""
         root = self.room / "root"
         set_for(root, {"a": 1})
-        with Bridge(self.room) as bridge, bridge.client() as client:
-            client.ask("watch", str(root))
+        with Bridge(self.room) as bridge, bridge.client(root) as client:
             set_for(root, {"a": 2})
             self.same("settings that changed", client.ask("get-config", str(root))["config"], {"a": 1})
             client.ask("watch-del", str(root))
@@ -113,8 +110,7 @@ class Configured(Case):
             (root / "file").touch()
         (second / "link").symlink_to(third / "file")
         (first / "link").symlink_to("../second/link")
-        with Bridge(self.room) as bridge, bridge.client() as client:
-            client.ask("watch", str(first))
+        with Bridge(self.room) as bridge, bridge.client(first) as client:
             self.same("links are followed", watched_by(client, 3), sorted(map(str, (first, second, third))))
 
     def test_recrawls(self) -> None:

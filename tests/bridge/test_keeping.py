@@ -60,8 +60,7 @@ class Keeping(Case):
         """The bridge tries again to give a place back, if the server had as many clients as it takes."""
         root = self.directory("root")
         with Bridge(self.room, grace=0.4) as bridge:
-            with bridge.client() as client:
-                client.ask("watch", str(root))
+            bridge.client(root).close()
             others = clients_in_all_places(bridge)
             root.rmdir()
             time.sleep(1)

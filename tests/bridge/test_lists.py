@@ -49,8 +49,7 @@ class Lists(Case):
         make_files(root, NAMES)
         draw = random.Random(7)
         wrong: List[str] = []
-        with Bridge(self.room, 3_600_000) as bridge, bridge.client() as client:
-            client.ask("watch", str(root))
+        with Bridge(self.room, 3_600_000) as bridge, bridge.client(root) as client:
             client.ask("watch", str(root / directory))
             for _ in range(DRAWS):
                 query = drawn_query(draw)
@@ -68,8 +67,7 @@ class Lists(Case):
     def test_globs_and_case(self) -> None:
         root = self.room / "root"
         make_files(root, ["a.c", "B.C", "d/c.c", "d/.e.c", "d/f.h"])
-        with Bridge(self.room, 3_600_000) as bridge, bridge.client() as client:
-            client.ask("watch", str(root))
+        with Bridge(self.room, 3_600_000) as bridge, bridge.client(root) as client:
             for query, expected in (
                 ({"glob": ["*.c"]}, ["a.c"]),
                 ({"glob": ["**/*.c"]}, ["a.c", "d/c.c"]),
@@ -159,8 +157,7 @@ class Lists(Case):
         os.chmod(root / "a", 0o640)
         fields = ["name", "mode", "uid", "ino", "nlink", "ctime_ns", "mtime_us", "mtime_f", "symlink_target",
                   "content.sha1hex"]
-        with Bridge(self.room, 3_600_000) as bridge, bridge.client() as client:
-            client.ask("watch", str(root))
+        with Bridge(self.room, 3_600_000) as bridge, bridge.client(root) as client:
             rows = client.ask("query", str(root), {"fields": fields})["files"]
             self.same("each file is there", [row["name"] for row in rows], ["a", "d", "d/b", "l"])
             for row in rows:
@@ -227,8 +224,7 @@ class Lists(Case):
         root = self.room / "root"
         make_files(root, ["a.c", "ä.c"])
         bser = codec()
-        with Bridge(self.room) as bridge, bridge.client() as client:
-            client.ask("watch", str(root))
+        with Bridge(self.room) as bridge, bridge.client(root) as client:
             if bser is None:
                 client.send_bytes(b"\x00\x01\x03\x01\x00")
                 self.same("BSER without its codec", "python3-pywatchman" in client.reply().get("error", ""), True)

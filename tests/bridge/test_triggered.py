@@ -28,8 +28,7 @@ class Triggered(Case):
         """A command runs in its directory, is given the files below its relative root, and writes to its file."""
         root, out = self.room / "root", self.room / "out"
         make_files(root, ["a.c", "d/b.c", "d/e/", "d/x.h"])
-        with Bridge(self.room) as bridge, bridge.client() as client:
-            client.ask("watch", str(root))
+        with Bridge(self.room) as bridge, bridge.client(root) as client:
             whole = f"|{root}|t|{bridge.sockname}"
             below = f"{root}/d|{root}|t|{bridge.sockname}"
             mode = (root / "d" / "b.c").stat().st_mode
@@ -99,8 +98,7 @@ class Triggered(Case):
         root = self.room / "root"
         make_files(root, ["a.c", "d/b.h"])
         query = {"fields": ["name"], "expression": ["type", "f"]}
-        with Bridge(self.room) as bridge, bridge.client() as client:
-            client.ask("watch", str(root))
+        with Bridge(self.room) as bridge, bridge.client(root) as client:
             client.ask("subscribe", str(root), "s", {**query, "suffix": ["c"], "path": ["d"], "glob": ["x"]})
             self.same("generators of a subscription", client.reply()["files"], ["a.c", "d/b.h"])
             client.ask("unsubscribe", str(root), "s")

@@ -103,8 +103,7 @@ class Words(Case):
         root, other = self.room / "root", self.room / "other"
         make_files(root, ["a"])
         other.mkdir()
-        with Bridge(self.room) as bridge, bridge.client() as client:
-            client.ask("watch", str(root))
+        with Bridge(self.room) as bridge, bridge.client(root) as client:
             self.same("not JSON", client_line(client, b"[\n").startswith("invalid json: "), True)
             for command, words in errors_of_commands(str(root), str(other)):
                 self.same(f"{command}", client.ask(*command), {"error": words, "version": VERSION})

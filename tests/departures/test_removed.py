@@ -13,8 +13,7 @@ class Removed(Case):
         for name, remove in (("its socket", os.unlink), ("the directory of its socket", remove_above)):
             inside = self.directory("in")
             tree = self.directory("tree")
-            with Server(inside) as server, server.client() as client:
-                client.ask("watch", str(tree))
+            with Server(inside) as server, server.client(tree) as client:
                 remove(server.sockname)
                 self.check(f"nobody can connect without {name}", not can_connect(server.sockname))
                 (tree / "new").touch()

@@ -33,8 +33,7 @@ class Scarce(Case):
         if os.geteuid() == 0:
             os.chown(self.room, number, number)
         with Server(self.room, interval=INTERVAL,
-                    through=[sys.executable, str(USER), str(number)]) as server, server.client() as client:
-            client.ask("watch", str(tree))
+                    through=[sys.executable, str(USER), str(number)]) as server, server.client(tree) as client:
             threads = server.least_threads()
             for limit in limits(threads):
                 name = f"with {limit} threads, of which {threads} are there"
@@ -74,8 +73,7 @@ class Scarce(Case):
         tree = self.directory("tree")
         for limit in HANDLES:
             through = ["sh", "-c", f'ulimit -Sn {limit}; exec "$@"', "sh"]
-            with Server(self.room, interval=INTERVAL, through=through) as server, server.client() as client:
-                client.ask("watch", str(tree))
+            with Server(self.room, interval=INTERVAL, through=through) as server, server.client(tree) as client:
                 handles = handles_of(server)
                 others = [server.client() for _ in range(PLACES - 1)]
                 replies = [other.ask("version") for other in others]

@@ -119,8 +119,7 @@ class Served(Case):
         asked = {"since": "n:k", "sync_timeout": 0, "fields": ["name"]}
         fault = Fault("sendto", "EIO", "2+")
         with Server(self.room, interval=A_HOUR, through=[*SERVED, "-o", "/dev/null", *fault.words()]) as server:
-            with server.client() as client:
-                client.ask("watch", str(root))
+            with server.client(root) as client:
                 client.send("query", str(root), asked)
                 self.check("no reply of a cursor", client.rest() == b"")
             with server.client() as other:

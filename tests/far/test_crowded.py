@@ -95,8 +95,7 @@ class CrowdedDirectories(Case):
         if not os.access("/dev/fuse", os.R_OK | os.W_OK):
             self.skipTest("there is no /dev/fuse that may be opened")
         root, = made(self.room, "crowded")
-        with Crowded(root) as crowd, Server(self.room, interval=A_HOUR) as server, server.client() as client:
-            client.ask("watch", str(root))
+        with Crowded(root) as crowd, Server(self.room, interval=A_HOUR) as server, server.client(root) as client:
             before = server.most_memory()
             crowd.is_crowded = True
             self.same("a root with a crowded directory", client.ask("query", str(root), query_of_names()), TOO_MANY)

@@ -64,8 +64,7 @@ class Delayed(Case):
             writer.join()
             found = follower.takes("what changed in a walk")
             self.same("each of these files", len([name for name in found if "/f" in name]), 6 * 12)
-            with server.client() as second:
-                second.ask("watch", str(other))
+            with server.client(other) as second:
                 found = second.ask("query", str(other), {"fields": ["name"]})["files"]
                 self.same("another root", sorted(found), [row[0] for row in walked(other)])
             self.same("the end", server.shut_down(follower.client), 0)
@@ -116,12 +115,10 @@ class Delayed(Case):
         root = self.room / "tree"
         # Too few files for a second thread.
         make_tree(root, 1, FEW)
-        with Server(self.room, interval=A_HOUR, through=delayed(4 * DELAY)) as server, server.client() as client:
-            client.ask("watch", str(root))
+        with Server(self.room, interval=A_HOUR, through=delayed(4 * DELAY)) as server, server.client(root) as client:
             alone = [seconds_of_a_query(client, root) for _ in range(4)]
             self.same_end(server, client)
-        with Server(self.room, interval=10, through=delayed(4 * DELAY)) as server, server.client() as client:
-            client.ask("watch", str(root))
+        with Server(self.room, interval=10, through=delayed(4 * DELAY)) as server, server.client(root) as client:
             # Pauses of several lengths, so that the queries fall into different parts of a scan.
             beside = [seconds_of_a_query(client, root, 0.05 + number * 0.07) for number in range(8)]
             self.same_end(server, client)

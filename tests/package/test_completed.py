@@ -85,8 +85,7 @@ class Completed(Case):
                     or name == str(root)]
 
         self.same("names without a server", (found("find", "--program", ""), (room / "socket").exists()), ([""], False))
-        with Server(room) as server, server.client() as client:
-            client.ask("watch", str(root))
+        with Server(room) as server, server.client(root) as client:
             for name in ("build", "$(touch ran)"):
                 client.ask("trigger", str(root), {"name": name, "command": ["true"], "expression": "false"})
             client.ask("program-add", "large", PROGRAM)

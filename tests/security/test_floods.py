@@ -110,8 +110,7 @@ class Floods(Beside):
         for turn in range(1_500):
             (chain / f"l{turn}").symlink_to(f"l{turn + 1}")
         (first / "link").symlink_to(second / "a.c")
-        with Bridge(self.room) as bridge, bridge.client() as client:
-            client.ask("watch", str(chain))
+        with Bridge(self.room) as bridge, bridge.client(chain) as client:
             time.sleep(0.5)
             client.ask("watch", str(first))
             expected = sorted(map(str, (chain, first, second)))

@@ -111,6 +111,13 @@ class Client(Lines):
             return ended.rest
 
 
+def client_of(sockname: str, watched: Optional[Path]) -> Client:
+    client = Client(sockname)
+    if watched is not None:
+        client.ask("watch", str(watched))
+    return client
+
+
 class Server:
     """A server whose socket is in a directory. One that is plain reads no more than any user, though root starts it.
     With no interval, or no number of workers, the server takes its own. Other words may begin the command."""
@@ -144,8 +151,9 @@ class Server:
         self.kill()
         self.said.close()
 
-    def client(self) -> Client:
-        return Client(self.sockname)
+    def client(self, watched: Optional[Path] = None) -> Client:
+        """A client, which has the server watch a directory if one is named."""
+        return client_of(self.sockname, watched)
 
     def client_when_free(self) -> Client:
         """A client that has a session: a session that is over may still end."""

@@ -40,8 +40,7 @@ class Clients(Case):
         root = self.room / "tree"
         (root / "src").mkdir(parents=True)
         (root / "src" / "a.c").write_text("a")
-        with Server(self.room, interval=20) as server, server.client() as client:
-            client.ask("watch", str(root))
+        with Server(self.room, interval=20) as server, server.client(root) as client:
             first = client.ask("clock", str(root))["clock"]
             (root / "src" / "b.c").write_text("b")
             query = {"since": first, "expression": ["type", "f"], "fields": ["name", "exists", "new"]}
@@ -105,8 +104,7 @@ class Clients(Case):
     def test_crawls_that_are_shared(self) -> None:
         """Each of many clients that ask at once sees the change that it made before it asked."""
         root = self.directory("tree")
-        with Server(self.room) as server, server.client() as client:
-            client.ask("watch", str(root))
+        with Server(self.room) as server, server.client(root) as client:
             writers = [Writer(server, root, number) for number in range(16)]
             for writer in writers:
                 writer.start()
@@ -155,8 +153,7 @@ class Clients(Case):
     def test_refused_lines(self) -> None:
         root = self.directory("tree")
         with Server(self.room) as server:
-            with server.client() as client:
-                client.ask("watch", str(root))
+            with server.client(root) as client:
                 query = b'["query",%s,{"expression":["pcre","x"]}]\n' % client.text(str(root))
                 client.send_bytes(b"[\n7\n" + query + b" " * LONGEST_LINE + b'\n["frob"]\n["version"]\n')
                 errors = [client.reply().get("error") for _ in range(6)]

@@ -16,8 +16,7 @@ class Deaf(Beside):
     def test_a_write_that_waits(self) -> None:
         root = self.room / "tree"
         fill_root(root, 10_000)
-        with Server(self.room, interval=A_HOUR) as server, server.client() as client:
-            client.ask("watch", str(root))
+        with Server(self.room, interval=A_HOUR) as server, server.client(root) as client:
             before = server.least_threads()
             with server.client() as deaf:
                 begun = time.monotonic()

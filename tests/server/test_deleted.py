@@ -30,8 +30,7 @@ class Deleted(Case):
         """The view of a root that was deleted goes with the next round, though nothing is published."""
         root = self.room / "tree"
         fill_directory(root, LARGE)
-        with Server(self.room) as server, server.client() as client:
-            client.ask("watch", str(root))
+        with Server(self.room) as server, server.client(root) as client:
             before = server.least_memory()
             client.ask("watch-del", str(root))
             self.check("the view of a root that was deleted", has_less(server, before), [f"{before} bytes before"])

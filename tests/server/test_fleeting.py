@@ -55,8 +55,7 @@ class Fleeting(Case):
         root = self.directory("tree")
         names = make_deep_directories(root)
         short = sorted(name for name in names if len(name) <= LONGEST_PATH)
-        with Server(self.room) as server, server.client() as client:
-            client.ask("watch", str(root))
+        with Server(self.room) as server, server.client(root) as client:
             files = client.ask("query", str(root), query_of_names())["files"]
             self.check("there are paths that are too long", 0 < len(short) < len(names))
             self.same("paths that are not too long", [len(name) for name in files], [len(name) for name in short])
@@ -70,8 +69,7 @@ class Fleeting(Case):
         for number in range(FLEETING):
             (directory / f"stays{number:02}").touch()
         stays = sorted(["directory"] + [f"directory/stays{number:02}" for number in range(FLEETING)])
-        with Server(self.room) as server, server.client() as client:
-            client.ask("watch", str(root))
+        with Server(self.room) as server, server.client(root) as client:
             blinking = Blinking(directory)
             fleeting = {f"directory/{file.name}" for file in blinking.files}
             blinking.start()

@@ -32,8 +32,7 @@ class Glancing(Case):
         intervals."""
         root = self.room / "large"
         fill(root)
-        with Server(self.room, interval=round(INTERVAL * 1000), share=PERCENT) as server, server.client() as client:
-            client.ask("watch", str(root))
+        with Server(self.room, interval=round(INTERVAL * 1000), share=PERCENT) as server, server.client(root) as client:
             make_recent(client, root / "directory7", root)
             client.ask("subscribe", str(root), "new", {**query_of_names(), "expression": ["match", "new*"]})
             client.reply()
@@ -47,8 +46,7 @@ class Glancing(Case):
         root = self.room / "large"
         near, far = root / "directory7", root / "directory300"
         fill(root)
-        with Server(self.room, interval=50, share=FEW) as server, server.client() as client:
-            client.ask("watch", str(root))
+        with Server(self.room, interval=50, share=FEW) as server, server.client(root) as client:
             make_recent(client, near, root)
             (near / "in" / "deep").mkdir(parents=True)
             (near / "in" / "deep" / "zfile").touch()

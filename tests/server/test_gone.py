@@ -19,8 +19,7 @@ class Gone(Case):
         root, away = self.room / 'a "tree"\nof two lines \u00fc', self.room / "away"
         root.mkdir()
         (root / "a").touch()
-        with Server(self.room, interval=20) as server, server.client() as client:
-            client.ask("watch", str(root))
+        with Server(self.room, interval=20) as server, server.client(root) as client:
             shutil.move(root, away)
             line, back = told_of(root), told(root, "the root is crawled again")
             said = f"listening on {server.sockname}\n".encode() + line
@@ -42,8 +41,7 @@ class Gone(Case):
         """A root that is shown and whose directory went between two crawls: its view stays."""
         root = self.directory("tree")
         (root / "a").touch()
-        with Server(self.room, interval=A_HOUR) as server, server.client() as client:
-            client.ask("watch", str(root))
+        with Server(self.room, interval=A_HOUR) as server, server.client(root) as client:
             shutil.move(root, self.room / "away")
             self.check_its_view(client, root)
 
@@ -67,8 +65,7 @@ class Gone(Case):
         root, away = self.room / "tree", self.room / "away"
         for number in range(40):
             fill_directory(root / f"directory{number:02}", 500)
-        with Server(self.room, interval=20) as server, server.client() as client:
-            client.ask("watch", str(root))
+        with Server(self.room, interval=20) as server, server.client(root) as client:
             first = client.ask("clock", str(root))["clock"]
             seconds = seconds_of_a_crawl(client, root)
             for _ in range(5):
@@ -87,8 +84,7 @@ class Gone(Case):
         for number in range(40):
             fill_directory(root / f"directory{number:02}", 100)
         copies = [shutil.copytree(root, self.room / f"copy{number}") for number in range(3)]
-        with Server(self.room, interval=20) as server, server.client() as client:
-            client.ask("watch", str(root))
+        with Server(self.room, interval=20) as server, server.client(root) as client:
             first = client.ask("clock", str(root))["clock"]
             seconds = seconds_of_a_crawl(client, root)
             for copy in copies:

@@ -52,8 +52,7 @@ class Handles(Case):
         root = self.room / "tree"
         for directory in range(DIRECTORIES):
             fill_directory(root / f"directory{directory:03}", FILES)
-        with Server(self.room, interval=A_HOUR) as server, server.client() as client:
-            client.ask("watch", str(root))
+        with Server(self.room, interval=A_HOUR) as server, server.client(root) as client:
             first = client.ask("clock", str(root))["clock"]
             with Scarcity(server.process.pid):
                 replies = [crawl(client, root, first) for _ in range(ROUNDS)]
@@ -69,8 +68,7 @@ class Handles(Case):
         before. When there are handles again, the root is crawled as if nothing had been."""
         root = self.room / "tree"
         fill_directory(root, 1)
-        with Server(self.room, interval=20) as server, server.client() as client:
-            client.ask("watch", str(root))
+        with Server(self.room, interval=20) as server, server.client(root) as client:
             line, scarcity = told(root, "no file handle is left"), Scarcity(server.process.pid)
             back = told(root, "the root is crawled again")
             said = f"listening on {server.sockname}\n".encode()
@@ -95,8 +93,7 @@ class Handles(Case):
         handles."""
         root = self.directory("tree")
         (root / "a").touch()
-        with Server(self.room, interval=A_HOUR) as server, server.client() as client:
-            client.ask("watch", str(root))
+        with Server(self.room, interval=A_HOUR) as server, server.client(root) as client:
             before = handles(server)
             others = [server.client() for _ in range(OTHERS)]
             self.same("clients beside it", [other.has_session() for other in others], [True] * OTHERS)

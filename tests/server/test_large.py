@@ -47,8 +47,7 @@ class Large(Case):
         named = {"path": [{"path": "", "depth": 0}], **query_of_names()}
         directories = [f"directory{number:02}" for number in range(DIRECTORIES)]
         too_many = {"error": "E12: too many files", **VERSION}
-        with Server(room, interval=A_HOUR) as server, server.client() as client:
-            client.ask("watch", str(root))
+        with Server(room, interval=A_HOUR) as server, server.client(root) as client:
             reply = client.ask("query", str(root), {"sync_timeout": 0, **named})
             self.same("a root of 1,000,000 files", (reply.get("files"), reply.get("clock")), (directories, "c:7:9:1:1"))
             (root / "more").touch()

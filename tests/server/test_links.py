@@ -14,8 +14,7 @@ class Links(Case):
             path.touch()
         for name, target in (("directory", outside), ("file", "a/x"), ("nothing", "/there/is/nothing"), ("a/up", "..")):
             (root / name).symlink_to(target)
-        with Server(self.room) as server, server.client() as client:
-            client.ask("watch", str(root))
+        with Server(self.room) as server, server.client(root) as client:
             reply = client.ask("query", str(root), {"fields": ["name", "type"]})
         types = {file["name"]: file["type"] for file in reply["files"]}
         expected = {"a": "d", "a/up": "l", "a/x": "f", "directory": "l", "file": "l", "nothing": "l"}

@@ -48,8 +48,7 @@ class Locked(Case):
         (root / "etc").mkdir(parents=True)
         (root / "etc" / "passwd").touch()
         files = ["etc", "etc/passwd"]
-        with Server(self.room, interval=A_HOUR, is_plain=True) as server, server.client() as client:
-            client.ask("watch", str(root))
+        with Server(self.room, interval=A_HOUR, is_plain=True) as server, server.client(root) as client:
             for mode, expected in ((0o500, files), (0o400, []), (0o700, files), (0o000, None), (0o100, None),
                                    (0o500, files)):
                 root.chmod(mode)

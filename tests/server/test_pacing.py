@@ -83,8 +83,7 @@ class Pacing(Case):
         """While no client is connected there is no round. The next client has one made, and so has a trigger."""
         root = self.directory("tree")
         with Server(self.room, interval=10, share=100) as server:
-            with server.client() as client:
-                client.ask("watch", str(root))
+            server.client(root).close()
             self.check_that_it_rests(server, "after its client went")
             (root / "first").touch()
             with server.client() as client:

@@ -37,8 +37,7 @@ class Rounds(Case):
     def test_the_interval_by_default(self) -> None:
         """A server that is told no interval pauses for a second between two rounds."""
         root = self.directory("tree")
-        with Server(self.room, interval=None) as server, server.client() as client:
-            client.ask("watch", str(root))
+        with Server(self.room, interval=None) as server, server.client(root) as client:
             moments = []
             for number in range(SIGHTS):
                 (root / f"file{number}").touch()

@@ -25,8 +25,7 @@ class Setback(Case):
         root.mkdir()
         (root / "first").touch()
         through = ["env", f"LD_PRELOAD={library}", f"WQD_CLOCK={back}"]
-        with Server(self.room, interval=A_HOUR, through=through) as server, server.client() as client:
-            client.ask("watch", str(root))
+        with Server(self.room, interval=A_HOUR, through=through) as server, server.client(root) as client:
             seen = second()
             wait_until(seen + 2)
             (root / "second").touch()

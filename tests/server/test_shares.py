@@ -25,11 +25,9 @@ class Shares(Case):
         root = self.room / "tree"
         for number in range(DIRECTORIES):
             fill_directory(root / f"directory{number:02}", FILES)
-        with Server(self.room, interval=10) as server, server.client() as client:
-            client.ask("watch", str(root))
+        with Server(self.room, interval=10) as server, server.client(root) as client:
             alone = seconds_in(server)
-        with Server(self.room, interval=10, share=PERCENT) as server, server.client() as client:
-            client.ask("watch", str(root))
+        with Server(self.room, interval=10, share=PERCENT) as server, server.client(root) as client:
             shared = seconds_in(server)
             self.check_a_crawl_in_a_pause(client, root)
         most = PERCENT / 100 * SPAN + SLACK

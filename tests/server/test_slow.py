@@ -46,8 +46,7 @@ class Slow(Case):
         on."""
         root = self.room / "tree"
         fill_root(root, 10_000)
-        with Server(self.room) as server, server.client() as client:
-            client.ask("watch", str(root))
+        with Server(self.room) as server, server.client(root) as client:
             half, deaf, gone = server.client(), server.client(), server.client()
             half.send_bytes(b'["version"')
             for slow in (deaf, gone):
@@ -65,8 +64,7 @@ class Slow(Case):
         """31 slow clients beside one that is not. Of each three one never reads, one stays in a line, and one goes."""
         root = self.room / "tree"
         fill_root(root, 10_000)
-        with Server(self.room, interval=200) as server, server.client() as client:
-            client.ask("watch", str(root))
+        with Server(self.room, interval=200) as server, server.client(root) as client:
             slow = [server.client() for _ in range(SESSIONS - 1)]
             self.same("all clients", [one.ask("version") for one in slow], [VERSION] * len(slow))
             with server.client() as late:

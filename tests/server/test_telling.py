@@ -53,8 +53,7 @@ class AWalkOfAMinute(Beside):
         """A walk that takes over a minute, since the server is stopped meanwhile, is told with its seconds."""
         root = self.room / "tree"
         fill_directory(root, FILES)
-        with Server(self.room, interval=A_HOUR) as server, server.client() as client:
-            client.ask("watch", str(root))
+        with Server(self.room, interval=A_HOUR) as server, server.client(root) as client:
             client.send("query", str(root), {**query_of_names(), "expression": ["name", "none"]})
             time.sleep(WITHIN)
             server.process.send_signal(signal.SIGSTOP)

@@ -41,8 +41,7 @@ class Traced(Case):
 
     def check_an_interrupted_call(self, room: Path, root: Path, through: Sequence[str]) -> None:
         name = through[-1]
-        with Server(room, interval=A_HOUR, through=through) as server, server.client() as client:
-            client.ask("watch", str(root))
+        with Server(room, interval=A_HOUR, through=through) as server, server.client(root) as client:
             self.same(f"replies, {name}", [client.ask("version") for _ in range(TURNS)], [VERSION] * TURNS)
             files = client.ask("query", str(root), query_of_names()).get("files", [])
             self.same(f"a long reply, {name}", len(files), FILES)

@@ -34,8 +34,7 @@ class Trees(Case):
         for workers in (None, 4):
             root = self.room / f"tree{workers}"
             make_large(root)
-            with Server(self.room, workers=workers) as server, server.client() as client:
-                client.ask("watch", str(root))
+            with Server(self.room, workers=workers) as server, server.client(root) as client:
                 self.same_tree(f"a large tree, {workers} workers", client, root)
                 for quarter in (1, 3, 2):
                     for name, change in CHANGES:

@@ -60,8 +60,7 @@ class Workers(Case):
 
 def replies(room: Path, root: Path, workers: int) -> List[bytes]:
     """The lines that a server of so many workers writes."""
-    with Server(room, interval=A_HOUR, workers=workers) as server, server.client() as client:
-        client.ask("watch", str(root))
+    with Server(room, interval=A_HOUR, workers=workers) as server, server.client(root) as client:
         lines = []
         for query in QUERIES:
             client.send("query", str(root), query)

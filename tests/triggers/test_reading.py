@@ -29,8 +29,7 @@ class Reading(Case):
             fill(scene.root)
             small = self.directory("small")
             (small / "a").touch()
-            with scene.server.client() as other:
-                other.ask("watch", str(small))
+            with scene.server.client(small) as other:
                 begun, over = scene.out / "begun", scene.out / "over"
                 scene.trigger("t", f"touch {begun}; sleep 1; touch {over}; exit 3", stdin="NAME_PER_LINE")
                 self.check("it starts", wait_until(begun.exists))

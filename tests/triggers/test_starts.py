@@ -66,8 +66,7 @@ class Starts(Case):
             (large / f"directory{number:02}").mkdir(parents=True)
             for file in range(100):
                 (large / f"directory{number:02}" / f"file{file:02}").touch()
-        with Scene(self.room) as scene, scene.server.client() as other:
-            other.ask("watch", str(large))
+        with Scene(self.room) as scene, scene.server.client(large) as other:
             script = scene.root / "script"
             script.write_text(f"#!/bin/sh\npwd >> '{scene.out}/log'\n")
             script.chmod(0o700)
