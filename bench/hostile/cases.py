@@ -187,14 +187,12 @@ def cases(root: str, roots: List[str], paths: int) -> Dict[str, Callable[[], Cas
         "64 subscriptions of a mebibyte": lambda: Case(subscriptions(root)),
         "64 triggers of a mebibyte": lambda: Case(triggers([root])),
         "64 triggers of a mebibyte at 16 roots": lambda: Case(triggers(roots), before=watches),
-        "16 expressions of 1,000 patterns": lambda: Case(
-            [patterns(root, PATTERNS, first, path=["x"]) for first in range(16)]),
+        "16 expressions of 1,000 patterns": lambda: Case([patterns(root, PATTERNS, n, path=["x"]) for n in range(16)]),
         "256 cursors at 16 roots": lambda: Case(cursors(roots), before=watches),
         "all files with all fields": lambda: Case([line("query", root, {"sync_timeout": 0, "fields": [
             "name", "exists", "new", "size", "type", "cclock", "oclock", "mtime", "mtime_ms"]})]),
     }
     for name, one in pipelined(root).items():
         for reads in ("late", "never"):
-            sent = functools.partial(Case, [one * LINES], reads=reads)
-            found[f"100,000 lines: {name}, read {reads}"] = sent
+            found[f"100,000 lines: {name}, read {reads}"] = functools.partial(Case, [one * LINES], reads=reads)
     return found
