@@ -91,3 +91,4 @@ class Node(Beside):
         lines = ended.stdout.splitlines()
         expected = f"wqd-chokidar: {HISTORIES} of {HISTORIES} histories right"
         self.check("drawn histories", ended.returncode == 0 and expected in lines, lines[-40:])
+        print("".join(f"{line}\n" for line in lines if line.startswith(("compare:", "chokidar,"))), end="")
