@@ -4,6 +4,7 @@ import os
 import subprocess
 import sys
 import tempfile
+from itertools import zip_longest
 from pathlib import Path
 from typing import Any, List, NamedTuple, Optional, Sequence, Union
 
@@ -54,6 +55,15 @@ def excerpt(text: bytes, length: int = 2000) -> str:
     """A text for a message: cut where it is long, with bytes that are not UTF-8 escaped."""
     cut = text if len(text) <= length else text[:length] + b" .. (%d bytes)" % len(text)
     return cut.decode("utf-8", "backslashreplace")
+
+
+def first_difference(plain: bytes, ended: bytes) -> List[str]:
+    """The first line in which what the plain program writes and what the built one does differ."""
+    pairs = enumerate(zip_longest(plain.split(b"\n"), ended.split(b"\n"), fillvalue=b""), 1)
+    for number, (one, other) in pairs:
+        if one != other:
+            return [f"the first difference is in line {number}", f"plain: {excerpt(one)}", f"built: {excerpt(other)}"]
+    return []
 
 
 def tracked() -> List[str]:

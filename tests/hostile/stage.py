@@ -11,9 +11,8 @@ import tempfile
 import termios
 import threading
 import time
-from itertools import zip_longest
 from pathlib import Path
-from typing import Iterable, Iterator, List
+from typing import Iterable, List
 
 import built
 from case import Case
@@ -134,7 +133,8 @@ class StageCase(Case):
     def compare(self, name: str, data: bytes, pieces: Iterable[bytes] = ()) -> bool:
         """Whether the server and the plain program say the same to these bytes."""
         expected, found = self.stage.plain_replies(data), self.stage.replies(data, pieces)
-        details = [] if expected == found else [f"sent: {built.excerpt(data)}", *difference(expected, found)]
+        details = [] if expected == found else [f"sent: {built.excerpt(data)}",
+                                                *built.first_difference(expected, found)]
         self.check(name, expected == found, details)
         return expected == found
 
@@ -160,15 +160,6 @@ class StageCase(Case):
         took = time.monotonic() - began
         self.check(f"a new client, {name}", reply.get("files") == ["b.txt"], [f"{reply}"])
         return took
-
-
-def difference(expected: bytes, found: bytes) -> Iterator[str]:
-    """The first line in which the two differ."""
-    lines = zip_longest(expected.split(b"\n"), found.split(b"\n"), fillvalue=b"")
-    number, one, other = next((number, one, other) for number, (one, other) in enumerate(lines, 1) if one != other)
-    yield f"the first difference is in line {number}"
-    yield f"plain: {built.excerpt(one)}"
-    yield f"built: {built.excerpt(other)}"
 
 
 def send(client: Client, pieces: Iterable[bytes], over: threading.Event) -> None:
