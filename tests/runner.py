@@ -107,8 +107,9 @@ def tests_of(suite: unittest.TestSuite) -> Iterator[unittest.TestCase]:
 class Runner(unittest.TextTestRunner):
     resultclass = Result
 
-    def __init__(self, **words: Any) -> None:
-        super().__init__(**{**words, "stream": sys.stdout, "verbosity": words.get("verbosity", 1) - 1})
+    def __init__(self, verbosity: int = 1, **words: Any) -> None:
+        """It prints no dots, and names each test only if -v asks for that."""
+        super().__init__(sys.stdout, verbosity=0 if verbosity == 1 else verbosity, **words)
 
 
 class Program(unittest.TestProgram):
