@@ -2,12 +2,19 @@
 
 import shutil
 import tempfile
+import traceback
 import unittest
 from pathlib import Path
 from typing import Any, Callable, Iterable
 
-# Traces of failures end at the line of the test, and do not go on here.
+# Traces of failures leave out the lines of this module.
 __unittest = True
+
+
+def place() -> str:
+    """The line of the test that calls the function here which calls this one."""
+    frame = traceback.extract_stack(limit=3)[0]
+    return f"{frame.filename}, line {frame.lineno}"
 
 
 def needs(*commands: str) -> Callable[[Any], Any]:
@@ -33,11 +40,12 @@ class Case(unittest.TestCase):
     def check(self, name: str, is_right: object, details: Iterable[str] = ()) -> None:
         with self.subTest(name):
             if not is_right:
-                self.fail("\n".join(details))
+                self.fail("\n".join([place(), *details]))
 
     def same(self, name: str, found: object, expected: object) -> None:
         with self.subTest(name):
-            self.assertEqual(found, expected)
+            if found != expected:
+                self.assertEqual(found, expected, place())
 
     def check_installed(self, command: str) -> None:
         self.check(f"{command} is there", shutil.which(command))
