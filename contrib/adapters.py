@@ -1,5 +1,5 @@
-"""The adapters for tools that poll by other libraries: wqd-chokidar for Node, and wqd_watchdog for Python. As files below
-a prefix for `./install`, and as a package for npm and one for pip, which are the same on every machine."""
+"""The adapters for tools that poll by other libraries: wqd-chokidar for Node, and wqd_watchdog for Python. As files
+below a prefix for `./install`, and as a package for npm and one for pip, which are the same on every machine."""
 
 import base64
 import gzip
@@ -12,7 +12,6 @@ import site
 import stat
 import tarfile
 import zipfile
-from pathlib import Path
 from typing import List, Optional
 
 from files import TOP, File, text, version

@@ -1,4 +1,4 @@
-#!/usr/bin/env -S python3 -I
+#!/usr/bin/env -S python3 -IB
 """Writes what completes the words of wq in a shell, from the words that wq has.
 
     contrib/completion.py bash|zsh|fish
@@ -11,7 +11,6 @@ from typing import Callable, Dict, Iterator, List
 
 TOP = Path(__file__).resolve().parent.parent
 sys.path[:0] = [str(TOP / "clients")]
-sys.dont_write_bytecode = True
 
 from wq.words import FORMS, NEEDS_DASHES, Option, options_of
 
@@ -29,14 +28,8 @@ NAMES = {"--program": "programs"}
 NAMES_OF_COMMANDS = {"untrigger": "triggers", "unwatch": "roots"}
 RUNNERS = [command for command in FORMS if command in NEEDS_DASHES]
 
-
-def bash() -> str:
-    options = {command: " ".join([*options_of(command), "--help"]) for command in FORMS}
-    cases = "\n".join(f'            {command}) choices="{words}" ;;' for command, words in options.items())
-    values = "\n".join(f'        {option}) choices="{words}" ;;' for option, words in VALUES.items())
-    values += "".join(f"\n        {option}) _wq_names {kind}; return ;;" for option, kind in NAMES.items())
-    named = "\n".join(f"        {command}) _wq_names {kind} ;;" for command, kind in NAMES_OF_COMMANDS.items())
-    return f"""# Completes the words of wq in bash.
+# What stays the same in each shell; the words of wq are put into it.
+BASH = """# Completes the words of wq in bash.
 
 # Adds the names of a kind that the server has, in quotes: bash puts them into the line as they are.
 _wq_names() {{
@@ -59,14 +52,15 @@ _wq_command() {{
 }}
 
 _wq() {{
-    local word=${{COMP_WORDS[COMP_CWORD]}} before=${{COMP_WORDS[COMP_CWORD - 1]}} command=${{COMP_WORDS[1]}} choices= place
+    local word=${{COMP_WORDS[COMP_CWORD]}} before=${{COMP_WORDS[COMP_CWORD - 1]}} command=${{COMP_WORDS[1]}}
+    local choices= place
     COMPREPLY=()
     if [ "$COMP_CWORD" -eq 1 ]; then
-        mapfile -t COMPREPLY < <(compgen -W "{' '.join(FORMS)} --help --version" -- "$word")
+        mapfile -t COMPREPLY < <(compgen -W "{commands} --help --version" -- "$word")
         return
     fi
     for ((place = 2; place < COMP_CWORD; place++)); do
-        case $command:${{COMP_WORDS[place]}} in {' | '.join(f'{command}:--' for command in RUNNERS)})
+        case $command:${{COMP_WORDS[place]}} in {runs})
             _wq_command $((place + 1))
             return ;;
         esac
@@ -92,14 +86,7 @@ _wq() {{
 complete -o filenames -F _wq wq
 """
 
-
-def zsh() -> str:
-    commands = "\n".join(f"        {shlex.quote(f'{command}:{form.about}')}" for command, form in FORMS.items())
-    cases = "\n".join(
-        f"        {command}) _arguments {' '.join(map(shlex.quote, zsh_options(command)))} {zsh_words(command)} ;;"
-        for command in FORMS
-    )
-    return f"""#compdef wq
+ZSH = """#compdef wq
 # Completes the words of wq in zsh.
 
 # Adds the names of a kind that the server has.
@@ -111,7 +98,7 @@ _wq_names() {{
 
 _wq() {{
     local place=${{words[(i)--]}}
-    if (( place < CURRENT )) && [[ $words[2] == ({'|'.join(RUNNERS)}) ]]; then
+    if (( place < CURRENT )) && [[ $words[2] == ({runs}) ]]; then
         shift $place words
         (( CURRENT -= place ))
         _normal
@@ -135,6 +122,25 @@ _wq() {{
 
 _wq "$@"
 """
+
+
+def bash() -> str:
+    options = {command: " ".join([*options_of(command), "--help"]) for command in FORMS}
+    cases = "\n".join(f'            {command}) choices="{words}" ;;' for command, words in options.items())
+    values = "\n".join(f'        {option}) choices="{words}" ;;' for option, words in VALUES.items())
+    values += "".join(f"\n        {option}) _wq_names {kind}; return ;;" for option, kind in NAMES.items())
+    named = "\n".join(f"        {command}) _wq_names {kind} ;;" for command, kind in NAMES_OF_COMMANDS.items())
+    runs = " | ".join(f"{command}:--" for command in RUNNERS)
+    return BASH.format(commands=" ".join(FORMS), runs=runs, values=values, cases=cases, named=named)
+
+
+def zsh() -> str:
+    commands = "\n".join(f"        {shlex.quote(f'{command}:{form.about}')}" for command, form in FORMS.items())
+    cases = "\n".join(
+        f"        {command}) _arguments {' '.join(map(shlex.quote, zsh_options(command)))} {zsh_words(command)} ;;"
+        for command in FORMS
+    )
+    return ZSH.format(commands=commands, runs="|".join(RUNNERS), cases=cases)
 
 
 def zsh_options(command: str) -> Iterator[str]:

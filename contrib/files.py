@@ -1,4 +1,5 @@
-"""What is installed: each file with its path below the prefix and its mode. `./install` and `./package` take it from here."""
+"""What is installed: each file with its path below the prefix and its mode. `./install` and `./package` take it from
+here."""
 
 import io
 import os
@@ -107,7 +108,8 @@ def files(prefix: str) -> List[File]:
         File("share/bash-completion/completions/wqd", 0o644, text("contrib/wqd.bash").encode()),
         File("share/bash-completion/completions/wqasm", 0o644, text("contrib/wqasm.bash").encode()),
         File("share/doc/wqd/CHANGELOG.md", 0o644, text("CHANGELOG.md").encode()),
-        File("share/doc/wqd/copyright", 0o644, (LICENCES + text("LICENSE-MIT") + "\n" + text("LICENSE-APACHE")).encode()),
+        File("share/doc/wqd/copyright", 0o644,
+             (LICENCES + text("LICENSE-MIT") + "\n" + text("LICENSE-APACHE")).encode()),
     ]
 
 
@@ -116,7 +118,8 @@ def files_as_watchman() -> List[File]:
     modules = [module for package in BRIDGE_PACKAGES for module in sorted((TOP / "clients" / package).glob("*.py"))]
     return [
         File("bin/watchman", 0o755, text("clients/watchman").encode()),
-        *(File(f"lib/wqd/clients/{module.parent.name}/{module.name}", 0o644, module.read_bytes()) for module in modules),
+        *(File(f"lib/wqd/clients/{module.parent.name}/{module.name}", 0o644, module.read_bytes())
+          for module in modules),
     ]
 
 
@@ -140,8 +143,8 @@ def archive(packages: List[str], main: str) -> bytes:
 
 
 def compiled(modules: Dict[str, Path]) -> Dict[str, bytes]:
-    """What Python compiles from each module. Errors name it by its key. A Python that has done nothing else does so, since
-    the bytes depend on the texts that it has read before."""
+    """What Python compiles from each module. Errors name it by its key. A Python that has done nothing else does so,
+    since the bytes depend on the texts that it has read before."""
     with tempfile.TemporaryDirectory() as room:
         made = {shown: os.path.join(room, str(number)) for number, shown in enumerate(modules)}
         words = [word for shown, module in modules.items() for word in (str(module), made[shown], shown)]
@@ -174,7 +177,8 @@ def wq_manual() -> str:
 
 def wqasm_manual() -> str:
     summary = "writes, reads, explains and tries programs for wqd"
-    usage = subprocess.run([sys.executable, "-I", str(TOP / "clients" / "wqasm"), "--help"], stdout=subprocess.PIPE, check=True)
+    usage = subprocess.run([sys.executable, "-I", str(TOP / "clients" / "wqasm"), "--help"], stdout=subprocess.PIPE,
+                           check=True)
     return manual.page(text("docs/WQASM.md"), "wqasm", 1, summary, version(), usage.stdout.decode())
 
 

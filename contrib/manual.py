@@ -1,8 +1,8 @@
 """A page of man, in the macros `man` of roff, from a page of docs/ in Markdown.
 
-Of Markdown it knows what these pages have: headings, paragraphs, lists with `-`, blocks of code, tables, and within a line
-code, bold and slanted text and links. A narrow table stays one. A wide one becomes a list: each row has its first cell as a
-tag, and the others below. Comments and lists of links are left out.
+Of Markdown it knows what these pages have: headings, paragraphs, lists with `-`, blocks of code, tables, and within a
+line code, bold and slanted text and links. A narrow table stays one. A wide one becomes a list: each row has its first
+cell as a tag, and the others below. Comments and lists of links are left out.
 """
 
 import re

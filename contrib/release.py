@@ -1,5 +1,5 @@
-"""The parts of a release beside its packages: an archive of the files that ./install puts below a prefix, a note of how the
-program was proved, and the checksums of all of it. Each is the same on every machine, if its files are."""
+"""The parts of a release beside its packages: an archive of the files that ./install puts below a prefix, a note of how
+the program was proved, and the checksums of all of it. Each is the same on every machine, if its files are."""
 
 import gzip
 import hashlib
@@ -70,7 +70,8 @@ def proof() -> File:
     digest = hashlib.sha256(program).hexdigest()
     note = NOTE.read_text("utf-8") if NOTE.is_file() else ""
     if f"program {digest}\n" not in note:
-        raise ValueError(f"the program with the SHA-256 {digest} is not the one that ./wqd --build proved and built here")
+        raise ValueError(f"the program with the SHA-256 {digest} is not the one that ./wqd --build proved and built "
+                         f"here")
     return File(f"wqd-{version()}.proof", 0o644, note.encode())
 
 

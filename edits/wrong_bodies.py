@@ -21,6 +21,9 @@ TIERS = ("gate", "more")
 TIER = re.compile(r"# (%s)" % "|".join(TIERS))
 HEADLINE = re.compile(r"## ([a-z0-9-]+)")
 
+# Whether something is as it should be, and what there is to say of it.
+Verdicts = List[Tuple[bool, str]]
+
 
 class Block(NamedTuple):
     """An edit as its file has it: its tier, if it is below one, its name, and the lines below."""
@@ -94,8 +97,8 @@ def apply(edit: Edit, directory: Path, texts: Dict[str, str]) -> None:
 
 
 def together(edits: List[Edit], directory: Path) -> Tuple[List[Edit], Dict[str, str]]:
-    """The first of these edits with each behind it that another function is refused for and that can stand beside them, and
-    the texts of the crate's files with all of them."""
+    """The first of these edits with each behind it that another function is refused for and that can stand beside them,
+    and the texts of the crate's files with all of them."""
     chosen: List[Edit] = []
     texts: Dict[str, str] = {}
     for edit in edits:
@@ -109,3 +112,9 @@ def together(edits: List[Edit], directory: Path) -> Tuple[List[Edit], Dict[str, 
         chosen.append(edit)
         texts = with_it
     return chosen, texts
+
+
+def tell(verdicts: Verdicts) -> Verdicts:
+    for _, text in verdicts:
+        print(text, flush=True)
+    return verdicts

@@ -1,7 +1,7 @@
 #!/usr/bin/env -S python3 -I
-"""Prints the files below a directory, and after each Return that you press those that changed since. With a program file it
-prints only those for which the program says yes. The variable WQD_SOCK names the socket of the server; without it, it is the
-one at which `wqd serve` and `wq start` listen.
+"""Prints the files below a directory, and after each Return that you press those that changed since. With a program
+file it prints only those for which the program says yes. The variable WQD_SOCK names the socket of the server; without
+it, it is the one at which `wqd serve` and `wq start` listen.
 
     examples/client.py DIRECTORY [PROGRAM]
 """
@@ -21,7 +21,8 @@ class Client:
     def __init__(self, sockname: str) -> None:
         stream = socket.socket(socket.AF_UNIX)
         stream.connect(sockname)
-        _, user, _ = struct.unpack("3i", stream.getsockopt(socket.SOL_SOCKET, socket.SO_PEERCRED, struct.calcsize("3i")))
+        _, user, _ = struct.unpack("3i",
+                                   stream.getsockopt(socket.SOL_SOCKET, socket.SO_PEERCRED, struct.calcsize("3i")))
         if user not in (os.getuid(), 0):
             sys.exit(f"the server at {sockname} is that of user {user}")
         self.lines = stream.makefile("rw", encoding="utf-8")

@@ -4,9 +4,9 @@ import os
 import subprocess
 import sys
 import tempfile
-import traceback
+from itertools import zip_longest
 from pathlib import Path
-from typing import Callable, Iterable, List, NamedTuple, Optional, Sequence, Union
+from typing import Any, List, NamedTuple, Optional, Sequence, Union
 
 TOP = Path(__file__).resolve().parent.parent
 DEFAULT_PROGRAM = TOP / "crates" / "wqd" / "out" / "wqd"
@@ -28,11 +28,15 @@ def program_path() -> Path:
     return path
 
 
+def call(command: Sequence[object], **options: Any) -> Ended:
+    """Runs a command to its end. The options are those of `subprocess.run`."""
+    ended = subprocess.run(command, capture_output=True, **options)
+    return Ended(ended.stdout, ended.stderr, ended.returncode)
+
+
 def run(words: Sequence[Union[str, bytes]], script: bytes = b"", program: Optional[Path] = None) -> Ended:
     """Runs the program with these words and this standard input."""
-    command: List[Union[str, bytes]] = [str(program or program_path()), *words]
-    ended = subprocess.run(command, input=script, stdout=subprocess.PIPE, stderr=subprocess.PIPE)
-    return Ended(ended.stdout, ended.stderr, ended.returncode)
+    return call([str(program or program_path()), *words], input=script)
 
 
 def replay(script: bytes, program: Optional[Path] = None) -> Ended:
@@ -47,43 +51,22 @@ def check(file: bytes) -> Ended:
         return run(["check", named.name])
 
 
-class Tally:
-    """Counts the tests that passed and failed, and prints what failed."""
-
-    def __init__(self) -> None:
-        self.passed = 0
-        self.failed = 0
-
-    def check(self, name: str, is_right: bool, details: Iterable[str] = ()) -> None:
-        if is_right:
-            self.passed += 1
-            return
-        self.failed += 1
-        print(f"failed: {name}")
-        for line in details:
-            print(f"  {line}")
-
-    def add(self, other: "Tally") -> None:
-        """Counts what another counted too."""
-        self.passed += other.passed
-        self.failed += other.failed
-
-    def end(self) -> None:
-        """Prints the last line, and ends the script with the status that it says."""
-        print(f"{self.passed} passed, {self.failed} failed")
-        sys.exit(1 if self.failed or not self.passed else 0)
-
-
-def attempt(tally: Tally, part: Callable[[Tally, Path], None]) -> None:
-    """Runs a part in a directory of its own. Whatever it raises counts as failed."""
-    try:
-        with tempfile.TemporaryDirectory() as room:
-            part(tally, Path(room).resolve())
-    except Exception as error:
-        tally.check(f"{part.__name__}: {error!r}", False, traceback.format_exc().splitlines())
-
-
 def excerpt(text: bytes, length: int = 2000) -> str:
     """A text for a message: cut where it is long, with bytes that are not UTF-8 escaped."""
     cut = text if len(text) <= length else text[:length] + b" .. (%d bytes)" % len(text)
     return cut.decode("utf-8", "backslashreplace")
+
+
+def first_difference(plain: bytes, ended: bytes) -> List[str]:
+    """The first line in which what the plain program writes and what the built one does differ."""
+    pairs = enumerate(zip_longest(plain.split(b"\n"), ended.split(b"\n"), fillvalue=b""), 1)
+    for number, (one, other) in pairs:
+        if one != other:
+            return [f"the first difference is in line {number}", f"plain: {excerpt(one)}", f"built: {excerpt(other)}"]
+    return []
+
+
+def tracked() -> List[str]:
+    """The files of the project, as git knows them."""
+    listed = subprocess.run(["git", "-C", str(TOP), "ls-files", "-z"], stdout=subprocess.PIPE, check=True).stdout
+    return [name for name in listed.decode().split("\0") if name and (TOP / name).is_file()]

@@ -1,6 +1,7 @@
 """The dear lines that one client can send to the server, and the lines that have to come before them."""
 
 import base64
+import functools
 import json
 from typing import Callable, Dict, List, NamedTuple
 
@@ -27,8 +28,8 @@ MOST_ENTRIES = 65_535
 
 
 class Case(NamedTuple):
-    """The lines of a client, which reads all replies, none before it has sent all lines, or none at all. What they make the
-    server keep begins with other lines."""
+    """The lines of a client, which reads all replies, none before it has sent all lines, or none at all. What they make
+    the server keep begins with other lines."""
 
     lines: List[bytes]
     before: List[bytes] = []
@@ -94,7 +95,8 @@ def large_program() -> str:
 
 
 def sets_program() -> str:
-    """A program of as many patterns of a byte as a line holds, in sets: open it takes fifty times the bytes of its file."""
+    """A program of as many patterns of a byte as a line holds, in sets: open it takes fifty times the bytes of its
+    file."""
     code = [Operation(BY_NAME["basename"], 0, 0), Operation(BY_NAME["anymatch"], 0, 0), Operation(BY_NAME["ret"], 0, 0)]
     program = Program([], [], [], [], [[(0, b"a")] * (MOST_ENTRIES - 535)] * 4, code)
     return base64.b64encode(written(program)).decode()
@@ -129,7 +131,8 @@ def long_names(number: int) -> object:
 
 def subscriptions(root: str) -> List[bytes]:
     """As many subscriptions as a session may have, each of a mebibyte."""
-    return [line("subscribe", root, f"s{number}", {**NAMES, "expression": long_names(number)}) for number in range(FOLLOWS)]
+    return [line("subscribe", root, f"s{number}", {**NAMES, "expression": long_names(number)})
+            for number in range(FOLLOWS)]
 
 
 def triggers(roots: List[str]) -> List[bytes]:
@@ -156,19 +159,22 @@ def pipelined(root: str) -> Dict[str, bytes]:
 
 def cases(root: str, roots: List[str], paths: int) -> Dict[str, Callable[[], Case]]:
     """Each case by its name."""
+    watches = [line("watch", other) for other in roots]
     found: Dict[str, Callable[[], Case]] = {
         "1 MiB of 0,": lambda: Case([filled('["x",', "0,", "]")]),
         '1 MiB of {"":0},': lambda: Case([filled('["x",', '{"":0},', "]")]),
         "1 MiB of [": lambda: Case([b"[" * LONGEST_LINE + b"\n"]),
         "63 not": lambda: Case([nots(root)]),
         "a name list of 65,535 entries": lambda: Case([query(root, expression=["name", texts(MOST_ENTRIES, 12)])]),
-        "a name list of 262,000 entries": lambda: Case([filled(f'["query","{root}",{{"expression":["name",[', '"a",', "]]}]")]),
+        "a name list of 262,000 entries": lambda: Case(
+            [filled(f'["query","{root}",{{"expression":["name",[', '"a",', "]]}]")]),
         "1,000 patterns of 255 atoms": lambda: Case([patterns(root, PATTERNS)]),
         "1,000 patterns of 127 stars": lambda: Case([stars(root, PATTERNS)]),
         "1,000 patterns of a star and 254 marks": lambda: Case([marks(root, PATTERNS)]),
         f"{paths:,} empty paths": lambda: Case([query(root, path=[""] * paths, expression="false")]),
         "262,000 suffixes": lambda: Case([filled(f'["query","{root}",{{"sync_timeout":0,"suffix":[', '"a",', "]}]")]),
-        "a program of 1,365 patterns": lambda: Case([query(root, program="p")], before=[line("program-add", "p", dear_program())]),
+        "a program of 1,365 patterns": lambda: Case(
+            [query(root, program="p")], before=[line("program-add", "p", dear_program())]),
         "20,000 matches of a star and 254 marks": lambda: Case(
             [query(root, program="p")], before=[line("program-add", "p", matching("wholename", MARKS, MORE_MATCHES))]),
         "256 programs of 1,365 patterns": lambda: Case(added(dear_program())),
@@ -180,13 +186,13 @@ def cases(root: str, roots: List[str], paths: int) -> Dict[str, Callable[[], Cas
         "256 expressions of 1,000 names": lambda: Case(short_expressions(root, 1_000)),
         "64 subscriptions of a mebibyte": lambda: Case(subscriptions(root)),
         "64 triggers of a mebibyte": lambda: Case(triggers([root])),
-        "64 triggers of a mebibyte at 16 roots": lambda: Case(triggers(roots), before=[line("watch", other) for other in roots]),
-        "16 expressions of 1,000 patterns": lambda: Case([patterns(root, PATTERNS, first, path=["x"]) for first in range(16)]),
-        "256 cursors at 16 roots": lambda: Case(cursors(roots), before=[line("watch", other) for other in roots]),
+        "64 triggers of a mebibyte at 16 roots": lambda: Case(triggers(roots), before=watches),
+        "16 expressions of 1,000 patterns": lambda: Case([patterns(root, PATTERNS, n, path=["x"]) for n in range(16)]),
+        "256 cursors at 16 roots": lambda: Case(cursors(roots), before=watches),
         "all files with all fields": lambda: Case([line("query", root, {"sync_timeout": 0, "fields": [
             "name", "exists", "new", "size", "type", "cclock", "oclock", "mtime", "mtime_ms"]})]),
     }
     for name, one in pipelined(root).items():
         for reads in ("late", "never"):
-            found[f"100,000 lines: {name}, read {reads}"] = lambda one=one, reads=reads: Case([one * LINES], reads=reads)
+            found[f"100,000 lines: {name}, read {reads}"] = functools.partial(Case, [one * LINES], reads=reads)
     return found

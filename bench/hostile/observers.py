@@ -1,13 +1,11 @@
 """Other clients beside a hostile one: how long they wait."""
 
 import multiprocessing
-import os
 import statistics
 import time
-from pathlib import Path
 from typing import List
 
-from client import Client, Server
+from client import Client
 
 FORK = multiprocessing.get_context("fork")
 # A pause between two requests, in seconds.
@@ -51,8 +49,3 @@ def at_middle(times: List[float]) -> float:
 def at_99(times: List[float]) -> float:
     """The time that 99 of 100 do not exceed."""
     return sorted(times)[len(times) * 99 // 100] if times else 0.0
-
-
-def processor_seconds(server: Server) -> float:
-    words = Path(f"/proc/{server.process.pid}/stat").read_text().rsplit(")", 1)[1].split()
-    return (int(words[11]) + int(words[12])) / os.sysconf("SC_CLK_TCK")

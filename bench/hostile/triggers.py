@@ -1,6 +1,6 @@
-"""The cost of one hostile client's triggers for others. A round runs the programs of the triggers of a root. Then it holds
-the lock that each request takes, while it makes their batches. The first batch of a trigger looks at all files, and one that
-is registered anew begins anew. So the client registers its triggers again and again."""
+"""The cost of one hostile client's triggers for others. A round runs the programs of the triggers of a root. Then it
+holds the lock that each request takes, while it makes their batches. The first batch of a trigger looks at all files,
+and one that is registered anew begins anew. So the client registers its triggers again and again."""
 
 import threading
 import time
@@ -9,7 +9,7 @@ from typing import Callable, Dict, List
 
 from cases import ATOMS, MARKS, PATTERNS, line
 from client import Server
-from observers import EVERY, MOST_WAIT, Observer, at_99, at_middle, processor_seconds
+from observers import EVERY, MOST_WAIT, Observer, at_99, at_middle
 
 # The pause of the server between two rounds, in milliseconds, and how long a case lasts, in seconds.
 INTERVAL = 1_000
@@ -64,12 +64,12 @@ def row_of(room: Path, root: str, name: str, lines: List[bytes]) -> str:
         client.ask("watch", root)
         ended = threading.Event()
         hostile = threading.Thread(target=register, args=(server, lines, ended))
-        spent, began = processor_seconds(server), time.monotonic()
+        spent, began = server.processor_seconds(), time.monotonic()
         observers = [Observer(server.sockname, "get-sockname"), Observer(server.sockname, "clock", root)]
         hostile.start()
         time.sleep(LASTS)
         waits = [observer.end() for observer in observers]
-        spent, took = processor_seconds(server) - spent, time.monotonic() - began
+        spent, took = server.processor_seconds() - spent, time.monotonic() - began
         ended.set()
         hostile.join()
     return f"| {name} | {said_of(waits[0])} | {said_of(waits[1])} | {spent:.1f} s of {took:.0f} s |"

@@ -38,7 +38,8 @@ class Load:
         self.program = room / "load"
         subprocess.run(["cc", "-O2", "-pthread", "-o", str(self.program), str(HERE / "load.c")], check=True)
 
-    def press(self, sockname: str, request: bytes, clients: int, seconds: float, encoding: str = "json") -> Dict[str, float]:
+    def press(self, sockname: str, request: bytes, clients: int, seconds: float,
+              encoding: str = "json") -> Dict[str, float]:
         path = self.room / "request"
         path.write_bytes(request)
         said = subprocess.run([str(self.program), sockname, str(clients), str(seconds), str(path), encoding],
@@ -152,7 +153,8 @@ class Run:
             self.clock(peer)
         time.sleep(1)  # the sessions of the clients before end, so that 32 have places
         for clients in (1, 32):
-            self.each(lambda peer: self.median("recent clock", peer, {"since": clocks[peer.name], "fields": ["name"]}, clients))
+            self.each(lambda peer: self.median("recent clock", peer, {"since": clocks[peer.name], "fields": ["name"]},
+                                               clients))
 
     def clock(self, peer: Peer) -> object:
         with peer.client() as client:

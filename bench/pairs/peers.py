@@ -83,7 +83,8 @@ class Peer:
 
 
 def watchman(room: Path) -> Peer:
-    words = ["watchman", "--foreground", f"--sockname={room}/w", f"--logfile={room}/w.log", f"--statefile={room}/w.state",
+    words = ["watchman", "--foreground", f"--sockname={room}/w", f"--logfile={room}/w.log",
+             f"--statefile={room}/w.state",
              f"--pidfile={room}/w.pid", "--no-save-state", "--log-level=0"]
     return Peer("watchman", words, f"{room}/w", room)
 
@@ -96,5 +97,6 @@ def wqd(room: Path, interval: int = AN_HOUR) -> Peer:
 
 
 def bridge(room: Path, server: Peer, python: Optional[str] = None) -> Peer:
-    words = [python or sys.executable, str(TOP / "clients" / "bridge"), "--server", server.sockname, "--sockname", f"{room}/b"]
+    words = [python or sys.executable, "-B", str(TOP / "clients" / "bridge"), "--server", server.sockname, "--sockname",
+             f"{room}/b"]
     return Peer("bridge", words, f"{room}/b", room)

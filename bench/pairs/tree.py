@@ -3,7 +3,8 @@
 from pathlib import Path
 from typing import List, NamedTuple
 
-SUFFIXES = ["c"] * 16 + ["h"] * 12 + ["cpp"] * 6 + ["rs"] * 8 + ["py"] * 8 + ["js"] * 12 + ["ts"] * 8 + ["json"] * 6 + ["md"] * 4
+SUFFIXES = ["c"] * 16 + ["h"] * 12 + ["cpp"] * 6 + ["rs"] * 8 + ["py"] * 8 + ["js"] * 12 + ["ts"] * 8
+SUFFIXES += ["json"] * 6 + ["md"] * 4
 WORDS = "alpha beta core util net http parse test main index view model store cache query clock".split()
 OF_A_DIRECTORY = 17
 # Multipliers that scatter the files.

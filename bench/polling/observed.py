@@ -5,7 +5,6 @@ import sys
 import time
 from pathlib import Path
 
-sys.dont_write_bytecode = True
 sys.path[0] = str(Path(__file__).resolve().parents[2] / "clients" / "watchdog")
 
 from watchdog.events import FileSystemEvent, FileSystemEventHandler

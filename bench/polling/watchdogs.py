@@ -16,23 +16,28 @@ PACKAGE = "the package python3-watchdog"
 SERVED = "`wqd_watchdog` and its server"
 
 
-class Observed(Printed):
+def observed(kind: str, root: Path, seconds: str) -> List[str]:
     """A program in Python with an observer."""
+    return [PYTHON, "-B", str(HERE / "observed.py"), kind, str(root), seconds]
 
-    def __init__(self, kind: str, root: Path, seconds: str) -> None:
-        super().__init__([PYTHON, str(HERE / "observed.py"), kind, str(root), seconds])
+
+class Ready(Printed):
+    """A program that says when it is ready."""
+
+    def __init__(self, command: List[str]) -> None:
+        super().__init__(command)
         self.wait_for("ready\n")
 
 
-class ObservedByServer(Observed):
-    """The same with the adapter, and the server that it asks: figures are of both together."""
+class Served(Ready):
+    """A program with an adapter, and the server that it asks: figures are of both together."""
 
-    def __init__(self, root: Path, room: Path, seconds: str) -> None:
+    def __init__(self, command: List[str], room: Path) -> None:
         sockname = str(room / "socket")
         os.environ.update(WQD_SOCK=sockname, XDG_STATE_HOME=str(room))
         program = os.environ.get("WQD") or str(TOP / "crates" / "wqd" / "out" / "wqd")
         self.server = Server([program, *serve_words(sockname)], sockname)
-        super().__init__("wqd", root, seconds)
+        super().__init__(command)
 
     def facts(self) -> Facts:
         own, served = super().facts(), self.server.facts()
@@ -65,12 +70,12 @@ def missing() -> bool:
 
 def polling(seconds: str) -> Poller:
     def start(root: Path, room: Path) -> Watch:
-        return Observed("polling", root, seconds)
+        return Ready(observed("polling", root, seconds))
     return Poller(f"watchdog, `PollingObserver`, {seconds} s", PACKAGE if missing() else None, start)
 
 
 def adapted(seconds: str) -> Poller:
     def start(root: Path, room: Path) -> Watch:
-        return ObservedByServer(root, room, seconds)
+        return Served(observed("wqd", root, seconds), room)
     return Poller(SERVED, PACKAGE if missing() else None, start)
 

@@ -1,4 +1,5 @@
-"""Who keeps a picture of a root's files from what the server tells: a client that asks, one that subscribes, and a trigger."""
+"""Who keeps a picture of a root's files from what the server tells: a client that asks, one that subscribes, and a
+trigger."""
 
 import json
 import random
@@ -12,7 +13,6 @@ from typing import Callable, List, Set
 
 TESTS = Path(__file__).resolve().parent.parent.parent / "tests"
 sys.path[:0] = [str(TESTS), str(TESTS / "server")]
-sys.dont_write_bytecode = True
 
 from client import Client, Server
 

@@ -21,7 +21,8 @@ class Size(NamedTuple):
 
 
 def size_of(process: int) -> Size:
-    """What a process takes, with the least of its threads in half a second: a walk has a second one for some milliseconds."""
+    """What a process takes, with the least of its threads in half a second: a walk has a second one for some
+    milliseconds."""
     found = []
     for _ in range(LOOKS):
         lines = Path(f"/proc/{process}/status").read_text().splitlines()

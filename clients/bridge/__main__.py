@@ -1,9 +1,8 @@
-"""Runs the bridge: python3 -I clients/bridge --help."""
+"""Runs the bridge: python3 -IB clients/bridge --help."""
 
 import sys
 from pathlib import Path
 
-sys.dont_write_bytecode = True
 sys.path[:0] = [str(Path(__file__).resolve().parent.parent)]
 
 from bridge.serving import main

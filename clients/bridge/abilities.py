@@ -6,7 +6,8 @@ from bridge.expressions import TERMS
 from bridge.fields import KEPT, READ
 
 OF_QUERIES = (
-    "relative_root", "glob_generator", "wildmatch", "wildmatch-multislash", "dedup_results", "clock-sync-timeout", "suffix-set",
+    "relative_root", "glob_generator", "wildmatch", "wildmatch-multislash", "dedup_results", "clock-sync-timeout",
+    "suffix-set",
 )
 BSER = "bser-v2"
 
@@ -19,8 +20,8 @@ def abilities_of(commands: Iterable[str], has_bser: bool) -> List[str]:
 
 
 def checked(wishes: object, abilities: List[str]) -> Dict[str, object]:
-    """The answer beside the version to a client that asks for capabilities. As in Watchman, wishes in another form ask for
-    none, as those of Mercurial's debuginstall."""
+    """The answer beside the version to a client that asks for capabilities. As in Watchman, wishes in another form ask
+    for none, as those of Mercurial's debuginstall."""
     optional, required = names_in(wishes, "optional"), names_in(wishes, "required")
     has = {name: name in abilities for name in (*optional, *required)}
     found: Dict[str, object] = {"capabilities": has}

@@ -1,9 +1,10 @@
 """The words of the command `watchman`: what they ask of the bridge, and how its replies are printed."""
 
+import getopt
 import json
 import os
 import sys
-from typing import Dict, List, NamedTuple, Optional
+from typing import Dict, List, NamedTuple
 
 from bridge.given import Given, fault_of, read_command, with_absolute_root
 from bridge.sockets import server_behind, sockname_by_default
@@ -28,16 +29,16 @@ USAGE = """usage: watchman [OPTION..] COMMAND [ARGUMENT..]
 Watchman's options of its own server are taken and change nothing: --logfile, --pidfile, --statefile, --no-save-state,
 --log-level and --server-encoding. Two dashes end the options, as in: watchman -- find ROOT '*.c'
 """
-# The options by their letters, and by their long names whether they take a value.
+# The options, as getopt takes them: those with a value end in a colon or an equals sign.
+SHORT = "hvU:o:pnjf"
+LONG = [
+    "help", "version", "sockname=", "json-command", "persistent", "no-pretty", "output-encoding=", "no-spawn",
+    "no-local",
+    "logfile=", "pidfile=", "statefile=", "no-save-state", "log-level=", "server-encoding=", "foreground", "inetd",
+]
 LETTERS = {
-    "h": "--help", "v": "--version", "U": "--sockname", "o": "--logfile", "p": "--persistent", "n": "--no-save-state",
-    "j": "--json-command", "f": "--foreground",
-}
-OPTIONS = {
-    "--help": False, "--version": False, "--sockname": True, "--json-command": False, "--persistent": False,
-    "--no-pretty": False, "--output-encoding": True, "--no-spawn": False, "--no-local": False, "--logfile": True,
-    "--pidfile": True, "--statefile": True, "--no-save-state": False, "--log-level": True, "--server-encoding": True,
-    "--foreground": False, "--inetd": False,
+    "-h": "--help", "-v": "--version", "-U": "--sockname", "-o": "--logfile", "-p": "--persistent",
+    "-n": "--no-save-state", "-j": "--json-command", "-f": "--foreground",
 }
 NOT_BUILT = ("--foreground", "--inetd")
 ENCODINGS = {"json": 0, "bser": 1, "bser-v1": 1, "bser-v2": 2}
@@ -73,52 +74,23 @@ def main(arguments: List[str], home: str) -> None:
 
 def words_of(arguments: List[str]) -> Words:
     """The options may be anywhere before two dashes."""
-    left, words = list(arguments), Words({}, [])
-    while left:
-        word = left.pop(0)
-        if word == "--":
-            words.command.extend(left)
-            break
-        if word.startswith("--"):
-            name, is_joined, value = word.partition("=")
-            take_option(words, name, value if is_joined else None, left)
-        elif word.startswith("-") and len(word) > 1:
-            take_letters(words, word[1:], left)
-        else:
-            words.command.append(word)
-    for option in ("--server-encoding", "--output-encoding"):
-        check_encoding(words.options.get(option, "json"))
-    return words
+    try:
+        found, command = getopt.gnu_getopt(arguments, SHORT, LONG)
+    except getopt.GetoptError as error:
+        sys.exit(f"Unknown or invalid option! {error}\n{USAGE}")
+    options = {LETTERS.get(name, name): value for name, value in found}
+    for name in NOT_BUILT:
+        if name in options:
+            sys.exit(f"watchman: {name} is not supported; start wqd serve and clients/bridge by themselves")
+    for name in ("--server-encoding", "--output-encoding"):
+        check_encoding(options.get(name, "json"))
+    return Words(options, command)
 
 
 def check_encoding(name: str) -> None:
     if name not in ENCODINGS:
         print(harmless_lines(f"watchman: Invalid encoding '{name}', use one of json, bser or bser-v2"), file=sys.stderr)
         sys.exit(WRONG_USAGE)
-
-
-def take_letters(words: Words, letters: str, left: List[str]) -> None:
-    """Options of one letter each. The rest after one that takes a value is that value."""
-    for place, letter in enumerate(letters, 1):
-        name = LETTERS.get(letter, f"-{letter}")
-        if OPTIONS.get(name) and letters[place:]:
-            take_option(words, name, letters[place:], left)
-            return
-        take_option(words, name, None, left)
-
-
-def take_option(words: Words, name: str, value: Optional[str], left: List[str]) -> None:
-    if name not in OPTIONS:
-        sys.exit(f"Unknown or invalid option! {name}\n{USAGE}")
-    if name in NOT_BUILT:
-        sys.exit(f"watchman: {name} is not supported; start wqd serve and clients/bridge by themselves")
-    if OPTIONS[name] and value is None:
-        if not left:
-            sys.exit(f"watchman: {name} needs a value\n{USAGE}")
-        value = left.pop(0)
-    if not OPTIONS[name] and value is not None:
-        sys.exit(f"watchman: {name} takes no value\n{USAGE}")
-    words.options[name] = value or ""
 
 
 def run(words: Words, home: str) -> None:
@@ -151,7 +123,8 @@ def run(words: Words, home: str) -> None:
 
 
 def start(sockname: str, home: str) -> None:
-    """Starts what does not run. Scripts call this command again and again, so it reads what it seldom needs only then."""
+    """Starts what does not run. Scripts call this command again and again, so it reads what it seldom needs only
+    then."""
     if not is_listened_on(sockname) or not is_listened_on(server_behind(sockname)):
         from bridge.starting import Start
         Start(sockname, home).start()

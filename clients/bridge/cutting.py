@@ -1,7 +1,8 @@
 """The text of a list of the server, cut into columns: for each field its values of some files.
 
-A list is the longest thing that the bridge handles, so nothing here looks at one file after the other. In the text of a value
-a quotation mark has a backslash before it. So in a list without a backslash each quotation mark is one around a key or a text.
+A list is the longest thing that the bridge handles, so nothing here looks at one file after the other. In the text of a
+value a quotation mark has a backslash before it. So in a list without a backslash each quotation mark is one around a
+key or a text.
 """
 
 import json
@@ -13,8 +14,8 @@ MARKS = b":{}"
 # In the place of these a text of JSON has others, which begin with a backslash.
 ESCAPED = bytes([*range(32), *b'"\\'])
 BETWEEN_NAMES = b'","'
-# If one of these bytes is before the quotation mark that ends a name, it may be another one: before a first mark or a name that
-# is a comma, or one of a name itself.
+# If one of these bytes is before the quotation mark that ends a name, it may be another one: before a first mark or a
+# name that is a comma, or one of a name itself.
 DOUBTFUL = b',["\\'
 # So many bytes at the end of a text are looked at for a sure mark. Without one more of the list is waited for.
 LOOKED_AT = 16_384
@@ -24,8 +25,8 @@ Columns = Dict[str, Column]
 
 
 class Cutter:
-    """Cuts lists with these fields, in which each name begins with the same bytes, which are dropped. Texts are in UTF-8, as the
-    server has them."""
+    """Cuts lists with these fields, in which each name begins with the same bytes, which are dropped. Texts are in
+    UTF-8, as the server has them."""
 
     def __init__(self, fields: List[str], above: bytes) -> None:
         # Files have their keys in byte order.
@@ -82,8 +83,8 @@ class Cutter:
 
 
 def places_of(keys: List[str]) -> Tuple[Dict[str, int], int]:
-    """In the parts between the quotation marks of a list: which part of the first file is the value of each key, and after how
-    many parts the next file's comes."""
+    """In the parts between the quotation marks of a list: which part of the first file is the value of each key, and
+    after how many parts the next file's comes."""
     places, place = {}, 0
     for key in keys:
         places[key] = place + (3 if key in TEXTS else 2)

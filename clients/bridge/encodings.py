@@ -25,8 +25,8 @@ FULL = "the bridge keeps as much of its clients' messages as it may"
 MAGIC = {b"\x00\x01": 1, b"\x00\x02": 2}
 # A message begins with the two bytes of MAGIC, in BSER 2 four bytes of capabilities, and its length as a BSER integer.
 LENGTH_AT = {1: 2, 2: 6}
-# The kinds of arrays in BSER: one of values, and one of objects that have the same keys. Both begin with the number of values
-# or objects, in front of which the second kind has the keys.
+# The kinds of arrays in BSER: one of values, and one of objects that have the same keys. Both begin with the number of
+# values or objects, in front of which the second kind has the keys.
 ARRAY, TEMPLATE, NO_VALUES = b"\x00", b"\x0b", b"\x00\x03\x00"
 
 
@@ -224,7 +224,8 @@ class Inbox:
             raise Unreadable(encoding, "the value is too deep")
         except TooMany:
             raise Unreadable(encoding, "the value has more values in it than a command can have")
-        except (NoValue, ValueError, TypeError, LookupError, ArithmeticError, SystemError, MemoryError, struct.error) as error:
+        except (NoValue, ValueError, TypeError, LookupError, ArithmeticError, SystemError, MemoryError,
+                struct.error) as error:
             raise Unreadable(encoding, f"this is no BSER: {error}")
 
     def length(self) -> Optional[int]:

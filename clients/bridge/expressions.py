@@ -50,8 +50,8 @@ def literal(text: str, has_escapes: bool) -> str:
 
 
 def said_at(term: Term, place: Place, depth: int = 0) -> Term:
-    """The term that matches the same files below the directory of the place. A term that is none stays as it is, and the
-    server refuses it."""
+    """The term that matches the same files below the directory of the place. A term that is none stays as it is, and
+    the server refuses it."""
     if not isinstance(term, list) or not term or not isinstance(term[0], str) or depth > DEEPEST:
         return term
     name, rest = term[0], term[1:]
@@ -146,6 +146,7 @@ def of_globs(globs: List[object], place: Place, flags: Dict[str, bool]) -> Term:
         if not isinstance(pattern, str):
             raise Refused("expected json string object")
         terms.append([
-            "match" if place.has_case else "imatch", place.pattern_of(pattern, not flags["noescape"]), "wholename", flags,
+            "match" if place.has_case else "imatch", place.pattern_of(pattern, not flags["noescape"]), "wholename",
+            flags,
         ])
     return all_of(["exists", any_of(terms)])

@@ -20,7 +20,8 @@ class Refused(Exception):
 
 
 class Ended(Exception):
-    """The client or the server has gone, or has sent bytes that cannot be read. The client gets the words, if there are any."""
+    """The client or the server has gone, or has sent bytes that cannot be read. The client gets the words, if there are
+    any."""
 
 
 def of_server(error: str, command: List[object]) -> str:
@@ -37,7 +38,8 @@ def of_server(error: str, command: List[object]) -> str:
     if number == UNREADABLE:
         return f"unable to resolve root {root}: opendir_nofollow: {root}: {reason_of(str(root))}"
     if number == NO_PLACE:
-        return "the 32 places of the server are taken: each client has one, and one more for each 64 subscriptions (E17)"
+        return ("the 32 places of the server are taken: each client has one, and one more for each 64 subscriptions "
+                "(E17)")
     if number in OF_ROOTS:
         return f"unable to resolve root {root}: {OF_ROOTS[number]}"
     if number == BAD_CLOCK:

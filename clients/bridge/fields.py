@@ -1,4 +1,5 @@
-"""Fields of files: those that the server keeps, and those that the bridge reads of the listed files when it is asked."""
+"""Fields of files: those that the server keeps, and those that the bridge reads of the listed files when it is
+asked."""
 
 import hashlib
 import os
@@ -17,8 +18,8 @@ BY_DEFAULT = ["name", "exists", "new", "size", "mode"]
 TRUE_IF_FRESH = ("exists", "new")
 # Files are told to be directories or links by the mode, which a deleted file has no longer.
 MODES = {
-    b"f": stat.S_IFREG, b"d": stat.S_IFDIR, b"l": stat.S_IFLNK, b"b": stat.S_IFBLK, b"c": stat.S_IFCHR, b"p": stat.S_IFIFO,
-    b"s": stat.S_IFSOCK,
+    b"f": stat.S_IFREG, b"d": stat.S_IFDIR, b"l": stat.S_IFLNK, b"b": stat.S_IFBLK, b"c": stat.S_IFCHR,
+    b"p": stat.S_IFIFO, b"s": stat.S_IFSOCK,
 }
 BILLION = 1_000_000_000
 PIECE = 1_048_576
@@ -85,8 +86,8 @@ class Fields(NamedTuple):
 
 
 def fields_of(value: object, is_in_json: bool, is_fresh: bool) -> Fields:
-    """The fields that a query names. In a fresh list some are true of each file, so the server is asked for them only if its
-    list goes to a JSON client as it is."""
+    """The fields that a query names. In a fresh list some are true of each file, so the server is asked for them only
+    if its list goes to a JSON client as it is."""
     if not isinstance(value, list) or not all(isinstance(each, str) for each in value):
         raise Refused("failed to parse query: field list must be an array of strings")
     for name in value:

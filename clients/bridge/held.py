@@ -1,8 +1,10 @@
-"""How many bytes the bridge keeps for its clients. Without a bound for all together, each could fill the memory in its turn."""
+"""How many bytes the bridge keeps for its clients. Without a bound for all together, each could fill the memory in its
+turn."""
 
 import threading
 
-# Of messages that are not whole or not answered yet, and of notices that clients are still to be told; all clients together.
+# Of messages that are not whole or not answered yet, and of notices that clients are still to be told; all clients
+# together.
 MOST = 67_108_864
 MOST_CLIENTS = 64
 

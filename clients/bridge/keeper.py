@@ -15,8 +15,8 @@ NO_PLACE = "E17:"
 
 
 class Keeper:
-    """Looks now and then whether the watched directories are there. One that is gone for the whole grace time is watched no
-    longer."""
+    """Looks now and then whether the watched directories are there. One that is gone for the whole grace time is
+    watched no longer."""
 
     def __init__(self, server: str, grace: float, say: Callable[[str], None], forget: Callable[[str], None]) -> None:
         self.server = server
@@ -58,7 +58,8 @@ class Keeper:
         return now - since >= self.grace
 
     def end(self, root: str) -> None:
-        """Ends the watch of a root. If the server does not answer, or has no place for a client, the next look tries again."""
+        """Ends the watch of a root. If the server does not answer, or has no place for a client, the next look tries
+        again."""
         try:
             link = Link(self.server)
         except Ended:

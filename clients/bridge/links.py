@@ -11,7 +11,8 @@ MOST = 64
 
 
 class Links:
-    """The connections. Each is made when it is needed, and one without subscriptions is given back, but for the first."""
+    """The connections. Each is made when it is needed, and one without subscriptions is given back, but for the
+    first."""
 
     def __init__(self, server: str, ready: "select.poll", sees: Callable[[int], None]) -> None:
         self.server = server

@@ -11,20 +11,20 @@ from bridge.link import VERSION_LAST
 from bridge.version import VERSION
 
 VERSION_TOLD = f'"version":"{VERSION}"}}\n'.encode()
-# The texts around the files of a list. A text of it has the second nowhere, since its first quotation mark would have a backslash
-# before it.
+# The texts around the files of a list. A text of it has the second nowhere, since its first quotation mark would have a
+# backslash before it.
 FILES_BEGIN, FILES_END = b'"files":[', b'],"is_fresh_instance":'
 
 
 class Passing:
-    """A list that goes to a JSON client as the server wrote it, but for the version, and the client's directory in front of the
-    names."""
+    """A list that goes to a JSON client as the server wrote it, but for the version, and the client's directory in
+    front of the names."""
 
     def __init__(self, lister: Lister, client: socket.socket) -> None:
         self.client = client
         self.above = b'"' + lister.above if "name" in lister.fields.wanted else b'"'
-        # The text before each name, and before the first one of names alone. It is found nowhere else: in a text a quotation
-        # mark has a backslash before it, and what comes after the mark that ends a text is no name.
+        # The text before each name, and before the first one of names alone. It is found nowhere else: in a text a
+        # quotation mark has a backslash before it, and what comes after the mark that ends a text is no name.
         self.before, self.before_first = (b",", b"[") if lister.fields.wanted == ["name"] else (b'"name":', b"")
         # Nothing that is replaced has this in it but at its beginning.
         self.between = b"," if len(self.above) == 1 else b',"' if self.before_first else b',{"'
@@ -54,7 +54,8 @@ class Passing:
         return text.replace(self.before + self.above, self.before + b'"')
 
     def tell(self) -> None:
-        more = b"".join(b"%b:%b," % (json_of(key).encode(), json_of(value).encode()) for key, value in self.more.items())
+        more = b"".join(b"%b:%b," % (json_of(key).encode(), json_of(value).encode())
+                        for key, value in self.more.items())
         self.client.sendall(self.told(self.held[:-len(VERSION_LAST)]) + more + VERSION_TOLD)
 
 

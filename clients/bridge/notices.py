@@ -19,7 +19,8 @@ UNREAD = "the client did not read what other clients had it told"
 
 
 class Notice(NamedTuple):
-    """The keys that a client gets. The notice of a state goes to each subscription of its root, one of the log to the client."""
+    """The keys that a client gets. The notice of a state goes to each subscription of its root, one of the log to the
+    client."""
 
     root: Optional[str]
     keys: Dict[str, object]

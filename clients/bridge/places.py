@@ -45,7 +45,8 @@ class NotThere(Exception):
 
 
 def real_path(path: str) -> str:
-    """The path without links. Each query asks for it, and the system knows it sooner than one step after the other tells."""
+    """The path without links. Each query asks for it, and the system knows it sooner than one step after the other
+    tells."""
     try:
         number = os.open(path, os.O_PATH)
     except (OSError, ValueError) as error:
@@ -67,8 +68,8 @@ def in_utf8(path: str) -> str:
 
 
 def project_of(path: object, watched: List[str], root_files: List[str], enforces: bool) -> Project:
-    """The watched root that a directory lies in, or else the project above it, or else the directory itself, unless only
-    projects may be watched."""
+    """The watched root that a directory lies in, or else the project above it, or else the directory itself, unless
+    only projects may be watched."""
     if not isinstance(path, str):
         raise Refused("second argument must be a string")
     try:
@@ -80,7 +81,8 @@ def project_of(path: object, watched: List[str], root_files: List[str], enforces
     above = enclosing(directory, watched)
     root = above or project_root(directory, root_files) or ("" if enforces else directory)
     if not root:
-        raise Refused(f"resolve_projpath: none of the files listed in global config root_files are present in path `{path}` or "
+        raise Refused(f"resolve_projpath: none of the files listed in global config root_files are present in path "
+                      f"`{path}` or "
                       "any of its parent directories")
     return Project(root, directory[len(root):].strip("/"))
 
@@ -95,8 +97,8 @@ def lies_in(path: str, root: str) -> bool:
 
 
 def project_root(directory: str, root_files: List[str]) -> Optional[str]:
-    """The directory above, or this one, that a file of a project is in. A file of the first kind counts however far above it
-    is, and one that another user made does not count."""
+    """The directory above, or this one, that a file of a project is in. A file of the first kind counts however far
+    above it is, and one that another user made does not count."""
     for name in root_files:
         at = directory
         while True:

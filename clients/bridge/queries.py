@@ -11,7 +11,8 @@ Query = Dict[str, object]
 GLOB_FLAGS = {"includedotfiles": "glob_includedotfiles", "noescape": "glob_noescape"}
 GENERATORS = ("suffix", "path", "glob")
 # Keys that the bridge says otherwise, or obeys by itself.
-OWN_KEYS = ("relative_root", "case_sensitive", "glob", *GLOB_FLAGS.values(), "settle_period", "settle_timeout", "defer", "drop",
+OWN_KEYS = ("relative_root", "case_sensitive", "glob", *GLOB_FLAGS.values(), "settle_period", "settle_timeout", "defer",
+            "drop",
             "defer_vcs", "lock_timeout")
 TRUTHS = ("case_sensitive", "dedup_results", "empty_on_fresh_instance", *GLOB_FLAGS.values())
 TIMES = ("sync_timeout", "lock_timeout", "settle_period", "settle_timeout")
@@ -29,8 +30,8 @@ class Asking(NamedTuple):
 def asking_of(
     root: str, query: object, is_in_json: bool, left_out: Sequence[Term] = (), has_later_lists: bool = False,
 ) -> Asking:
-    """The query to the server for one of a client, without the files that the root's configuration leaves out. One for which
-    the server has no words is refused."""
+    """The query to the server for one of a client, without the files that the root's configuration leaves out. One for
+    which the server has no words is refused."""
     if not isinstance(query, dict):
         raise unparsed("case_sensitive must be a boolean")  # the first key that Watchman looks for
     check_values(query)
@@ -58,8 +59,8 @@ def asking_of(
 
 
 def asking_of_subscription(root: str, query: object, left_out: Sequence[Term] = ()) -> Asking:
-    """As of a query. A subscription starts from every file: as in Watchman, its other generators are looked at and change
-    nothing."""
+    """As of a query. A subscription starts from every file: as in Watchman, its other generators are looked at and
+    change nothing."""
     if isinstance(query, dict):
         check_values(query)
         query = {key: value for key, value in query.items() if key not in GENERATORS}
@@ -119,7 +120,8 @@ def check_path(entry: object) -> None:
 
 
 def take_paths(asked: Query, place: Place) -> None:
-    """The paths in the server's words. An empty list is no generator in Watchman; a path that leads nowhere gives nothing."""
+    """The paths in the server's words. An empty list is no generator in Watchman; a path that leads nowhere gives
+    nothing."""
     given = entries_of(asked, "path")
     asked["path"] = [path_at(entry, place) for entry in given if leads_somewhere(entry)]
     if not given:
@@ -145,8 +147,8 @@ def terms_of_expression(query: Query, place: Place) -> List[Term]:
 
 
 def terms_of_globs(query: Query, asked: Query, place: Place) -> List[Term]:
-    """That a file fits a glob, or is given by another generator beside it. The server then starts from every file, unless it
-    has a `since`: it knows globs beside one itself."""
+    """That a file fits a glob, or is given by another generator beside it. The server then starts from every file,
+    unless it has a `since`: it knows globs beside one itself."""
     if "glob" not in query:
         return []
     globs, flags = entries_of(query, "glob"), {name: query.get(key) is True for name, key in GLOB_FLAGS.items()}

@@ -26,7 +26,8 @@ def asked_server(sockname: str) -> Optional[str]:
 
 
 def started(process: int) -> str:
-    """When a process started, in the ticks of the system. Its number may be another's later, but not at the same time."""
+    """When a process started, in the ticks of the system. Its number may be another's later, but not at the same
+    time."""
     with open(f"/proc/{process}/stat", "rb") as file:
         # The name before the last parenthesis may have anything in it.
         return file.read().rpartition(b") ")[2].split()[STARTED].decode()

@@ -144,7 +144,8 @@ def locked(sockname: str) -> IO[str]:
 
 
 def listening(sockname: str) -> socket.socket:
-    """A socket that only this user can connect to, from its first moment on. One on which nobody listens is replaced."""
+    """A socket that only this user can connect to, from its first moment on. One on which nobody listens is
+    replaced."""
     if is_listened_on(sockname):
         raise OSError(errno.EADDRINUSE, "somebody listens there already")
     if os.path.lexists(sockname) and is_socket(sockname):

@@ -1,4 +1,5 @@
-"""A client: its messages are answered one after the other, and lists that come by themselves go through as they come."""
+"""A client: its messages are answered one after the other, and lists that come by themselves go through as they
+come."""
 
 import json
 import select
@@ -73,7 +74,8 @@ class Session:
     """One client, and its own connections to the server, of which the first is made for its first message."""
 
     def __init__(
-        self, bridge: Bridge, client: socket.socket, codec: Optional[ModuleType], answer: Callable[["Session", object], "Reply"],
+        self, bridge: Bridge, client: socket.socket, codec: Optional[ModuleType],
+        answer: Callable[["Session", object], "Reply"],
     ) -> None:
         self.bridge = bridge
         self.answer_command = answer
@@ -195,7 +197,8 @@ class Session:
         return line
 
     def ask_for_line(self, command: list, found: Optional[Listed] = None, link: Optional[Link] = None) -> bytes:
-        """The line of the server's reply, or its last part, if a list takes those before it. An error has Watchman's words."""
+        """The line of the server's reply, or its last part, if a list takes those before it. An error has Watchman's
+        words."""
         server = link or self.server()
         server.send(command)
         while True:

@@ -9,8 +9,8 @@ PATIENCE = 60_000
 
 
 def settle(query: Dict[str, object], clock: Callable[[], str]) -> None:
-    """Waits until the clock of the root, which is crawled for each look, is the same for the query's `settle_period`. If it is
-    not within its `settle_timeout`, the query is refused."""
+    """Waits until the clock of the root, which is crawled for each look, is the same for the query's `settle_period`.
+    If it is not within its `settle_timeout`, the query is refused."""
     period, timeout = number(query, "settle_period", 0), number(query, "settle_timeout", PATIENCE)
     if not period:
         return

@@ -1,9 +1,10 @@
-"""The server runs this for a trigger of the bridge. It gives the command the input, directory and output of the definition.
+"""The server runs this for a trigger of the bridge. It gives the command the input, directory and output of the
+definition.
 
     python3 -I -S started.py DEFINITION SOCKNAME [NAME..]
 
-DEFINITION is the trigger as the client registered it, and SOCKNAME the bridge's socket. It uses no other module of the bridge,
-so that a command starts soon.
+DEFINITION is the trigger as the client registered it, and SOCKNAME the bridge's socket. It uses no other module of the
+bridge, so that a command starts soon.
 """
 
 import json
@@ -57,7 +58,8 @@ def give_input(style: object, root: str, above: str) -> None:
     if style == "NAME_PER_LINE":
         text = "".join(f"{line[len(above):]}\n" for line in text.split("\n") if line)
     else:
-        text = json.dumps([row_of(found, style, root, above) for found in json.loads(text)], separators=(",", ":")) + "\n"
+        text = json.dumps([row_of(found, style, root, above) for found in json.loads(text)],
+                          separators=(",", ":")) + "\n"
     number = os.memfd_create("input")
     with open(number, "wb", closefd=False) as file:
         file.write(text.encode("utf-8", "surrogateescape"))

@@ -47,7 +47,8 @@ class Start:
         begin([self.program(), *serve_words(self.server, given)], self.server, self.environment())
 
     def program(self) -> str:
-        """The command wqd: that of the repository, which has to be built, or that which is installed beside this one."""
+        """The command wqd: that of the repository, which has to be built, or that which is installed beside this
+        one."""
         in_repository = os.path.join(os.path.dirname(self.home), "wqd")
         if os.path.basename(self.home) == "clients" and os.path.isfile(in_repository):
             if subprocess.run([in_repository, "--is-built"]).returncode != 0:

@@ -26,7 +26,8 @@ def subscribe(session: Session, command: Command) -> Reply:
     settings = session.bridge.configurations.of(root)
     asking = asking_of_subscription(root, command[3], settings.terms())
     assert isinstance(command[3], dict)
-    subscription = Subscription(root, name, asking.query, asking.lister, Policy(command[3]), settings.number("settle") / 1000)
+    subscription = Subscription(root, name, asking.query, asking.lister, Policy(command[3]),
+                                settings.number("settle") / 1000)
     first = list_of_cursor(session, root, asking)
     link = session.links.for_one_more((root, name))
     try:
@@ -45,7 +46,8 @@ def subscribe(session: Session, command: Command) -> Reply:
 
 
 def list_of_cursor(session: Session, root: str, asking: Asking) -> bytes:
-    """The first list of a subscription that starts from a cursor, which moves; after it the server starts from its clock."""
+    """The first list of a subscription that starts from a cursor, which moves; after it the server starts from its
+    clock."""
     since = asking.query.get("since")
     if not isinstance(since, str) or not since.startswith(CURSOR):
         return b""
@@ -138,4 +140,5 @@ def set_paused(session: Session, command: Command) -> Reply:
 def get_subscriptions(session: Session, command: Command) -> Reply:
     """Those of this client: no client sees those of another."""
     root = resolved(command[1])
-    return {"subscribers": [{"info": each.name, "serial": 0} for each in of_root(session, root)], "items": [], "next_serial": 1}
+    return {"subscribers": [{"info": each.name, "serial": 0} for each in of_root(session, root)], "items": [],
+            "next_serial": 1}

@@ -104,8 +104,8 @@ class Follower:
 
 
 def targets_of(path: str, seen: Set[str]) -> List[str]:
-    """Where a path leads: the target of each link in it and behind it, however many there are. Paths that were seen before
-    are left out, since their targets are known."""
+    """Where a path leads: the target of each link in it and behind it, however many there are. Paths that were seen
+    before are left out, since their targets are known."""
     found: List[str] = []
     left = [path]
     while left:

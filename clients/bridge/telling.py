@@ -1,4 +1,5 @@
-"""Lists and notices that a client gets without asking: which go through at once, which are held back, and which are dropped."""
+"""Lists and notices that a client gets without asking: which go through at once, which are held back, and which are
+dropped."""
 
 import json
 import re
@@ -25,8 +26,9 @@ BY_ITSELF = {"unilateral": True}
 
 
 class Teller:
-    """Tells one client. While the server has told a subscription as much as the client, its lists go through as they are. Else
-    they say that there is more, and the client gets one list of what changed since the last one that it got."""
+    """Tells one client. While the server has told a subscription as much as the client, its lists go through as they
+    are. Else they say that there is more, and the client gets one list of what changed since the last one that it
+    got."""
 
     def __init__(self, session: "Session") -> None:
         self.session = session
@@ -58,7 +60,8 @@ class Teller:
         action = TELL if is_first else subscription.action()
         if action == DROP:
             subscription.drop(clock)
-        elif not is_next or subscription.has_more or action == HOLD or (has_files and subscription.settle and not is_first):
+        elif not is_next or subscription.has_more or action == HOLD or (has_files and subscription.settle
+                                                                        and not is_first):
             subscription.has_more = subscription.told != clock
             subscription.seen = clock
             subscription.due = time.monotonic() + (subscription.settle or PAUSE * (action == HOLD))
@@ -97,7 +100,8 @@ class Teller:
         return [each for each in self.session.subscriptions.values() if each.has_more]
 
     def patience(self) -> Optional[float]:
-        """How long the client and the server are waited for, in milliseconds: until a list that is held back is looked at."""
+        """How long the client and the server are waited for, in milliseconds: until a list that is held back is looked
+        at."""
         due = [each.due for each in self.held_back() if each.looks_again()]
         return max(0.0, min(due) - time.monotonic()) * 1000 + 1 if due else None
 
@@ -134,7 +138,8 @@ class Teller:
     def tell_state(self, notice: Notice) -> None:
         """Tells each subscription of the root that a state was entered or left."""
         subscriptions = [each for each in self.session.subscriptions.values() if each.root == notice.root]
-        keys = notice.keys if "clock" in notice.keys or not subscriptions else {**notice.keys, **self.clock_of(notice.root)}
+        keys = notice.keys if "clock" in notice.keys or not subscriptions else {**notice.keys,
+                                                                                **self.clock_of(notice.root)}
         for subscription in subscriptions:
             if ENTERS in keys:
                 subscription.states.add(str(keys[ENTERS]))

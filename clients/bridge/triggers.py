@@ -85,7 +85,8 @@ def expression_of(given: Definition, place: Place) -> List[Term]:
 
 
 def given_of(found: Definition) -> Definition:
-    """The definition of a client, for a trigger of the server. One that was registered without the bridge is its own."""
+    """The definition of a client, for a trigger of the server. One that was registered without the bridge is its
+    own."""
     command = found.get("command")
     text = text_in(command) if isinstance(command, list) else None
     return found if text is None else dict(json.loads(text))

@@ -1,9 +1,9 @@
-"""Runs the command watchman: python3 -I watchman.py HOME WORD.. HOME is the directory of the command, which is a script for sh."""
+"""Runs the command watchman: python3 -IB watchman.py HOME WORD.. HOME is the directory of the command, which is a
+script for sh."""
 
 import os
 import sys
 
-sys.dont_write_bytecode = True
 sys.path.insert(0, os.path.dirname(os.path.dirname(os.path.realpath(__file__))))
 
 from bridge.command import main

@@ -1,4 +1,5 @@
-"""Watchman itself and wqd with its bridge on one tree, asked by pywatchman in the same words. /usr/bin/python3 runs it."""
+"""Watchman itself and wqd with its bridge on one tree, asked by pywatchman in the same words. /usr/bin/python3 runs
+it."""
 
 import os
 import subprocess

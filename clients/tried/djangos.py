@@ -10,13 +10,15 @@ from tried.packages import PYTHON
 from tried.room import PATIENCE, Outcome, Room, Running, outcome
 
 ROUNDS = 20
-# How long a page is waited for before it is asked for again, a server before an edit, and an edit before it is made again.
+# How long a page is waited for before it is asked for again, a server before an edit, and an edit before it is made
+# again.
 PAUSE, BEFORE, TOO_LONG = 0.2, 1.0, 8.0
 ATTEMPTS = 4
 SETTINGS = """
 from pathlib import Path
 SECRET_KEY, DEBUG, ROOT_URLCONF, ALLOWED_HOSTS = "x", True, "urls", ["*"]
-TEMPLATES = [{"BACKEND": "django.template.backends.django.DjangoTemplates", "DIRS": [str(Path(__file__).parent / "pages")]}]
+TEMPLATES = [{"BACKEND": "django.template.backends.django.DjangoTemplates",
+              "DIRS": [str(Path(__file__).parent / "pages")]}]
 """
 URLS = """
 import os
@@ -40,7 +42,8 @@ execute_from_command_line(sys.argv)
 
 
 class Site:
-    """A site with one page, which shows a word of a module, a template, the server's process and a word of a later module."""
+    """A site with one page, which shows a word of a module, a template, the server's process and a word of a later
+    module."""
 
     def __init__(self, room: Room) -> None:
         self.room = room
@@ -75,8 +78,8 @@ class Site:
             time.sleep(PAUSE)
 
     def shows_after(self, put: Callable[[int], None], place: int, word: str) -> List[str]:
-        """The page after an edit. A server that has just started serves before it looks for edits, so one that is too early is
-        made again."""
+        """The page after an edit. A server that has just started serves before it looks for edits, so one that is too
+        early is made again."""
         time.sleep(BEFORE)
         for attempt in range(ATTEMPTS):
             put(attempt)
@@ -98,8 +101,10 @@ def try_django(room: Room) -> Outcome:
         found = [reloader, restarts, *with_new_module(site)]
     finally:
         end_of(server, room)
-    done = (f"`WatchmanReloader` is taken; {ROUNDS} rounds: it starts anew after an edit of a module and shows an edited "
-            f"template; it starts anew for a new module, and after an edit of that; {site.again} edits were too early and made again")
+    done = (f"`WatchmanReloader` is taken; {ROUNDS} rounds: it starts anew after an edit of a module and shows an "
+            f"edited "
+            f"template; it starts anew for a new module, and after an edit of that; {site.again} edits were too early "
+            f"and made again")
     return outcome(done, found, [True, ROUNDS, "n0", "n1"])
 
 
@@ -120,11 +125,13 @@ def with_new_module(site: Site) -> List[str]:
     site.room.put("site/newer.py", "NEW = 'n0'\n")
     urls = URLS % ("import newer", "newer.NEW")
     page = site.shows_after(lambda attempt: site.room.put("site/urls.py", urls + " " * attempt) and None, 3, "n0")
-    later = site.shows_after(lambda attempt: site.room.put("site/newer.py", f"NEW = 'n1'{' ' * attempt}\n") and None, 3, "n1")
+    later = site.shows_after(lambda attempt: site.room.put("site/newer.py", f"NEW = 'n1'{' ' * attempt}\n") and None, 3,
+                             "n1")
     return [*page[3:4], *later[3:4]]
 
 
 def end_of(server: Running, room: Room) -> None:
     """The server that serves is a child of the one that was started."""
-    room.run(["sh", "-c", 'for child in $(cat /proc/$1/task/$1/children); do kill "$child"; done', "sh", str(server.process.pid)])
+    room.run(["sh", "-c", 'for child in $(cat /proc/$1/task/$1/children); do kill "$child"; done', "sh",
+              str(server.process.pid)])
     server.end()

@@ -1,9 +1,11 @@
-"""Runs Watchman's own integration tests, as its source package has them, against Watchman or against wqd behind its bridge.
+"""Runs Watchman's own integration tests, as its source package has them, against Watchman or against wqd behind its
+bridge.
 
     /usr/bin/python3 clients/tried/integration.py SOURCE watchman|bridge RESULTS [PART]
 
-SOURCE is the unpacked package. Nothing of the tests is changed: their `Instance` is given another way to start. RESULTS gets a
-JSON object with the outcome of each test. PART runs the modules alone that have it in their names. `clients/suite` runs this.
+SOURCE is the unpacked package. Nothing of the tests is changed: their `Instance` is given another way to start. RESULTS
+gets a JSON object with the outcome of each test. PART runs the modules alone that have it in their names.
+`clients/suite` runs this.
 """
 
 import importlib
@@ -71,7 +73,8 @@ def start(self) -> None:
     server = f"{self.sock_file}.wqd"
     environment = {**os.environ, "PYTHONDONTWRITEBYTECODE": "1", "WATCHMAN_CONFIG_FILE": self.cfg_file}
     Path(self.log_file_name).touch()
-    words = ["serve", "--sockname", server, "--start", str(int(time.time())), "--pid", str(os.getpid()), "--interval", INTERVAL]
+    words = ["serve", "--sockname", server, "--start", str(int(time.time())), "--pid", str(os.getpid()), "--interval",
+             INTERVAL]
     log = self.cli_log_file
     self.server = subprocess.Popen([str(CLIENTS.parent / "wqd"), *words], env=environment, stdout=log, stderr=log)
     wait_for(server)

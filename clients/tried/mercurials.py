@@ -104,7 +104,8 @@ class Repository:
 
 
 def lists_of_an_update(room: Room, repository: Repository) -> List[object]:
-    """The notices and lists that come to a subscription during an update of many files, if it holds its lists back meanwhile."""
+    """The notices and lists that come to a subscription during an update of many files, if it holds its lists back
+    meanwhile."""
     for text in ("one", "two\n"):
         for number in range(MANY):
             room.put(f"many/f{number}", text)
@@ -117,7 +118,8 @@ def lists_of_an_update(room: Room, repository: Repository) -> List[object]:
         repository.hg("update", "--clean", "-q", ".^")
         while lines.has_line(SILENCE):
             value = json.loads(lines.line())
-            found.append(len(value["files"]) if "files" in value else next(key for key in value if key.startswith("state-")))
+            found.append(len(value["files"]) if "files" in value
+                         else next(key for key in value if key.startswith("state-")))
     return found
 
 
@@ -135,6 +137,8 @@ def try_mercurial(room: Room) -> Outcome:
         own, plain = repository.status(), repository.status("--config", "extensions.fsmonitor=!")
         differing += own != plain
     update = lists_of_an_update(room, repository)
-    done = (f"`debuginstall`; the status is the same as without it over {ROUNDS} rounds of drawn edits, renames, deletions, "
+    done = (f"`debuginstall`; the status is the same as without it over {ROUNDS} rounds of drawn edits, renames, "
+            f"deletions, "
             f"directories, `.hgignore`, commit, update and revert; an update of {MANY} files comes in one list")
-    return outcome(done, [*found, differing, update], [True, "no problems detected", 0, ["state-enter", "state-leave", MANY]])
+    return outcome(done, [*found, differing, update],
+                   [True, "no problems detected", 0, ["state-enter", "state-leave", MANY]])

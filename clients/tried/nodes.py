@@ -15,7 +15,8 @@ def try_fb_watchman(room: Room) -> Outcome:
     (room.project / ".git").mkdir()
     room.put("sub/a.c")
     said = script(room, "with_fb_watchman.js")
-    expected = ['{"relative_root":true,"nothing":false}', "sub", '["a.c"]', "unknown command frob", '[["b.c",true,true]]',
+    expected = ['{"relative_root":true,"nothing":false}', "sub", '["a.c"]', "unknown command frob",
+                '[["b.c",true,true]]',
                 '[["a.c",false,false]]']
     return outcome("capabilities, watch-project, query below it, an error, a subscription: a file comes and one goes",
                    said, expected)

@@ -1,5 +1,5 @@
-"""The packages of the clients. What cannot be installed beside what the machine has is unpacked, and laid over /usr for the
-clients alone."""
+"""The packages of the clients. What cannot be installed beside what the machine has is unpacked, and laid over /usr for
+the clients alone."""
 
 import os
 import subprocess
@@ -20,7 +20,8 @@ OVER_USR = 'mount -t overlay overlay -o lowerdir="$1":/usr /usr && shift && exec
 
 
 def is_installed(package: str) -> bool:
-    said = subprocess.run(["dpkg-query", "-W", "-f", "${Status}", package], stdout=subprocess.PIPE, stderr=subprocess.DEVNULL)
+    said = subprocess.run(["dpkg-query", "-W", "-f", "${Status}", package], stdout=subprocess.PIPE,
+                          stderr=subprocess.DEVNULL)
     return said.stdout == b"install ok installed"
 
 
@@ -70,7 +71,8 @@ class Packages:
             self.faults.update(dict.fromkeys(apart, fault))
 
     def install(self, packages: List[str]) -> None:
-        ended = subprocess.run(["apt-get", "install", "-y", *packages], stdout=subprocess.PIPE, stderr=subprocess.STDOUT)
+        ended = subprocess.run(["apt-get", "install", "-y", *packages], stdout=subprocess.PIPE,
+                               stderr=subprocess.STDOUT)
         if ended.returncode != 0:
             reason = ended.stdout.decode("utf-8", "replace").splitlines()[-1]
             self.faults.update(dict.fromkeys(packages, reason))
@@ -79,14 +81,16 @@ class Packages:
         return self.faults.get(package)
 
     def unpack(self, packages: List[str]) -> Optional[str]:
-        """Unpacks the packages and all that they need, as if this machine had nothing of Node.js; the reason if that fails."""
+        """Unpacks the packages and all that they need, as if this machine had nothing of Node.js; the reason if that
+        fails."""
         print(f"unpacking {' '.join(packages)} beside another Node.js", file=sys.stderr, flush=True)
         archives = self.room / "archives"
         (archives / "partial").mkdir(parents=True)
         status = self.room / "status"
         known = Path(STATUS).read_text(encoding="utf-8").split("\n\n")
         names = {entry: name_in(entry) for entry in known}
-        status.write_text("\n\n".join(entry for entry in known if names[entry] != NODE and not is_of_node(names[entry])))
+        status.write_text("\n\n".join(entry for entry in known if names[entry] != NODE
+                                      and not is_of_node(names[entry])))
         fetched = subprocess.run(
             ["apt-get", "-y", "--download-only", "--no-install-recommends", "-o", f"Dir::State::status={status}",
              "-o", f"Dir::Cache::archives={archives}", "-o", f"Dir::Etc::PreferencesParts={self.room}",

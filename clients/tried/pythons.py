@@ -102,7 +102,8 @@ def try_make(room: Room) -> Outcome:
     making.waits_for(lambda lines: built(lines) == 2)
     third = built(making.lines())
     making.end()
-    return outcome("runs after a new file and after a deleted one, and not before", [at_first, second, third], [0, 1, 2])
+    return outcome("runs after a new file and after a deleted one, and not before", [at_first, second, third],
+                   [0, 1, 2])
 
 
 MAKEFILE = "all: a.o b.o\n%.o: %.c\n\tcp $< $@ && echo built $@\n"
@@ -133,5 +134,6 @@ def try_makefile(room: Room) -> Outcome:
     making.waits_for(lambda lines: len(built(lines)) == 4)
     found = [at_first, built(making.lines()), (room.project / "b.o").read_text(), (room.project / "c.o").exists()]
     making.end()
-    return outcome("a real Makefile: all of it after a first change, one file after another, and a target that is new", found,
+    return outcome("a real Makefile: all of it after a first change, one file after another, and a target that is new",
+                   found,
                    [[], ["a.o", "b.o", "b.o", "c.o"], "y\n", True])

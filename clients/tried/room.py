@@ -68,7 +68,8 @@ class Room:
         state.mkdir(mode=0o700)
         (bin_ / "watchman").symlink_to(COMMAND)
         self.environment: Dict[str, str] = {
-            **os.environ, "PATH": f"{bin_}:/usr/bin:/bin:/usr/sbin:/sbin", "XDG_RUNTIME_DIR": str(state), "HOME": str(path),
+            **os.environ, "PATH": f"{bin_}:/usr/bin:/bin:/usr/sbin:/sbin", "XDG_RUNTIME_DIR": str(state),
+            "HOME": str(path),
             "WQD_INTERVAL": str(interval), "PYTHONDONTWRITEBYTECODE": "1", "GIT_CONFIG_NOSYSTEM": "1",
         }
         for name in ("WATCHMAN_SOCK", "WQD_SOCK"):
@@ -87,7 +88,7 @@ class Room:
 
     def run(self, command: List[str], text: str = "", at: Optional[Path] = None) -> "subprocess.CompletedProcess[str]":
         return subprocess.run(
-            self.packages.words(command), input=text, stdout=subprocess.PIPE, stderr=subprocess.PIPE, env=self.environment,
+            self.packages.words(command), input=text, capture_output=True, env=self.environment,
             cwd=at or self.project, timeout=PATIENCE * 5, encoding="utf-8", errors="replace",
         )
 
@@ -150,8 +151,8 @@ def kill(process: int) -> None:
 
 @contextlib.contextmanager
 def unreaped() -> Iterator[None]:
-    """Processes that clients leave behind come to this one meanwhile, which does not look at them: those that end stay in
-    the system's table, as in a container whose first process does not look either."""
+    """Processes that clients leave behind come to this one meanwhile, which does not look at them: those that end stay
+    in the system's table, as in a container whose first process does not look either."""
     system = ctypes.CDLL(None)
     system.prctl(SET_CHILD_SUBREAPER, 1)
     try:

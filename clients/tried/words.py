@@ -21,20 +21,22 @@ ROOT = "ROOT"
 FILES = {"expression": ["not", ["type", "d"]]}
 # Expressions that are refused, or that Watchman takes with more words than they need.
 TERMS: List[object] = [
-    ["allof"], ["anyof"], ["not"], ["not", "exists", "exists"], "not", "allof", "foo", ["foo"], 7, [], {}, None, [7], ["name", 7],
-    ["name", "a", "x"], ["name", "a", "wholename", "z"], ["iname", ["a", 7]], "name", ["match", 7], ["match", "a", "foo"],
-    ["imatch"], ["match", "*", "basename", {"frob": 1}], ["match", "*", "basename", {"includedotfiles": 3}], ["size", "xx", 1],
-    ["size", "eq", "a"], ["size"], "size", ["since", "x"], ["since", "n:a"], ["since", 1, "foo"], ["since", "c:1:1", "mtime"],
-    ["since"], "since", ["since", 0], ["since", -5], ["since", {}], ["since", {"clock": "c:1:1"}], ["since", None],
+    ["allof"], ["anyof"], ["not"], ["not", "exists", "exists"], "not", "allof", "foo", ["foo"], 7, [], {}, None, [7],
+    ["name", 7], ["name", "a", "x"], ["name", "a", "wholename", "z"], ["iname", ["a", 7]], "name", ["match", 7],
+    ["match", "a", "foo"], ["imatch"], ["match", "*", "basename", {"frob": 1}],
+    ["match", "*", "basename", {"includedotfiles": 3}], ["size", "xx", 1], ["size", "eq", "a"], ["size"], "size",
+    ["since", "x"], ["since", "n:a"], ["since", 1, "foo"], ["since", "c:1:1", "mtime"], ["since"], "since",
+    ["since", 0], ["since", -5], ["since", {}], ["since", {"clock": "c:1:1"}], ["since", None],
     ["since", {"clock": "x"}], ["since", {}, "mtime"], ["since", True], ["type", "x"], ["type"], ["type", "ff"], "type",
-    ["type", "f", "more"], ["suffix"], ["suffix", "c", "d"],
-    ["dirname"], ["dirname", "d", ["depth", "ge"]], ["dirname", "d", ["foo", "ge", 1]], ["dirname", 7], ["dirname", "d", 7],
-    ["dirname", "d", ["depth", "ge", 1], 8], ["exists", "x"], ["true", "x"], ["not", ["frob"]],
+    ["type", "f", "more"], ["suffix"], ["suffix", "c", "d"], ["dirname"], ["dirname", "d", ["depth", "ge"]],
+    ["dirname", "d", ["foo", "ge", 1]], ["dirname", 7], ["dirname", "d", 7], ["dirname", "d", ["depth", "ge", 1], 8],
+    ["exists", "x"], ["true", "x"], ["not", ["frob"]],
 ]
 QUERIES: List[object] = [
-    {"suffix": 7}, {"suffix": [7]}, {"path": 7}, {"path": [7]}, {"path": [{"path": "d"}]}, {"path": []}, {"path": ["."]},
-    {"path": ["d/."]}, {"path": ["./d"]}, {"path": [""]}, {"path": ["d/"]}, {"path": [{"path": "", "depth": 0}]}, {"suffix": []},
-    {"glob": []}, {"glob": 7}, {"glob": [7]}, {"glob": ["x"], "relative_root": "none"}, {"glob": ["*.c"], "glob_noescape": True},
+    {"suffix": 7}, {"suffix": [7]}, {"path": 7}, {"path": [7]}, {"path": [{"path": "d"}]}, {"path": []},
+    {"path": ["."]}, {"path": ["d/."]}, {"path": ["./d"]}, {"path": [""]}, {"path": ["d/"]},
+    {"path": [{"path": "", "depth": 0}]}, {"suffix": []}, {"glob": []}, {"glob": 7}, {"glob": [7]},
+    {"glob": ["x"], "relative_root": "none"}, {"glob": ["*.c"], "glob_noescape": True},
     {"glob": ["x"], "glob_includedotfiles": 7}, {"sync_timeout": -1}, {"sync_timeout": "a"}, {"dedup_results": 7},
     {"empty_on_fresh_instance": 7}, {"case_sensitive": 7}, {"relative_root": 7}, {"lock_timeout": "x"}, {"fields": 7},
     {"fields": [7]}, {"fields": ["frob"]}, {"fields": []}, {"since": "x"}, {"since": "n:"}, {"since": 0, **FILES},
@@ -45,22 +47,28 @@ QUERIES: List[object] = [
 ]
 NAMED = {"name": "x", "command": ["true"]}
 COMMANDS: List[List[object]] = [
-    ["clock"], ["clock", ROOT, 7], ["clock", ROOT, {}], ["clock", ROOT, {"sync_timeout": "a"}], ["watch"], ["watch", ROOT, 7],
-    ["watch", "/"], ["watch-del"], ["watch-del", 7], ["watch-project"], ["watch-project", 7], ["watch-list", 7], ["query"],
-    ["query", ROOT], ["find"], ["since"], ["since", ROOT], ["since", ROOT, "x"], ["since", ROOT, 7], ["subscribe", ROOT],
+    ["clock"], ["clock", ROOT, 7], ["clock", ROOT, {}], ["clock", ROOT, {"sync_timeout": "a"}], ["watch"],
+    ["watch", ROOT, 7],
+    ["watch", "/"], ["watch-del"], ["watch-del", 7], ["watch-project"], ["watch-project", 7], ["watch-list", 7],
+    ["query"],
+    ["query", ROOT], ["find"], ["since"], ["since", ROOT], ["since", ROOT, "x"], ["since", ROOT, 7],
+    ["subscribe", ROOT],
     ["subscribe", ROOT, 7, {}], ["subscribe", ROOT, "a", 7], ["subscribe", ROOT, "a", {"defer": 7}],
-    ["subscribe", ROOT, "a", {"drop": 7}], ["unsubscribe", ROOT], ["unsubscribe", ROOT, 7], ["unsubscribe", ROOT, "nope"],
+    ["subscribe", ROOT, "a", {"drop": 7}], ["unsubscribe", ROOT], ["unsubscribe", ROOT, 7],
+    ["unsubscribe", ROOT, "nope"],
     ["trigger"], ["trigger", ROOT, "t", "*.c", "--", 123], ["find", ROOT, "*", 7],
     ["trigger", ROOT], ["trigger", ROOT, "t"], ["trigger", ROOT, {}], ["trigger", ROOT, {"name": "x"}],
     *(["trigger", ROOT, {**NAMED, **keys}] for keys in (
-        {"stdin": 7}, {"stdin": "foo"}, {"stdout": "foo"}, {"stderr": "foo"}, {"max_files_stdin": -1}, {"expression": ["frob"]})),
+        {"stdin": 7}, {"stdin": "foo"}, {"stdout": "foo"}, {"stderr": "foo"}, {"max_files_stdin": -1},
+        {"expression": ["frob"]})),
     ["trigger-list"], ["trigger-del", ROOT], ["trigger-del", ROOT, 7], ["trigger-del", ROOT, "nope"], ["get-config"],
-    ["get-config", ROOT], ["version", "/path"], ["version", {}], ["version", 7], ["version", {"optional": [], "required": []}],
-    ["version", {"required": ["frob"]}], ["version", 1, 2], ["state-enter", ROOT], ["state-enter", ROOT, 7],
-    ["state-enter", ROOT, {}], ["state-enter", ROOT, "a"], ["state-enter", ROOT, "a"], ["state-leave", ROOT, "b"],
-    ["state-leave", ROOT, "a"], ["state-leave", ROOT, "a"], ["state-enter", ROOT, {"name": "b", "sync_timeout": -1}], ["log"],
-    ["log-level", "x"], ["log-level", "error"], ["log-level", "off"], ["log-level"], ["log", "debug", "hey"], ["log", "x", "hey"],
-    ["flush-subscriptions"], ["flush-subscriptions", ROOT, {}], ["flush-subscriptions", ROOT, {"sync_timeout": "a"}],
+    ["get-config", ROOT], ["version", "/path"], ["version", {}], ["version", 7],
+    ["version", {"optional": [], "required": []}], ["version", {"required": ["frob"]}], ["version", 1, 2],
+    ["state-enter", ROOT], ["state-enter", ROOT, 7], ["state-enter", ROOT, {}], ["state-enter", ROOT, "a"],
+    ["state-enter", ROOT, "a"], ["state-leave", ROOT, "b"], ["state-leave", ROOT, "a"], ["state-leave", ROOT, "a"],
+    ["state-enter", ROOT, {"name": "b", "sync_timeout": -1}], ["log"], ["log-level", "x"], ["log-level", "error"],
+    ["log-level", "off"], ["log-level"], ["log", "debug", "hey"], ["log", "x", "hey"], ["flush-subscriptions"],
+    ["flush-subscriptions", ROOT, {}], ["flush-subscriptions", ROOT, {"sync_timeout": "a"}],
     ["flush-subscriptions", ROOT, {"sync_timeout": 1, "subscriptions": 7}],
     ["flush-subscriptions", ROOT, {"sync_timeout": 1, "subscriptions": ["x"]}], ["debug-recrawl"],
     ["debug-set-subscriptions-paused", {"x": True}], [], [7], ["frob"], ["get-pid", 7], ["get-sockname", 7],
@@ -238,12 +246,13 @@ def left_out(peer: Peer, root: Path) -> object:
 
 
 def triggers(peer: Peer, root: Path) -> object:
-    given = {**NAMED, "expression": ["suffix", "none"], "chdir": "d", "stdout": ">out", "stderr": ">>err", "relative_root": "d",
+    given = {**NAMED, "expression": ["suffix", "none"], "chdir": "d", "stdout": ">out", "stderr": ">>err",
+             "relative_root": "d",
              "stdin": ["name", "mode"], "max_files_stdin": 2}
     commands = [
         ["trigger", ROOT, given], ["trigger", ROOT, given], ["trigger", ROOT, {**given, "chdir": "e"}],
-        ["trigger", ROOT, "old", "*.none", "-X", "a*", "--", "true", "x"], ["trigger-list", ROOT], ["trigger-del", ROOT, "x"],
-        ["trigger-del", ROOT, "old"], ["trigger-list", ROOT],
+        ["trigger", ROOT, "old", "*.none", "-X", "a*", "--", "true", "x"], ["trigger-list", ROOT],
+        ["trigger-del", ROOT, "x"], ["trigger-del", ROOT, "old"], ["trigger-list", ROOT],
     ]
     found = [answer_to(command)(peer, root) for command in commands]
     return json.loads(json.dumps([by_name(each) for each in found]))
@@ -269,7 +278,8 @@ WORDS = [
     *(Word(f"the query {json.dumps(query)[:80]}", answer_to_query(query)) for query in QUERIES),
     *(Word(f"the command {json.dumps(command)}", answer_to(command)) for command in COMMANDS),
     *(Word(answer.__name__.replace("_", " "), answer) for answer in (
-        deferring, dropping, flushing, source_control, generators_of_subscriptions, subscription_from_a_cursor, recrawl, left_out,
+        deferring, dropping, flushing, source_control, generators_of_subscriptions, subscription_from_a_cursor, recrawl,
+        left_out,
         globs_below_what_has_gone, seconds, triggers, root_that_goes)),
 ]
 

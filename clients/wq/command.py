@@ -52,7 +52,7 @@ def write_no_more() -> None:
 def speak_utf8() -> None:
     """Names of files are UTF-8 to the server, whatever the locale is. Python has one encoding for a whole run."""
     if sys.getfilesystemencoding() != "utf-8":
-        os.execv(sys.executable, [sys.executable, "-I", "-X", "utf8", *sys.argv])
+        os.execv(sys.executable, [sys.executable, "-IB", "-X", "utf8", *sys.argv])
 
 
 def run(words: List[str], home: Home) -> int:

@@ -168,7 +168,8 @@ def used_for(sockname: str, kit: int) -> float:
 def how_far(took: float, used: float, needs: float) -> str:
     """What a person hears. A compiler that shares its processor with others takes longer by that."""
     left = took * (needs - used) / max(used, 1.0)
-    rest = "nearly done" if left < 5 else f"about {left:.0f} s left" if left < 90 else f"about {left / 60:.0f} minutes left"
+    about = f"about {left:.0f} s left" if left < 90 else f"about {left / 60:.0f} minutes left"
+    rest = "nearly done" if left < 5 else about
     return f"compiling for {took:.0f} s so far, {rest}"
 
 

@@ -28,8 +28,8 @@ def follow(options: argparse.Namespace, home: Home) -> int:
 
 @contextlib.contextmanager
 def waking() -> Iterator[int]:
-    """A file that can be read as soon as a signal comes. Without it, a signal that comes just before a wait would be heard
-    after that wait."""
+    """A file that can be read as soon as a signal comes. Without it, a signal that comes just before a wait would be
+    heard after that wait."""
     reading, writing = os.pipe()
     os.set_blocking(writing, False)
     signal.set_wakeup_fd(writing, warn_on_full_buffer=False)

@@ -52,7 +52,7 @@ def answer(words: List[str], directory: str) -> bytes:
     import subprocess  # it is slow to read, and most searches do not ask git
     try:
         ended = subprocess.run([*SAFELY, *words], cwd=directory, env=environment(), stdin=subprocess.DEVNULL,
-                               stdout=subprocess.PIPE, stderr=subprocess.PIPE, timeout=PATIENCE)
+                               capture_output=True, timeout=PATIENCE)
     except subprocess.TimeoutExpired:
         raise Unanswered(LATE) from None
     except OSError as error:

@@ -9,7 +9,8 @@ from wqprogram.limits import MAX_PATTERN
 from .globs import SPECIAL, WITH_DOTS, any_of, escaped
 
 Terms = List[Any]
-# The terms of a query have at most so many bytes. With more of them the server takes longer than git does for all names.
+# The terms of a query have at most so many bytes. With more of them the server takes longer than git does for all
+# names.
 MOST_BYTES = 16_384
 
 

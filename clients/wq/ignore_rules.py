@@ -1,5 +1,5 @@
-"""The rules by which git ignores files of a root: which repositories there are, where their rules are, and what git says
-of names."""
+"""The rules by which git ignores files of a root: which repositories there are, where their rules are, and what git
+says of names."""
 
 import bisect
 import contextlib

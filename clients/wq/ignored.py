@@ -22,8 +22,8 @@ def is_wanted(options: argparse.Namespace) -> bool:
 
 
 class Ignored:
-    """What is ignored below a place, of whose root `ask` asks the server. `terms` are those that a query leaves out. For
-    a window that stays `renew` reads the rules anew, once they changed or `is_stale` says so."""
+    """What is ignored below a place, of whose root `ask` asks the server. `terms` are those that a query leaves out.
+    For a window that stays `renew` reads the rules anew, once they changed or `is_stale` says so."""
 
     def __init__(self, ask: Ask, place: Place, options: argparse.Namespace) -> None:
         self.ask = ask

@@ -40,8 +40,8 @@ def bytes_of(word: str) -> int:
 
 
 def variables(root: str, clock: str, changed: List[str]) -> Dict[str, str]:
-    """The variables of a run: where and when, and which files changed, as many names as may be. One with a newline would
-    be two lines."""
+    """The variables of a run: where and when, and which files changed, as many names as may be. One with a newline
+    would be two lines."""
     lines: List[str] = []
     left = MOST_OF_VARIABLE
     for path in (as_argument(name) for name in changed if "\n" not in name):

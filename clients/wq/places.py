@@ -55,8 +55,8 @@ class Places:
         self.close(error)
 
     def close(self, error: Optional[BaseException] = None) -> None:
-        """Gives back each root that was watched for this command, unless it is to stay. A command that a person ends waits
-        for no reply."""
+        """Gives back each root that was watched for this command, unless it is to stay. A command that a person ends
+        waits for no reply."""
         for ignored in self.ignored:
             ignored.close()
         is_hurried = error is not None and not isinstance(error, Exception)
@@ -127,7 +127,8 @@ class Places:
                 if os.path.isabs(word):
                     raise WrongWords(f"{word} is no directory here")
                 if os.path.lexists(word):
-                    raise WrongWords(f"{word} is a file here, and names are looked for below {', '.join(self.directories)}")
+                    raise WrongWords(f"{word} is a file here, and names are looked for below "
+                                     f"{', '.join(self.directories)}")
                 raise WrongWords(f"{word} is no directory here; write './{word}' for a file of that name")
 
     def is_known(self, word: str) -> bool:

@@ -32,8 +32,8 @@ CLEAR = b"\x1b[H\x1b[2J\x1b[3J"
 
 
 class Manner(NamedTuple):
-    """How a change counts while the command runs: what it does to that run, by which signal, and whether changes of that
-    time are left out."""
+    """How a change counts while the command runs: what it does to that run, by which signal, and whether changes of
+    that time are left out."""
 
     on_busy: str
     stop_signal: signal.Signals

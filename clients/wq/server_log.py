@@ -89,7 +89,8 @@ class Log:
         if self.path:
             return self.path
         process = self.server.peer.process
-        return "journalctl --user -u wqd" if is_of_unit(process) else f"standard error of process {process}, which is no file"
+        other = f"standard error of process {process}, which is no file"
+        return "journalctl --user -u wqd" if is_of_unit(process) else other
 
 
 def quoted_of(line: str, separator: str = ": ") -> Tuple[str, str]:

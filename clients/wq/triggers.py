@@ -16,8 +16,8 @@ from .terminal import name_shown, say, show
 from .trouble import FOUND, NOTHING, WrongWords
 from .values_shown import json_shown
 
-# The server hands names as they are. So a command that takes names is run by a shell, which puts `./` before each name, as
-# `wq run` does. Its text has the numbers of the words alone; after this the count of the command's own words comes.
+# The server hands names as they are. So a command that takes names is run by a shell, which puts `./` before each name,
+# as `wq run` does. Its text has the numbers of the words alone; after this the count of the command's own words comes.
 NUMBERS = r'''BEGIN { for (i = 2; i <= all; i++) printf " \"%s${%d}\"", (i > own + 1 ? "./" : ""), i }'''
 WITH_NAMES = ["/bin/sh", "-c", f"""words=$(awk -v own="$1" -v all="$#" '{NUMBERS}') && eval "exec $words\"""", "wq"]
 
@@ -69,7 +69,8 @@ def require_files(globs: List[str], directory: str) -> None:
     for word in globs:
         if is_directory(os.path.join(directory, word)):
             raise WrongWords(f"{word} is a directory; a trigger has one, which comes before its name")
-        if not is_pattern(word) and not has_braces(word) and not word.startswith("./") and not os.path.lexists(os.path.join(directory, word)):
+        if not (is_pattern(word) or has_braces(word) or word.startswith("./")
+                or os.path.lexists(os.path.join(directory, word))):
             raise WrongWords(f"{word} is no file here; write './{word}' for one that may come")
 
 

@@ -1,5 +1,5 @@
-"""The arguments that words of the protocol take: commands, keys of queries and triggers, terms. It is for hints alone: the server
-decides what is right."""
+"""The arguments that words of the protocol take: commands, keys of queries and triggers, terms. It is for hints alone:
+the server decides what is right."""
 
 import json
 from typing import Dict, Iterable, NamedTuple, Tuple

@@ -48,7 +48,8 @@ MAX_DEPTH = value("--max-depth", metavar="N", type=int, help="at most so deep; 1
 OTHERS = [
     value("-t", "--type", metavar="KINDS", dest="type", action="append",
           help="kinds of files: f or file, d or dir, l or link, such as -t f,d"),
-    value("-e", "--extension", metavar="EXT", dest="ext", action="append", help="suffixes, such as -e c,h or -e c -e h"),
+    value("-e", "--extension", metavar="EXT", dest="ext", action="append",
+          help="suffixes, such as -e c,h or -e c -e h"),
     value("-E", "--exclude", metavar="GLOB", dest="exclude", action="append",
           help="leave out what fits, and all below it"),
     value("--min-depth", metavar="N", type=int, help="at least so deep"),
@@ -92,13 +93,15 @@ FORMS: Dict[str, Form] = {
               help="modified within this time, such as 30s, 10min, 2h, 3d, 1w, or since a date, such as 2026-11-28"),
         value("--older", "--changed-before", metavar="WHEN", dest="older", help="modified before that"),
         value("--expression", metavar="JSON", help="an expression of the protocol, beside the other words"),
-        value("--program", metavar="NAME", help="a stored program; globs or -e beside it say which files it is asked about"),
+        value("--program", metavar="NAME",
+              help="a stored program; globs or -e beside it say which files it is asked about"),
         flag("-l", dest="long", help="the kind, size, time and name of each"), ZEROS, JSON, LINES,
         flag("--count", help="how many there are"),
         Option(("--no-sync",), {"dest": "sync", "action": "store_false", "help": "as the last crawl saw it"}),
         flag("--keep", help="goes on to watch a root that was not watched before"),
         value("-x", "--exec", metavar="CMD", dest="each",
-              help="runs CMD, which goes on to the end or to ;, for each name: {} is its place, {/} that of its last part, "
+              help="runs CMD, which goes on to the end or to ;, for each name: {} is its place, {/} that of its last "
+                   "part, "
                    "{//} of its directory, {.} and {/.} without a suffix"),
         value("-X", "--exec-batch", metavar="CMD", dest="batch", help="runs CMD once, with all names"), WORDS]),
     "since": Form("[NAME] [DIR|GLOB..]", "prints what changed since this was last asked, under a name or without", [
@@ -112,7 +115,8 @@ FORMS: Dict[str, Form] = {
         value("--delay", metavar="MS", type=int, default=0, help="waits so long before a run for a change"),
         flag("--restart", help="a change ends the running one by SIGTERM, and after 5 seconds by SIGKILL"),
         value("--on-busy", metavar="HOW", help="what a change does to a running one: wait, restart, ignore, signal"),
-        value("--stop-signal", metavar="SIG", default="TERM", help="the signal of restart and signal, such as INT; TERM"),
+        value("--stop-signal", metavar="SIG", default="TERM",
+              help="the signal of restart and signal, such as INT; TERM"),
         flag("--no-self", help="leaves out what changes while the command runs"),
         flag("--shell", help="the words are a text for sh, in which {} is for the names"),
         flag("--notify", help="the terminal says that a run ended, or rings"),
@@ -126,7 +130,8 @@ FORMS: Dict[str, Form] = {
     "unwatch": Form("[DIR..]", "gives places of roots back, also of directories that are gone", [WORDS]),
     "roots": Form("", "prints the roots that are watched", [ZEROS, JSON]),
     "trigger": Form("[DIR] NAME [GLOB..] -- COMMAND..", "has the server run a command in the root after changes", [
-        *NARROWING, flag("--stdin", help="the names are lines on its input; {} as its last word is for the names"), WORDS]),
+        *NARROWING, flag("--stdin", help="the names are lines on its input; {} as its last word is for the names"),
+        WORDS]),
     "triggers": Form("[DIR]", "prints the triggers of a root", [JSON, DIRECTORY]),
     "untrigger": Form("[DIR] NAME", "takes a trigger out", [WORDS]),
     "ask": Form("LINE..", "sends lines of the protocol, and prints the replies", [WORDS]),

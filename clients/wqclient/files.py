@@ -1,9 +1,11 @@
-"""Opens files that somebody else may have made, such as those of a tree: a pipe is not waited for, and what is no regular
-file is refused."""
+"""Opens files that somebody else may have made, such as those of a tree: a pipe is not waited for, and what is no
+regular file is refused."""
 
 import errno
+import fcntl
 import os
 import stat
+from typing import IO
 
 
 def opened(path: "os.PathLike[str] | str | bytes", flags: int, follows: bool = False) -> int:
@@ -40,3 +42,12 @@ def is_of_own_user(path: str) -> bool:
         return os.lstat(path).st_uid in (os.getuid(), 0)
     except (OSError, ValueError):
         return False
+
+
+def is_locked(file: IO[str]) -> bool:
+    """Whether the file is locked now by this process, and no other had it."""
+    try:
+        fcntl.flock(file, fcntl.LOCK_EX | fcntl.LOCK_NB)
+    except BlockingIOError:
+        return False
+    return True

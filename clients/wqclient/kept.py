@@ -25,8 +25,8 @@ def above() -> str:
 
 
 def room(kind: str) -> str:
-    """The directory of these notes, which is made if it is not there. With sudo the home may be that of another user, who
-    could have put a link there; so a directory of another is refused."""
+    """The directory of these notes, which is made if it is not there. With sudo the home may be that of another user,
+    who could have put a link there; so a directory of another is refused."""
     home = os.path.expanduser("~")
     if not os.path.isabs(above()):
         raise OSError(errno.ENOENT, "there is no home", home)
@@ -51,8 +51,8 @@ def require_own(path: str, may_be_link: bool = False) -> None:
 
 
 def log_of(sockname: str) -> str:
-    """The file for what a program says that listens at a socket. The directory of the socket is in memory on most systems,
-    and a log may grow; so it takes the log only if these notes cannot."""
+    """The file for what a program says that listens at a socket. The directory of the socket is in memory on most
+    systems, and a log may grow; so it takes the log only if these notes cannot."""
     try:
         return os.path.join(room(LOGS), os.path.abspath(sockname).strip("/").replace("/", "%") + ".log")
     except OSError:

@@ -1,4 +1,5 @@
-"""A connection to a server, on which lines of bytes go both ways. The server has to be one of this user or the superuser."""
+"""A connection to a server, on which lines of bytes go both ways. The server has to be one of this user or the
+superuser."""
 
 import errno
 import os
@@ -77,7 +78,8 @@ class Lines:
         """Refuses a server of another user, who may have put a socket in the place of this user's."""
         user = self.peer().user
         if user not in (os.getuid(), SUPERUSER):
-            raise OSError(errno.EPERM, f"the server that answers there is that of user {user}, and not yours", self.sockname)
+            raise OSError(errno.EPERM, f"the server that answers there is that of user {user}, and not yours",
+                          self.sockname)
 
     def send_bytes(self, data: bytes) -> None:
         """Sends all of it, and reads meanwhile: the server may be in the middle of a list that it waits to be read."""

@@ -6,7 +6,7 @@ import fcntl
 import time
 from typing import IO, Any, Callable, Dict, List, Optional
 
-from .files import opened_as_own
+from .files import is_locked, opened_as_own
 from .kept import LOOKS, ROOTS, WINDOWS, keep, kept, path_of, room, run_of
 
 # The purposes of a watch, of which a later one wins: one query; a window; `find --keep`; `watch`, `since` and
@@ -46,8 +46,8 @@ class Notes:
             keep({}, ROOTS, self.sockname, root)
 
     def look(self, root: str) -> str:
-        """What a person hears while the server looks at all files of a root that was not watched. In the run of a server
-        that is for the first time once; then the command is named that keeps the root watched."""
+        """What a person hears while the server looks at all files of a root that was not watched. In the run of a
+        server that is for the first time once; then the command is named that keeps the root watched."""
         run = run_of(self.process)
         if kept(LOOKS, self.sockname, root).get("run") == run:
             return f"the server looks at all files below {root} again; `wq watch` would keep it watched"
@@ -95,19 +95,10 @@ class Notes:
         """Whether a window has a root open, as far as can be seen."""
         try:
             with self.lock_file(root) as file:
-                return not is_alone(file)
+                return not is_locked(file)
         except OSError:
             return True
 
     def lock_file(self, root: str) -> IO[str]:
         room(WINDOWS)
         return open(path_of(WINDOWS, self.sockname, root), "a", encoding="utf-8", opener=opened_as_own)
-
-
-def is_alone(file: IO[str]) -> bool:
-    """Whether nobody else has locked a file, which is locked then."""
-    try:
-        fcntl.flock(file, fcntl.LOCK_EX | fcntl.LOCK_NB)
-    except BlockingIOError:
-        return False
-    return True

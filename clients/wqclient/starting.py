@@ -6,9 +6,9 @@ import fcntl
 import os
 import subprocess
 import time
-from typing import IO, Callable, Dict, Iterator, List, Optional, Sequence
+from typing import Callable, Dict, Iterator, List, Optional, Sequence
 
-from .files import opened_as_own
+from .files import is_locked, opened_as_own
 from .kept import log_of
 from .sockets import is_listened_on
 
@@ -51,15 +51,6 @@ def alone(sockname: str, tell: Callable[[], None] = lambda: None) -> Iterator[No
                 break
             time.sleep(PAUSE)
         yield
-
-
-def is_locked(file: IO[str]) -> bool:
-    """Whether the file is locked now by this process, and no other had it."""
-    try:
-        fcntl.flock(file, fcntl.LOCK_EX | fcntl.LOCK_NB)
-    except BlockingIOError:
-        return False
-    return True
 
 
 def begin(command: List[str], sockname: str, environment: Optional[Dict[str, str]] = None) -> None:

@@ -105,7 +105,8 @@ class Assembler:
 
     def too_many(self, counted: str, most: int, subject: str) -> TextFault:
         """The fault of a row or an entry for which the version has no room."""
-        return self.words.next.fault(f"too many {counted}", f"at most {most:,} {subject} in version {self.version.number}")
+        return self.words.next.fault(f"too many {counted}",
+                                     f"at most {most:,} {subject} in version {self.version.number}")
 
     def is_at_table(self) -> bool:
         """Whether a table begins here, or the text ends."""
@@ -201,7 +202,8 @@ class Assembler:
         if instruction is not None and not self.version.knows(instruction):
             raise token.fault("not in this version", f"{later_version()}, or another instruction")
         if token.kind != "name" or instruction is None:
-            raise token.fault("unknown word", f"an instruction, as {one_of(near_instructions(token.word, self.version))}")
+            raise token.fault("unknown word",
+                              f"an instruction, as {one_of(near_instructions(token.word, self.version))}")
         a, b = 0, None
         if instruction.name == "cmp":
             a = self.relation()

@@ -56,8 +56,8 @@ usage: wqasm assemble TEXT [-o FILE] [--version N]
   --oclock N, --osec N   those of its last change; if left out, those at which it came, or the next tick with --deleted
   --clock ID    a clock id of the server and the root that the expression is for
 
-The status is 0, or 1 if something cannot be read or written, 2 for a wrong command line, 3 for what is refused, 130 if you
-stop it.
+The status is 0, or 1 if something cannot be read or written, 2 for a wrong command line, 3 for what is refused, 130
+if you stop it.
 """
 LONGEST_FILE = 16_777_216
 # A pattern of two bytes may be written with all its flags, in 37 letters. So the text of each file may be so long.
@@ -269,7 +269,8 @@ def program_of(text: bytes, instance: Instance, has_instance: bool) -> Program:
         raise Refused(NOT_JSON) from None
     read_term(value, instance)
     if names_tick(value) and not has_instance:
-        raise ValueError("the expression has a clock id; say with --clock a clock id of the server and root that it is for")
+        raise ValueError("the expression has a clock id; say with --clock a clock id of the server and root that it "
+                         "is for")
     try:
         return compiled(value, instance)
     except TooLarge:

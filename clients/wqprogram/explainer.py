@@ -1,4 +1,5 @@
-"""Explains a program: the cells before each instruction, what it costs, where it goes on, and the fault, if it has one."""
+"""Explains a program: the cells before each instruction, what it costs, where it goes on, and the fault, if it has
+one."""
 
 from typing import Iterator, List, Sequence
 

@@ -100,7 +100,8 @@ def other_cells(met: Met) -> str:
     assert follower is not None
     before = met.reached[follower]
     return (
-        f"place {follower} was reached from place {before.origin} with {cells(before.stack)} on the stack, and from here "
+        f"place {follower} was reached from place {before.origin} with {cells(before.stack)} on the stack, and from "
+        f"here "
         f"it would be with {cells(after)}; let both ways leave the same kinds of cells"
     )
 

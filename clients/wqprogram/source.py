@@ -1,4 +1,5 @@
-"""Reads the words of a text that says a program: names, numbers, texts in quotes and marks, each with its line and column.
+"""Reads the words of a text that says a program: names, numbers, texts in quotes and marks, each with its line and
+column.
 
 A `#` and what follows it on the line is a comment. Blanks separate words and say nothing else.
 """
@@ -25,8 +26,8 @@ MOST_DIGITS = 40
 
 
 class TextFault(Exception):
-    """The text says no program: at this line and column, both counted from 1, is a word with a fault that has a name, and
-    something else was expected."""
+    """The text says no program: at this line and column, both counted from 1, is a word with a fault that has a name,
+    and something else was expected."""
 
     def __init__(self, name: str, line: int, column: int, found: str, expected: str) -> None:
         super().__init__(f"{line}:{column}: {name}: found {found}, expected {expected}")
@@ -36,9 +37,9 @@ class TextFault(Exception):
 
 
 class Token(NamedTuple):
-    """A word of the text. The kind is `name`, `number`, `text`, a mark, `line` for the end of a line, `end` for that of the
-    text, `other` for what is no word of a program, or `fault`. A text has its bytes as its value, a number its number, and
-    a fault the error."""
+    """A word of the text. The kind is `name`, `number`, `text`, a mark, `line` for the end of a line, `end` for that of
+    the text, `other` for what is no word of a program, or `fault`. A text has its bytes as its value, a number its
+    number, and a fault the error."""
 
     kind: str
     word: str
@@ -60,8 +61,8 @@ class Token(NamedTuple):
 
 
 def one_of(words: Iterable[str], word: str = "") -> str:
-    """The words that may be in the place of this one: the one that it may have been meant for, or all, of which some are
-    shown."""
+    """The words that may be in the place of this one: the one that it may have been meant for, or all, of which some
+    are shown."""
     choices = list(words)
     near = difflib.get_close_matches(word, choices, 1)
     shown = [f'"{cut(choice)}"' for choice in near or choices[:MOST_SHOWN]]

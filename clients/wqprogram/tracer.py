@@ -1,7 +1,5 @@
 """Shows a run of a program on one file, step by step."""
 
-from typing import List
-
 from .explainer import aligned
 from .machine import Cell, steps_of
 from .program_file import Program

@@ -2,10 +2,18 @@
 
 import contextlib
 import os
+import unittest
+from importlib.util import find_spec
 from pathlib import Path
 from typing import Iterator
 
 from client import Server
+
+
+def needs_watchdog() -> None:
+    """Leaves out the tests of a module if this Python has no watchdog."""
+    if find_spec("watchdog") is None or find_spec("watchdog.observers") is None:
+        raise unittest.SkipTest("no Python here has watchdog: Debian's package python3-watchdog")
 
 
 @contextlib.contextmanager

@@ -4,13 +4,13 @@ import socket
 import struct
 import subprocess
 import sys
-import time
 from pathlib import Path
 from types import ModuleType
 from typing import Dict, List, Optional
 
 import built
-from client import PATIENCE, Client, Server
+from client import PATIENCE, Client, Server, client_of
+from waiting import wait_until
 
 sys.path[:0] = [str(built.TOP / "clients")]
 
@@ -21,6 +21,7 @@ PROGRAM = built.TOP / "clients" / "bridge"
 COMMAND = built.TOP / "clients" / "watchman"
 VERSION = "4.9.0"
 INTERVAL = 50
+NO_CODEC = "this Python has no pywatchman (Debian's python3-pywatchman): BSER itself is not tested"
 # How long a list that should not come is waited for, in seconds: some intervals.
 SILENCE = 0.4
 
@@ -28,7 +29,8 @@ SILENCE = 0.4
 class Bridge:
     """A server and a bridge, whose sockets are in a directory."""
 
-    def __init__(self, room: Path, interval: int = INTERVAL, grace: float = 60, words: Optional[List[str]] = None) -> None:
+    def __init__(self, room: Path, interval: int = INTERVAL, grace: float = 60,
+                 words: Optional[List[str]] = None) -> None:
         self.sockname = str(room / "bridge")
         self.server = Server(room, interval)
         command = [sys.executable, str(PROGRAM), "--server", self.server.sockname, "--sockname", self.sockname,
@@ -47,16 +49,14 @@ class Bridge:
         self.server.kill()
         self.server.said.close()
 
-    def client(self) -> Client:
-        return Client(self.sockname)
+    def client(self, watched: Optional[Path] = None) -> Client:
+        return client_of(self.sockname, watched)
 
 
 def wait_for_socket(sockname: str, process: subprocess.Popen) -> None:
-    end = time.monotonic() + PATIENCE
-    while not is_listened_on(sockname):
-        if process.poll() is not None or time.monotonic() > end:
-            raise ValueError(f"nobody listens on {sockname}")
-        time.sleep(0.01)
+    wait_until(lambda: is_listened_on(sockname) or process.poll() is not None)
+    if not is_listened_on(sockname):
+        raise ValueError(f"nobody listens on {sockname}")
 
 
 def codec() -> Optional[ModuleType]:

@@ -5,7 +5,7 @@ from typing import Dict, Iterator, List, NamedTuple
 from notation import file_of
 
 
-class Case(NamedTuple):
+class FileCase(NamedTuple):
     """The bytes of a program file, and the line that `wqd check` says of it."""
 
     name: str
@@ -16,7 +16,7 @@ class Case(NamedTuple):
 TABLES = ("numbers", "texts", "lists", "patterns", "sets")
 
 
-def read_cases(text: str) -> Iterator[Case]:
+def read_cases(text: str) -> Iterator[FileCase]:
     for group in groups(text):
         for version in versions_of(group):
             yield from cases_of(group, data_of(group, version), f"{group['name']}, version {version}")
@@ -30,14 +30,14 @@ def versions_of(group: Dict[str, str]) -> List[int]:
     return [2] if "sets" in group else [1] if is_of_bytes else [1, 2]
 
 
-def cases_of(group: Dict[str, str], data: bytes, name: str) -> Iterator[Case]:
+def cases_of(group: Dict[str, str], data: bytes, name: str) -> Iterator[FileCase]:
     if "each prefix" in group:
         for length in range(len(data)):
-            yield Case(f"{name}: {length} bytes", data[:length], group["says"])
+            yield FileCase(f"{name}: {length} bytes", data[:length], group["says"])
     elif any(key.startswith("byte ") for key in group):
         yield from cases_of_bytes(group, data)
     else:
-        yield Case(name, data, group["says"])
+        yield FileCase(name, data, group["says"])
 
 
 def groups(text: str) -> Iterator[Dict[str, str]]:
@@ -60,7 +60,7 @@ def data_of(group: Dict[str, str], version: int) -> bytes:
     return data[:len(data) - int(group.get("cut", "0"))]
 
 
-def cases_of_bytes(group: Dict[str, str], data: bytes) -> Iterator[Case]:
+def cases_of_bytes(group: Dict[str, str], data: bytes) -> Iterator[FileCase]:
     """A case for each value of one byte."""
     key = next(key for key in group if key.startswith("byte "))
     place = int(key.split()[1])
@@ -68,4 +68,4 @@ def cases_of_bytes(group: Dict[str, str], data: bytes) -> Iterator[Case]:
         first, _, last = values.partition("-")
         for value in range(int(first, 16), int(last or first, 16) + 1):
             changed = data[:place] + bytes([value]) + data[place + 1:]
-            yield Case(f"{group['name']}: {value:02x}", changed, group["says"])
+            yield FileCase(f"{group['name']}: {value:02x}", changed, group["says"])

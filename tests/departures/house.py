@@ -1,22 +1,39 @@
 """A server of which all places but one are taken, and a tree that takes it a while."""
 
+import atexit
+import functools
 import json
 import os
+import tempfile
 import time
 from pathlib import Path
 from typing import List
 
-import built
+from case import Case
 from client import VERSION, Client, Server, query_of_names
+from test_large import MEMORY, has_room, make_names
+from waiting import PATIENCE, wait_until
 
 # The pause between two rounds, in milliseconds, within which a place has to be free.
 INTERVAL = 2_000
 PLACES = 32
-PATIENCE = 60.0
 # How many times as long work takes at most while others work too.
 BESIDE_OTHERS = 10
 # How much more memory a server may have after a client went, in bytes.
 MORE_MEMORY = 6_000_000
+# A tree that takes the server a while.
+DIRECTORIES = 20
+FILES = 100_000
+
+
+@functools.lru_cache(maxsize=None)
+def large_tree() -> Path:
+    """The tree of all tests, which is made for the first one and goes at the end."""
+    shelf = tempfile.TemporaryDirectory(dir=MEMORY if has_room(MEMORY) else None)
+    atexit.register(shelf.cleanup)
+    root = Path(shelf.name) / "tree"
+    make_names(root, DIRECTORIES, FILES)
+    return root
 
 
 def dear_query(patterns: int) -> dict:
@@ -75,29 +92,29 @@ class House:
         self.first.ask(*command)
         return time.monotonic() - began
 
-    def is_as_before(self, tally: built.Tally, name: str, work: float = 0.0) -> None:
-        """The place of a client that just went is free within an interval after its work, which takes so many seconds alone.
-        Then threads, handles and memory are as they were before it came."""
+    def is_as_before(self, case: Case, name: str, work: float = 0.0) -> None:
+        """The place of a client that just went is free within an interval after its work, which takes so many seconds
+        alone. Then threads, handles and memory are as they were before it came."""
         began = time.monotonic()
         with self.server.client_when_free() as client:
             took = time.monotonic() - began
             is_soon = took <= INTERVAL / 1000 + BESIDE_OTHERS * work
-            tally.check(f"its place is free, {name}", is_soon, [f"{took:.3f} seconds, its work alone {work:.3f}"])
-            tally.check(f"a client in its place, {name}", client.ask("version") == VERSION)
+            case.check(f"its place is free, {name}", is_soon, [f"{took:.3f} seconds, its work alone {work:.3f}"])
+            case.check(f"a client in its place, {name}", client.ask("version") == VERSION)
         same_handles = has_handles(self.server, self.handles)
-        tally.check(f"its handles, {name}", same_handles, [f"{handles_of(self.server)}, before {self.handles}"])
+        case.check(f"its handles, {name}", same_handles, [f"{handles_of(self.server)}, before {self.handles}"])
         is_same = self.server.has_threads(self.threads, PATIENCE)
-        tally.check(f"its threads, {name}", is_same, [f"{self.server.threads()}, before {self.threads}"])
+        case.check(f"its threads, {name}", is_same, [f"{self.server.threads()}, before {self.threads}"])
         is_small = self.server.has_memory_below(self.memory + MORE_MEMORY)
-        tally.check(f"its memory, {name}", is_small, [f"{self.server.memory()} bytes, before {self.memory}"])
+        case.check(f"its memory, {name}", is_small, [f"{self.server.memory()} bytes, before {self.memory}"])
 
-    def goes_on(self, tally: built.Tally, name: str) -> None:
+    def goes_on(self, case: Case, name: str) -> None:
         """The others see a change, and then the change back."""
         mark = Path(self.root) / "mark"
         for is_there in (True, False):
             mark.touch() if is_there else mark.unlink()
             reply = self.first.ask("query", self.root, {"path": ["mark"], **query_of_names()})
-            tally.check(f"a query of another, {name}", reply.get("files") == ["mark"] * is_there, [f"{reply}"])
+            case.check(f"a query of another, {name}", reply.get("files") == ["mark"] * is_there, [f"{reply}"])
 
 
 def line_of(*command: object) -> bytes:
@@ -110,9 +127,4 @@ def handles_of(server: Server) -> int:
 
 def has_handles(server: Server, most: int) -> bool:
     """Whether the server comes to have no more open files than so many before the patience ends."""
-    end = time.monotonic() + PATIENCE
-    while handles_of(server) > most:
-        if time.monotonic() > end:
-            return False
-        time.sleep(0.02)
-    return True
+    return wait_until(lambda: handles_of(server) <= most)

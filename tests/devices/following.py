@@ -15,7 +15,8 @@ CRAWLS = 3
 
 
 def watched(server: Server, root: Path, client: Optional[Client] = None) -> bool:
-    """Has a client watch the root, and says whether it is watched. Two of the lines may be refused, or the session may end."""
+    """Has a client watch the root, and says whether it is watched. Two of the lines may be refused, or the session may
+    end."""
     asking = client or server.client()
     asking.send_bytes((asking.text(["watch", str(root)]) + b"\n") * CRAWLS)
     try:
@@ -27,8 +28,8 @@ def watched(server: Server, root: Path, client: Optional[Client] = None) -> bool
 
 
 class Picture:
-    """The files that a client knows of, and what was wrong in what it was told. A file of which a walk may have seen nothing
-    can go and come back between two lists. So it may be told although the client knows it."""
+    """The files that a client knows of, and what was wrong in what it was told. A file of which a walk may have seen
+    nothing can go and come back between two lists. So it may be told although the client knows it."""
 
     def __init__(self, lost: Set[str]) -> None:
         self.lost = lost
@@ -70,8 +71,8 @@ class Follower(Picture):
 
 
 class Caller(Picture):
-    """A client whose sessions end, and that asks in each what changed since the last clock that it read. A cursor is no help:
-    one whose reply was cut has moved."""
+    """A client whose sessions end, and that asks in each what changed since the last clock that it read. A cursor is no
+    help: one whose reply was cut has moved."""
 
     def __init__(self, server: Server, root: Path, lost: Set[str]) -> None:
         super().__init__(lost)
@@ -79,7 +80,8 @@ class Caller(Picture):
         self.clock = ""
 
     def follow(self, truth: Set[str]) -> None:
-        """Asks until it knows all. Of a session that crawls three times replies may be cut; the next one does not crawl."""
+        """Asks until it knows all. Of a session that crawls three times replies may be cut; the next one does not
+        crawl."""
         for _ in range(TURNS):
             for lines in ([{}] * CRAWLS, [{"sync_timeout": 0}]):
                 self.take_last(self.replies(lines), truth)
@@ -129,7 +131,8 @@ class Subscriber(Picture):
         self.client.send("subscribe", str(self.root), "s", {"fields": FIELDS, **since})
 
     def hear(self, truth: Set[str]) -> None:
-        """Hears lists until it knows all. Lists of walks from before may come first: what it knows may still be there."""
+        """Hears lists until it knows all. Lists of walks from before may come first: what it knows may still be
+        there."""
         end, lawful = time.monotonic() + PATIENCE, truth | self.known
         while self.known != truth:
             if time.monotonic() > end:

@@ -2,7 +2,6 @@
 
 import os
 import re
-import shutil
 import subprocess
 import sys
 import tempfile
@@ -27,20 +26,12 @@ class Fault(NamedTuple):
         return ["-e", f"trace={self.call}", "-e", f"inject={self.call}:error={self.error}:when={self.when}"]
 
 
-def has_strace(tally: built.Tally) -> bool:
-    found = shutil.which("strace") is not None
-    tally.check("strace is there", found)
-    return found
-
-
 def run(words: List[str], script: bytes, fault: Fault) -> Tuple[built.Ended, bool]:
     """How a run with this fault ends, and whether a call failed in it."""
     with tempfile.NamedTemporaryFile() as log:
         through = [*STRACE, "-o", log.name, *fault.words()]
         command = [*through, str(built.program_path()), *words]
-        ended = subprocess.run(command, input=script, stdout=subprocess.PIPE, stderr=subprocess.PIPE)
-        failed = b"(INJECTED)" in log.read()
-    return built.Ended(ended.stdout, ended.stderr, ended.returncode), failed
+        return built.call(command, input=script), b"(INJECTED)" in log.read()
 
 
 def calls_before(call: str, words: List[str], script: bytes, first: str) -> int:
@@ -55,7 +46,8 @@ def calls_before(call: str, words: List[str], script: bytes, first: str) -> int:
     sys.exit(f"tests/devices: no {call} begins with {first}: {calls}")
 
 
-def each_failing(call: str, error: str, words: List[str], script: bytes, first: str) -> Iterator[Tuple[int, built.Ended]]:
+def each_failing(call: str, error: str, words: List[str], script: bytes,
+                 first: str) -> Iterator[Tuple[int, built.Ended]]:
     """Runs in which one call after the other fails, until a run meets none, which comes last as number 0."""
     before = calls_before(call, words, script, first)
     for number in range(1, MOST_CALLS):

@@ -1,4 +1,5 @@
-"""The way of a query in docs/ARCHITECTURE.md: each function that it names is in its crate, and it says how many there are."""
+"""The way of a query in docs/ARCHITECTURE.md: each function that it names is in its crate, and it says how many there
+are."""
 
 import re
 from pathlib import Path
@@ -16,7 +17,8 @@ def wrong_ways(top: Path) -> Iterator[str]:
     part = page.split(HEADING)[1].split("\n#")[0]
     count = 0
     for row in ROW.finditer(part):
-        source = "\n".join(path.read_text(encoding="utf-8") for path in (top / "crates" / row["crate"] / "src").rglob("*.rt"))
+        source = "\n".join(path.read_text(encoding="utf-8")
+                           for path in (top / "crates" / row["crate"] / "src").rglob("*.rt"))
         for name in re.split(r",\s+", row["names"].strip()):
             count += 1
             if not re.search(rf"\bfn {name.split('::')[-1]}\b", source):

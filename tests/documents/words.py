@@ -79,7 +79,8 @@ def text_of(top: Path, name: str) -> str:
 
 
 def sentences(text: str) -> Iterator[str]:
-    """The sentences of a page, without blocks of code; a cell of a table, an item of a list and a link of many end one."""
+    """The sentences of a page, without blocks of code; a cell of a table, an item of a list and a link of many end
+    one."""
     text = re.sub(r"(?ms)^```.*?^```$", "", text)
     text = "\n".join(line for line in text.split("\n") if not line.startswith("    "))
     for part in re.split(r"\n\s*\n|\n(?=[-*|] )|\n(?=\d+\. )|(?<=\s)[|·](?=\s)", text):

@@ -3,8 +3,8 @@
 from pathlib import Path
 from typing import Dict, List, Tuple
 
-import built
-from client import Client, Server, same, walked
+from case import Case
+from client import Client, Server, walked
 
 FIELDS = ["name", "exists", "type", "size", "mtime_ms"]
 Known = Dict[str, Tuple[str, int, int]]
@@ -13,8 +13,8 @@ Known = Dict[str, Tuple[str, int, int]]
 class Follower:
     """A client that asks a root for what changed since its last answer, and keeps what it heard."""
 
-    def __init__(self, tally: built.Tally, server: Server, root: Path) -> None:
-        self.tally = tally
+    def __init__(self, case: Case, server: Server, root: Path) -> None:
+        self.case = case
         self.client: Client = server.client()
         self.root = root
         self.known: Known = {}
@@ -34,7 +34,7 @@ class Follower:
                 self.known[file["name"]] = (file["type"], file["size"], file["mtime_ms"])
             else:
                 self.known.pop(file["name"], None)
-        same(self.tally, name, self.known, {row[0]: row[1:] for row in walked(self.root)})
+        self.case.same(name, self.known, {row[0]: row[1:] for row in walked(self.root)})
         return sorted(file["name"] for file in reply.get("files", []))
 
     def hears_of(self, name: str) -> List[str]:

@@ -99,6 +99,8 @@ DAMAGES: List[Callable[[Draws, bytes], bytes]] = [change, change, insert, cut, c
 
 
 def drawn_bytes(draws: Draws) -> bytes:
-    """Bytes that are no line of anybody: of all values, of those of JSON, of letters and digits, or of UTF-8's longer forms."""
-    alphabet = draws.pick([bytes(range(256)), BYTES, b'[]{},:"', b"0123456789.eE-+,", bytes(range(128, 256)), b'\\u"d8c[]'])
+    """Bytes that are no line of anybody: of all values, of those of JSON, of letters and digits, or of UTF-8's longer
+    forms."""
+    alphabet = draws.pick([bytes(range(256)), BYTES, b'[]{},:"', b"0123456789.eE-+,", bytes(range(128, 256)),
+                           b'\\u"d8c[]'])
     return bytes(draws.pick(alphabet) for _ in range(draws.pick([1, 3, 20, 200, 2000])))

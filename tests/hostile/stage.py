@@ -1,18 +1,21 @@
 """A server on a small tree with a client that looks on, and the plain program that knows the same tree."""
 
+import atexit
 import contextlib
 import fcntl
+import functools
 import os
 import socket
 import struct
+import tempfile
 import termios
 import threading
 import time
-from itertools import zip_longest
 from pathlib import Path
-from typing import Iterable, Iterator, List
+from typing import Iterable, List
 
 import built
+from case import Case
 from client import A_HOUR, VERSION, Client, Server, query_of_names, walked
 from commands import answer, text_of
 from followers import Session
@@ -21,8 +24,8 @@ from views import Row, Sight, pass_of
 from wqprogram.json_values import compact_text
 from wqprogram.limits import MAX_LINE
 
-# How many seconds two other clients wait at most for their answers, one after the other. On a machine that has other work
-# too they may wait for that, so one of several times counts.
+# How many seconds two other clients wait at most for their answers, one after the other. On a machine that has other
+# work too they may wait for that, so one of several times counts.
 SOON = 1.0
 TRIES = 3
 # How long the threads of sessions that are over may take to end, in seconds.
@@ -30,10 +33,12 @@ A_WHILE = 10.0
 # How much memory the server may have at most, and how much more than at first once it is idle, in bytes.
 MOST_MEMORY = 150_000_000
 MORE_MEMORY = 16_000_000
+# What is drawn depends on this number.
+SEED = int(os.environ.get("SEED", "1"))
 
 NAMES = [
-    "a", "a.c", "A.C", ".a.c", "b.txt", "src/a.c", "src/A.c", "src/b/c.TXT", "src/.y/a.c", "ü", "Ü.c", "日本/語.c", "a b",
-    "a\\b", 'a"b', "[a]", "x\ty", "😀.txt", "é/É", "foo/bar/x", "foo/barx/z", "*", "a" * 40,
+    "a", "a.c", "A.C", ".a.c", "b.txt", "src/a.c", "src/A.c", "src/b/c.TXT", "src/.y/a.c", "ü", "Ü.c", "日本/語.c",
+    "a b", "a\\b", 'a"b', "[a]", "x\ty", "😀.txt", "é/É", "foo/bar/x", "foo/barx/z", "*", "a" * 40,
 ]
 LATER_NAMES = ["src/new.c", "z", "foo/bar/y/x"]
 GONE_NAMES = ["a", "src/A.c"]
@@ -105,49 +110,61 @@ class Stage:
         sockname = compact_text(self.server.sockname).encode()
         return b"".join(line.replace(b'"sockname":"replay"', b'"sockname":' + sockname) + b"\n" for line in said)
 
-    def compare(self, tally: built.Tally, name: str, data: bytes, pieces: Iterable[bytes] = ()) -> bool:
+
+@functools.lru_cache(maxsize=None)
+def shared_stage() -> Stage:
+    """The stage of all tests, which is made for the first one and goes at the end."""
+    ends = contextlib.ExitStack()
+    atexit.register(ends.close)
+    room = ends.enter_context(tempfile.TemporaryDirectory())
+    return ends.enter_context(Stage(Path(room).resolve()))
+
+
+class StageCase(Case):
+    """Tests after each of which the server is well."""
+
+    def setUp(self) -> None:
+        super().setUp()
+        self.stage = shared_stage()
+
+    def tearDown(self) -> None:
+        self.is_well(self._testMethodName)
+
+    def compare(self, name: str, data: bytes, pieces: Iterable[bytes] = ()) -> bool:
         """Whether the server and the plain program say the same to these bytes."""
-        expected, found = self.plain_replies(data), self.replies(data, pieces)
-        if expected == found:
-            tally.check(name, True)
-            return True
-        tally.check(name, False, [f"sent: {built.excerpt(data)}", *difference(expected, found)])
-        return False
+        expected, found = self.stage.plain_replies(data), self.stage.replies(data, pieces)
+        details = [] if expected == found else [f"sent: {built.excerpt(data)}",
+                                                *built.first_difference(expected, found)]
+        self.check(name, expected == found, details)
+        return expected == found
 
-    def is_well(self, tally: built.Tally, name: str) -> None:
+    def is_well(self, name: str) -> None:
         """The other client and a new one are answered soon, memory is bounded, and no thread is left."""
-        times = [self.seconds_of_others(tally, name) for _ in range(TRIES)]
-        tally.check(f"they are answered soon, {name}", min(times) <= SOON, [f"{times} seconds"])
-        most = self.server.most_memory()
-        tally.check(f"the most memory, {name}", most <= MOST_MEMORY, [f"{most} bytes"])
-        is_small = self.server.has_memory_below(self.memory + MORE_MEMORY)
-        tally.check(f"the memory after it, {name}", is_small, [f"{self.server.memory()} bytes, before {self.memory}"])
-        is_same = self.server.has_threads(self.threads, A_WHILE)
-        tally.check(f"the threads after it, {name}", is_same, [f"{self.server.threads()}, before {self.threads}"])
+        times = [self.seconds_of_others(name) for _ in range(TRIES)]
+        self.check(f"they are answered soon, {name}", min(times) <= SOON, [f"{times} seconds"])
+        most = self.stage.server.most_memory()
+        self.check(f"the most memory, {name}", most <= MOST_MEMORY, [f"{most} bytes"])
+        is_small = self.stage.server.has_memory_below(self.stage.memory + MORE_MEMORY)
+        self.check(f"the memory after it, {name}", is_small,
+                   [f"{self.stage.server.memory()} bytes, before {self.stage.memory}"])
+        is_same = self.stage.server.has_threads(self.stage.threads, A_WHILE)
+        self.check(f"the threads after it, {name}", is_same,
+                   [f"{self.stage.server.threads()}, before {self.stage.threads}"])
 
-    def seconds_of_others(self, tally: built.Tally, name: str) -> float:
+    def seconds_of_others(self, name: str) -> float:
         """How long the other client and a new one wait for their answers."""
         began = time.monotonic()
-        tally.check(f"another client, {name}", self.other.ask("version") == VERSION)
-        with self.server.client() as client:
-            reply = client.ask("query", str(self.root), {"expression": ["name", "b.txt"], **query_of_names()})
+        self.check(f"another client, {name}", self.stage.other.ask("version") == VERSION)
+        with self.stage.server.client() as client:
+            reply = client.ask("query", str(self.stage.root), {"expression": ["name", "b.txt"], **query_of_names()})
         took = time.monotonic() - began
-        tally.check(f"a new client, {name}", reply.get("files") == ["b.txt"], [f"{reply}"])
+        self.check(f"a new client, {name}", reply.get("files") == ["b.txt"], [f"{reply}"])
         return took
 
 
-def difference(expected: bytes, found: bytes) -> Iterator[str]:
-    """The first line in which the two differ."""
-    lines = zip_longest(expected.split(b"\n"), found.split(b"\n"), fillvalue=b"")
-    number, one, other = next((number, one, other) for number, (one, other) in enumerate(lines, 1) if one != other)
-    yield f"the first difference is in line {number}"
-    yield f"plain: {built.excerpt(one)}"
-    yield f"built: {built.excerpt(other)}"
-
-
 def send(client: Client, pieces: Iterable[bytes], over: threading.Event) -> None:
-    """Sends each piece when the one before it has been taken, and then closes the sending side. What comes after the end of
-    a session is never taken."""
+    """Sends each piece when the one before it has been taken, and then closes the sending side. What comes after the
+    end of a session is never taken."""
     for piece in pieces:
         client.send_bytes(piece)
         while bytes_waiting(client) and not over.is_set():

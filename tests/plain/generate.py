@@ -10,7 +10,6 @@ from pathlib import Path
 from typing import Dict, List, Tuple
 
 sys.path.insert(0, str(Path(__file__).resolve().parents[2] / "clients"))
-sys.dont_write_bytecode = True
 
 from draws import Draws, array, json_object
 from generate_terms import MAX, WRONG_NUMBERS, World, clock_spec, expression, globs, paths, suffixes
@@ -18,16 +17,12 @@ from generate_triggers import rounds, trigger_command
 from programs import FAULTS, PROGRAMS
 
 NAMES = [
-    "a", "a.c", "A.C", ".a.c", "b.txt", "src", "src/a.c", "src/A.c", "Src/a.c", "src/b/c.TXT", "src/.y/a.c",
-    ".x/a.c",
-    "x/y/z/a.c", "x/y", "x", "ü", "Ü.c", "日本/語.c", "a b", "a\\b", 'a"b', "[a]", "a*b", "-", "]", "!", "b.",
-    "..a", "...",
-    "a..c", ".php", "php", "a.PHP", "x\ty", "x\x01y", "x\x7fy", "😀.txt", "é/É", "a-b_c", "foo/bar",
-    "foo/bar/x",
-    "foo/bar/y/x", "foo/barx/z", "k=1", "x\ry", "Z", "z", "7", "_", "~", "[", "^", "\t", "\x7f", "\x0b",
-    "\x1f", " ", ":]", "[]",
-    "x:", "a]", "g", "F", "G", "x/.c", "x/[a]/7", "x/y/.z/a.c", "*", "?", "@", "`", "{", "/".join("abcdefgh"),
-    "a" * 40,
+    "a", "a.c", "A.C", ".a.c", "b.txt", "src", "src/a.c", "src/A.c", "Src/a.c", "src/b/c.TXT", "src/.y/a.c", ".x/a.c",
+    "x/y/z/a.c", "x/y", "x", "ü", "Ü.c", "日本/語.c", "a b", "a\\b", 'a"b', "[a]", "a*b", "-", "]", "!", "b.", "..a",
+    "...", "a..c", ".php", "php", "a.PHP", "x\ty", "x\x01y", "x\x7fy", "😀.txt", "é/É", "a-b_c", "foo/bar", "foo/bar/x",
+    "foo/bar/y/x", "foo/barx/z", "k=1", "x\ry", "Z", "z", "7", "_", "~", "[", "^", "\t", "\x7f", "\x0b", "\x1f", " ",
+    ":]", "[]", "x:", "a]", "g", "F", "G", "x/.c", "x/[a]/7", "x/y/.z/a.c", "*", "?", "@", "`", "{",
+    "/".join("abcdefgh"), "a" * 40,
 ]
 FIELDS = ["name", "exists", "new", "size", "type", "cclock", "oclock", "mtime", "mtime_ms"]
 LETTERS = "fffffffddddlbcpsD?"
@@ -47,31 +42,20 @@ WRONG_ROOTS = [
 OTHER_ROOTS = ['"/q"', '"/"', '"r"', '""', '"//r"', '"/r/x"', '"/R"', '"/r "']
 
 BAD_LINES = [
-    b"[", b"7", b"{}", b"[]", b"[7]", b"[[]]", b'["frob"]', b'["frob",1.5]', b'["Query","/r",{}]', b'[""]',
-    b'"query"', b"null",
-    b'["query"]', b'["query","/r"]', b'["query","/r",[]]', b'["query",7,{}]', b'["query","/r",{},{}]',
-    b'["query","/q",[]]',
-    b'["query","/r",null]', b'["clock"]', b'["clock","/r",null]', b'["clock","/r",{},{}]', b'["clock",7]',
-    b'["clock","/q"]',
-    b'["clock","/r",[]]', b'["clock","/q",7]', b"", b" ", b"\xef\xbb\xbf[]", b'["query","/r",{}',
-    b'["query","/r",{},]', b"[1,]",
-    b'["query","/r",{}] x', b'["query","/r",{}][]', b'["\xff"]', b'["\xc0\x80"]', b'["\xed\xa0\x80"]',
-    b'["\\ud800"]',
-    b'["\\udc00\\ud800"]', b'["\\udc00"]', b'["\\uDFFFa"]', b'["\\ud83d\\ude00"]', b'["\\ud800\\u0041"]',
-    b'["\\u00g0"]', b'["\\x41"]', b'["a\tb"]', b'["a\x00b"]',
-    b'["\x7f"]', b"['a']",
-    b"[01]", b"[+1]", b"[1.]", b"[.5]", b"[1e]", b"[-]", b"[1e400]", b"[-1e400]", b"[0e999999999999]",
-    b"[1e-999999999999]",
-    b"[1.7976931348623157e308]", b"[1.7976931348623159e308]", b"[" + b"9" * 400 + b"]", b"[NaN]",
-    b"[Infinity]", b"[nul]",
-    b"[True]", b'{"a":1,}', b'{"a" 1}', b"{1:2}", b'{"a":1 "b":2}', b"[" * 127 + b"]" * 127,
-    b"[" * 128 + b"]" * 128,
-    b'["x",' + b"[" * 126 + b"]" * 127, b'["x",' + b"[" * 127 + b"]" * 128,
-    b'["x",' + b'{"a":' * 126 + b"1" + b"}" * 126 + b"]",
-    b'["x",' + b'{"a":' * 127 + b"1" + b"}" * 127 + b"]", b"\x00", b"\x00[]", b" \x00", b"[]\x00",
-    b'["clock"\x0c,"/r"]',
-    b'\t["clock" ,\r"/r"] ', b"[\"clock\",\"/r\"]//", b'["clock","\\/r"]', b"[1 2]", b'["a" "b"]', b"]", b",",
-    b'["\\', b'["\\u12',
+    b"[", b"7", b"{}", b"[]", b"[7]", b"[[]]", b'["frob"]', b'["frob",1.5]', b'["Query","/r",{}]', b'[""]', b'"query"',
+    b"null", b'["query"]', b'["query","/r"]', b'["query","/r",[]]', b'["query",7,{}]', b'["query","/r",{},{}]',
+    b'["query","/q",[]]', b'["query","/r",null]', b'["clock"]', b'["clock","/r",null]', b'["clock","/r",{},{}]',
+    b'["clock",7]', b'["clock","/q"]', b'["clock","/r",[]]', b'["clock","/q",7]', b"", b" ", b"\xef\xbb\xbf[]",
+    b'["query","/r",{}', b'["query","/r",{},]', b"[1,]", b'["query","/r",{}] x', b'["query","/r",{}][]', b'["\xff"]',
+    b'["\xc0\x80"]', b'["\xed\xa0\x80"]', b'["\\ud800"]', b'["\\udc00\\ud800"]', b'["\\udc00"]', b'["\\uDFFFa"]',
+    b'["\\ud83d\\ude00"]', b'["\\ud800\\u0041"]', b'["\\u00g0"]', b'["\\x41"]', b'["a\tb"]', b'["a\x00b"]', b'["\x7f"]',
+    b"['a']", b"[01]", b"[+1]", b"[1.]", b"[.5]", b"[1e]", b"[-]", b"[1e400]", b"[-1e400]", b"[0e999999999999]",
+    b"[1e-999999999999]", b"[1.7976931348623157e308]", b"[1.7976931348623159e308]", b"[" + b"9" * 400 + b"]", b"[NaN]",
+    b"[Infinity]", b"[nul]", b"[True]", b'{"a":1,}', b'{"a" 1}', b"{1:2}", b'{"a":1 "b":2}', b"[" * 127 + b"]" * 127,
+    b"[" * 128 + b"]" * 128, b'["x",' + b"[" * 126 + b"]" * 127, b'["x",' + b"[" * 127 + b"]" * 128,
+    b'["x",' + b'{"a":' * 126 + b"1" + b"}" * 126 + b"]", b'["x",' + b'{"a":' * 127 + b"1" + b"}" * 127 + b"]", b"\x00",
+    b"\x00[]", b" \x00", b"[]\x00", b'["clock"\x0c,"/r"]', b'\t["clock" ,\r"/r"] ', b"[\"clock\",\"/r\"]//",
+    b'["clock","\\/r"]', b"[1 2]", b'["a" "b"]', b"]", b",", b'["\\', b'["\\u12',
 ]
 LONG_LINE_EACH = 250
 LONG_LINES = [
@@ -79,27 +63,22 @@ LONG_LINES = [
     b'ask 1 ["frob","' + b"x" * 1_048_565 + b'"]', b"ask 1 " + b" " * 1_048_634, b"ask 1 " + b" " * 1_048_635,
 ]
 BAD_SCRIPT_LINES = [
-    b"", b"#", b"end", b"pass", b"pass x", b"pass 01", b"pass +1", b"pass -0", b"pass 1 ", b" pass 1",
-    b"Pass 1", b"pass  1",
-    b"pass 9223372036854775808", b"ask", b"ask 1", b"ask 0 []", b"ask 33 []", b"ask x []", b"ask  1 []",
-    b"ask 01 []",
-    b"ask -1 []", b"end ", b"f 1 1 a", b"tick 1", b"\x00", b"\xff", b"ask 1\t[]", b"pass 1\r", b"idle", b"idle 0",
-    b"idle 33", b"idle 1 ", b"idle 01", b"idle x", b"leave 0", b"leave",
-    b"fire", b"fire ", b"fire no", b"fire ok ", b"Fire ok", b"done",
+    b"", b"#", b"end", b"pass", b"pass x", b"pass 01", b"pass +1", b"pass -0", b"pass 1 ", b" pass 1", b"Pass 1",
+    b"pass  1", b"pass 9223372036854775808", b"ask", b"ask 1", b"ask 0 []", b"ask 33 []", b"ask x []", b"ask  1 []",
+    b"ask 01 []", b"ask -1 []", b"end ", b"f 1 1 a", b"tick 1", b"\x00", b"\xff", b"ask 1\t[]", b"pass 1\r", b"idle",
+    b"idle 0", b"idle 33", b"idle 1 ", b"idle 01", b"idle x", b"leave 0", b"leave", b"fire", b"fire ", b"fire no",
+    b"fire ok ", b"Fire ok", b"done",
 ]
 BAD_ROWS = [
-    b"f", b"f 1", b"f 1 1", b"F 1 1 a", b"ff 1 1 a", b"f 01 1 a", b"f 1 -0 a", b"f +1 1 a", b"f 1.5 1 a",
-    b"f  1 1 a", b"",
-    b"ask 1 []", b"idle 1", b"fire ok", b"done t", b"pass 5", b"f 9223372036854775808 1 a", b"f 1 -9223372036854775809 a", b"x 1 1 a",
-    b"f 1 x a", b"end ",
+    b"f", b"f 1", b"f 1 1", b"F 1 1 a", b"ff 1 1 a", b"f 01 1 a", b"f 1 -0 a", b"f +1 1 a", b"f 1.5 1 a", b"f  1 1 a",
+    b"", b"ask 1 []", b"idle 1", b"fire ok", b"done t", b"pass 5", b"f 9223372036854775808 1 a",
+    b"f 1 -9223372036854775809 a", b"x 1 1 a", b"f 1 x a", b"end ",
 ]
 FAULTY_ROWS = [
-    b"f 1 1 ", b"f 1 1 /a", b"f 1 1 a/", b"f 1 1 a//b", b"f 1 1 .", b"f 1 1 ..", b"f 1 1 a/./b",
-    b"f 1 1 a/../b", b"f 1 1 \xff",
-    b"f 1 1 a\x00b", b"f 1 1 " + b"a" * 4097, b"f -1 1 new", b"f 4611686018427387905 1 new",
-    b"f 1 4611686018427387905 new",
-    b"f 1 -4611686018427387905 new", b"f 9223372036854775807 1 new", b"f 1 -9223372036854775808 new",
-    b"f 1 1 \xed\xa0\x80",
+    b"f 1 1 ", b"f 1 1 /a", b"f 1 1 a/", b"f 1 1 a//b", b"f 1 1 .", b"f 1 1 ..", b"f 1 1 a/./b", b"f 1 1 a/../b",
+    b"f 1 1 \xff", b"f 1 1 a\x00b", b"f 1 1 " + b"a" * 4097, b"f -1 1 new", b"f 4611686018427387905 1 new",
+    b"f 1 4611686018427387905 new", b"f 1 -4611686018427387905 new", b"f 9223372036854775807 1 new",
+    b"f 1 -9223372036854775808 new", b"f 1 1 \xed\xa0\x80",
 ]
 
 CLASS_SCRIPT_EACH = 500
@@ -309,7 +288,8 @@ def root_command(draws: Draws, root: str) -> str:
     ended = draws.pick(OTHER_ROOTS + WRONG_ROOTS)
     words = draws.pick([
         ['"watch"', watched], ['"watch"', watched], ['"watch-project"', watched], ['"watch-del"', ended],
-        ['"watch-list"'], ['"watch-list"', root], ['"watch"'], ['"watch"', root, "{}"], ['"watch-del"'], ['"watch-del"', root, root],
+        ['"watch-list"'], ['"watch-list"', root], ['"watch"'], ['"watch"', root, "{}"], ['"watch-del"'],
+        ['"watch-del"', root, root],
     ])
     return array(draws, words)
 

@@ -11,7 +11,6 @@ from pathlib import Path
 from typing import Dict, Iterator, List, NamedTuple, Optional, Tuple, Union
 
 sys.path.insert(0, str(Path(__file__).resolve().parents[2] / "clients"))
-sys.dont_write_bytecode = True
 
 from commands import answer, text_of
 from followers import Session, Told
@@ -116,8 +115,8 @@ def replay(script: bytes) -> Tuple[bytes, bytes, int]:
 
 
 def turns(script: bytes) -> Iterator[Played]:
-    """Plays the script, and gives each client's line with its reply, each idle moment with its lists, and each round with
-    its starts."""
+    """Plays the script, and gives each client's line with its reply, each idle moment with its lists, and each round
+    with its starts."""
     server = Server()
     sessions: Dict[int, Session] = {}
     begun = ListingBegins(0, False)
@@ -132,13 +131,8 @@ def turns(script: bytes) -> Iterator[Played]:
         elif isinstance(said, Row):
             rows.append(said)
         elif isinstance(said, ListingEnds):
-            try:
-                server.tree = pass_of(begun.second, rows)
-            except ListingFault as fault:
-                raise Malformed(number, str(fault)) from None
+            end_listing(number, server, begun, rows)
             rows = None
-            if begun.crawls:
-                server.crawl()
         elif isinstance(said, Ask):
             answered = answer(said.line, sessions.setdefault(said.client, Session()), server)
             told = [] if answered.told is None else [answered.told]
@@ -156,6 +150,15 @@ def turns(script: bytes) -> Iterator[Played]:
             yield fire(said.succeeds, server)
         elif isinstance(said, Done):
             yield EndOfRun(end_run(said.trigger, server))
+
+
+def end_listing(number: int, server: Server, begun: ListingBegins, rows: List[Row]) -> None:
+    try:
+        server.tree = pass_of(begun.second, rows)
+    except ListingFault as fault:
+        raise Malformed(number, str(fault)) from None
+    if begun.crawls:
+        server.crawl()
 
 
 def lines_of(script: bytes) -> Iterator[Tuple[int, bytes]]:

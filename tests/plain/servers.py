@@ -3,7 +3,7 @@
 from typing import Any, Dict, List, Optional
 
 from programs import Program
-from views import History, Pass, View
+from views import History, Pass
 from wqprogram.clocks import FIRST_ROOT, FRESH, Bound
 from wqprogram.errors import NO_SUCH_PROGRAM, NOT_WATCHED, SHELF_FULL, UNREADABLE_ROOT, Refused
 from wqprogram.limits import MAX_CURSORS, MAX_PROGRAMS

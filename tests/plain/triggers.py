@@ -90,7 +90,8 @@ def is_command(value: Any) -> bool:
 def is_input(value: Any) -> bool:
     if isinstance(value, str):
         return value in INPUTS
-    return isinstance(value, list) and bool(value) and all(isinstance(field, str) and field in FIELDS for field in value)
+    return isinstance(value,
+                      list) and bool(value) and all(isinstance(field, str) and field in FIELDS for field in value)
 
 
 def add_trigger(trigger: Trigger, server: Server) -> bool:
@@ -159,7 +160,8 @@ def start_line(trigger: Trigger, files: List[Record], tick: int) -> Dict[str, An
     if is_cut(trigger, files, appended, given):
         env["WATCHMAN_FILES_OVERFLOW"] = "true"
     return {
-        "args": trigger.asked["command"] + appended, "env": env, "name": trigger.name, "stdin": input_of(trigger, given),
+        "args": trigger.asked["command"] + appended, "env": env, "name": trigger.name,
+        "stdin": input_of(trigger, given),
     }
 
 

@@ -34,8 +34,8 @@ class Element(NamedTuple):
 
 
 class Page(NamedTuple):
-    """The elements of a page, the scripts with names, for the words of an error its text with the number, and the directory
-    in which the commands that it shows are run."""
+    """The elements of a page, the scripts with names, for the words of an error its text with the number, and the
+    directory in which the commands that it shows are run."""
 
     elements: List[Element]
     scripts: Dict[str, List[str]]

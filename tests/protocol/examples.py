@@ -11,8 +11,8 @@ from wqprogram.instructions import BY_NAME
 
 
 class Example(NamedTuple):
-    """A script, what it has to write in words, the test of what it wrote, and what it has to write on standard error. Or a
-    program file that is checked, or what was written by something that was run already."""
+    """A script, what it has to write in words, the test of what it wrote, and what it has to write on standard error.
+    Or a program file that is checked, or what was written by something that was run already."""
 
     name: str
     script: str

@@ -31,8 +31,8 @@ def commands_of(lines: List[str]) -> Iterator[Command]:
 
 
 class Room:
-    """A directory for the commands of a page. In it `wqasm` and `wqd` are commands, `examples` is that of the repository,
-    and `WQD_SOCK` names the socket of a server. It is made when the page has its first command or file."""
+    """A directory for the commands of a page. In it `wqasm` and `wqd` are commands, `examples` is that of the
+    repository, and `WQD_SOCK` names the socket of a server. It is made when the page has its first command or file."""
 
     def __init__(self) -> None:
         self.stack = ExitStack()

@@ -26,8 +26,8 @@ INSTRUCTIONS = len(program_of(0).code)
 
 
 class Asked(NamedTuple):
-    """A client asks to `add`, `delete` or `list` programs, or for files by a `query`. A query may name a program, use the
-    cursor, and have the server scan first."""
+    """A client asks to `add`, `delete` or `list` programs, or for files by a `query`. A query may name a program, use
+    the cursor, and have the server scan first."""
 
     kind: str
     name: Optional[str] = None

@@ -5,16 +5,14 @@ import json
 import os
 import signal
 import socket
-import sys
-import time
 import traceback
+import unittest
 from pathlib import Path
 from typing import Callable, Iterator
 
-HAS_TWO = os.getuid() == 0
+of_two_users = unittest.skipUnless(os.getuid() == 0, "only the superuser can be two users")
 # No account has this number on most machines, and none needs it.
 OTHER = 61_002
-PATIENCE = 20.0
 
 
 @contextlib.contextmanager
@@ -79,15 +77,6 @@ def serve(path: str, reply: bytes = json.dumps(FORGED).encode() + b"\n", *rename
             stream.settimeout(1)
             while stream.recv(65_536):
                 stream.sendall(reply)
-
-
-def waits_for(is_so: Callable[[], object]) -> bool:
-    end = time.monotonic() + PATIENCE
-    while not is_so():
-        if time.monotonic() > end:
-            return False
-        time.sleep(0.01)
-    return True
 
 
 def memory_of(process: int) -> int:

@@ -2,7 +2,6 @@
 
 import json
 import os
-import socket
 import stat
 import subprocess
 import sys
@@ -15,9 +14,9 @@ import built
 
 sys.path[:0] = [str(built.TOP / "clients")]
 
+from waiting import PATIENCE, look_until, wait_until
 from wqclient.lines import Ended, Lines
 
-PATIENCE = 60.0
 A_HOUR = 3_600_000
 # A server says this when a client ends it.
 ENDED = b"a client ended the server by shutdown-server\n"
@@ -31,10 +30,6 @@ Row = Tuple[str, str, int, int]
 PLAIN = Path(__file__).resolve().parent / "plain.py"
 # How often the memory of a server is looked at for its least, over half a second.
 LOOKS = 10
-
-
-def same(tally: built.Tally, name: str, found: object, expected: object) -> None:
-    tally.check(name, found == expected, [f"expected: {expected}", f"found:    {found}"])
 
 
 def query_of_names() -> dict:
@@ -100,12 +95,12 @@ class Client(Lines):
 
     def ask_until(self, name: str, root: str, query: dict, is_right: Callable[[dict], object]) -> dict:
         """Asks until the reply is right, or the patience ends."""
-        end = time.monotonic() + PATIENCE
-        while True:
-            reply = self.ask(name, root, query)
-            if is_right(reply) or time.monotonic() > end:
-                return reply
-            time.sleep(0.01)
+        return look_until(lambda: self.ask(name, root, query), is_right)
+
+    def names_without_a_crawl(self, root: Path, count: int) -> List[str]:
+        """The names in a root, as soon as rounds saw that many, or the patience ends."""
+        query = {"sync_timeout": 0, **query_of_names()}
+        return self.ask_until("query", str(root), query, lambda reply: len(reply["files"]) == count)["files"]
 
     def rest(self) -> bytes:
         """What comes until the server closes the stream."""
@@ -116,9 +111,16 @@ class Client(Lines):
             return ended.rest
 
 
+def client_of(sockname: str, watched: Optional[Path]) -> Client:
+    client = Client(sockname)
+    if watched is not None:
+        client.ask("watch", str(watched))
+    return client
+
+
 class Server:
-    """A server whose socket is in a directory. One that is plain reads no more than any user, though root starts it. With no
-    interval, or no number of workers, the server takes its own. Other words may begin the command."""
+    """A server whose socket is in a directory. One that is plain reads no more than any user, though root starts it.
+    With no interval, or no number of workers, the server takes its own. Other words may begin the command."""
 
     def __init__(
         self, room: Path, interval: Optional[int] = 1000, is_plain: bool = False, through: Sequence[str] = (),
@@ -149,8 +151,9 @@ class Server:
         self.kill()
         self.said.close()
 
-    def client(self) -> Client:
-        return Client(self.sockname)
+    def client(self, watched: Optional[Path] = None) -> Client:
+        """A client, which has the server watch a directory if one is named."""
+        return client_of(self.sockname, watched)
 
     def client_when_free(self) -> Client:
         """A client that has a session: a session that is over may still end."""
@@ -166,13 +169,9 @@ class Server:
         return os.pread(self.said.fileno(), 1_000_000, 0)
 
     def says(self, line: bytes) -> bool:
-        """Whether the server says this on standard error before the patience ends."""
-        end = time.monotonic() + PATIENCE
-        while line not in self.errors():
-            if time.monotonic() > end or self.process.poll() is not None:
-                return line in self.errors()
-            time.sleep(0.01)
-        return True
+        """Whether the server says this on standard error before it ends, or the patience does."""
+        wait_until(lambda: line in self.errors() or self.process.poll() is not None)
+        return line in self.errors()
 
     @staticmethod
     def least(figure: Callable[[], int]) -> int:
@@ -193,12 +192,7 @@ class Server:
 
     def has_memory_below(self, most: int) -> bool:
         """Whether the server comes to have less memory than so many bytes before the patience ends."""
-        end = time.monotonic() + PATIENCE
-        while self.memory() >= most:
-            if time.monotonic() > end:
-                return False
-            time.sleep(0.02)
-        return True
+        return wait_until(lambda: self.memory() < most)
 
     def memory(self) -> int:
         """The memory that the server has, in bytes."""
@@ -213,12 +207,12 @@ class Server:
 
     def has_threads(self, count: int, seconds: float) -> bool:
         """Whether the server comes to have so many threads within so many seconds."""
-        end = time.monotonic() + seconds
-        while self.threads() != count:
-            if time.monotonic() > end:
-                return False
-            time.sleep(0.02)
-        return True
+        return wait_until(lambda: self.threads() == count, seconds)
+
+    def processor_seconds(self) -> float:
+        """The processor time that the server took so far."""
+        words = Path(f"/proc/{self.process.pid}/stat").read_text().rsplit(")", 1)[1].split()
+        return (int(words[11]) + int(words[12])) / os.sysconf("SC_CLK_TCK")
 
     def status(self, name: str) -> int:
         """A number that the system tells of the server's process."""

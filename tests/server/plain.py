@@ -1,5 +1,5 @@
-"""Gives up the powers by which root reads every file and directory, and becomes another program, which reads what the modes
-of files let any user read:
+"""Gives up the powers by which root reads every file and directory, and becomes another program, which reads what the
+modes of files let any user read:
 
     plain.py PROGRAM WORD..
 

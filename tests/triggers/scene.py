@@ -1,26 +1,15 @@
 """A server, a root that it watches, and a directory beside the root into which the commands of triggers write."""
 
 import shlex
-import time
 from pathlib import Path
-from typing import Callable, Dict, List, NamedTuple
+from typing import Dict, List, NamedTuple
 
 from client import Client, Server
+from waiting import wait_until
 
 INTERVAL = 20
-PATIENCE = 60.0
 # In this many seconds there are several rounds.
 QUIET = 0.5
-
-
-def wait_until(is_so: Callable[[], bool], seconds: float = PATIENCE) -> bool:
-    """Whether something comes to be so before the patience ends."""
-    end = time.monotonic() + seconds
-    while not is_so():
-        if time.monotonic() > end:
-            return False
-        time.sleep(0.01)
-    return True
 
 
 class Run(NamedTuple):

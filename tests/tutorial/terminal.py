@@ -13,6 +13,7 @@ from typing import Callable, Dict, Iterator, List, NamedTuple
 
 import built
 from reading import Block, Command, commands_of, is_as_shown
+from waiting import look_until, wait_until
 
 PATIENCE = 60.0
 PAUSE = 0.05
@@ -43,13 +44,10 @@ class Begun:
 
     def next_output(self, expected: List[str]) -> str:
         """What was written since the last look, when it is what is expected, or after a long time."""
-        end = time.monotonic() + PATIENCE
-        while True:
-            text = self.log.read_text(encoding="utf-8")[self.seen:]
-            if is_as_shown(text, expected) or time.monotonic() > end:
-                self.seen += len(text)
-                return text
-            time.sleep(PAUSE)
+        text = look_until(lambda: self.log.read_text(encoding="utf-8")[self.seen:],
+                          lambda text: is_as_shown(text, expected))
+        self.seen += len(text)
+        return text
 
     def interrupt(self) -> int:
         os.killpg(self.process.pid, signal.SIGINT)
@@ -104,12 +102,8 @@ class Terminal:
 
     def waits_for(self, _: str, lines: List[str]) -> Iterator[Done]:
         for command in commands_of(lines):
-            end = time.monotonic() + PATIENCE
-            written = self.do(command.line)
-            while not is_as_shown(written, command.output) and time.monotonic() < end:
-                time.sleep(PAUSE)
-                written = self.do(command.line)
-            yield done(command, written)
+            yield done(command, look_until(lambda command=command: self.do(command.line),
+                                           lambda written, command=command: is_as_shown(written, command.output)))
 
     def begins(self, name: str, lines: List[str]) -> Iterator[Done]:
         command = commands_of(lines)[0]
@@ -120,9 +114,7 @@ class Terminal:
     def wait_for_clients(self) -> None:
         """Waits until each command that goes on is a client of the server."""
         going = sum(begun.process.poll() is None for begun in self.begun.values())
-        end = time.monotonic() + PATIENCE
-        while json.loads(self.do("wq status --json"))["clients"] < going and time.monotonic() < end:
-            time.sleep(PAUSE)
+        wait_until(lambda: json.loads(self.do("wq status --json"))["clients"] >= going)
         time.sleep(BEGINNING)
 
     def then(self, name: str, lines: List[str]) -> Iterator[Done]:

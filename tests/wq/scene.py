@@ -13,7 +13,9 @@ from pathlib import Path
 from typing import Callable, Dict, List, NamedTuple, Optional, Sequence, Tuple
 
 import built
-from client import PATIENCE, Client, same
+from case import Case
+from client import PATIENCE, Client
+from waiting import wait_until
 
 COMMAND = str(built.TOP / "wq")
 # In milliseconds: how soon the server looks again, so that nothing waits for a second.
@@ -53,9 +55,7 @@ class Scene:
 
     def wait_for_end(self) -> None:
         """Waits until the server has taken its socket away, for which it makes a directory beside it."""
-        end = time.monotonic() + MOST_AT_END
-        while time.monotonic() < end and any(map(is_of_socket, os.listdir(self.runtime))):
-            time.sleep(0.01)
+        wait_until(lambda: not any(map(is_of_socket, os.listdir(self.runtime))), MOST_AT_END)
 
     def client(self) -> Client:
         return Client(self.sockname)
@@ -67,11 +67,8 @@ class Scene:
 
     def call(self, words: List[object], enters: bytes = b"", **environment: str) -> built.Ended:
         """A call in the tree, with a standard input."""
-        ended = subprocess.run(
-            [COMMAND, *words], input=enters, cwd=self.tree, stdout=subprocess.PIPE, stderr=subprocess.PIPE,
-            env={**self.environment, **environment}, timeout=PATIENCE,
-        )
-        return built.Ended(ended.stdout, ended.stderr, ended.returncode)
+        return built.call([COMMAND, *words], input=enters, cwd=self.tree, env={**self.environment, **environment},
+                          timeout=PATIENCE)
 
     def wq(self, *words: object, **environment: str) -> built.Ended:
         return self.call(list(words), **environment)
@@ -180,8 +177,8 @@ def called_at_terminal(
     scene: Scene, words: List[str], environment: Optional[Dict[str, str]] = None, keys: bytes = b"", after: str = "",
     more: Sequence[Tuple[str, bytes]] = (),
 ) -> AtTerminal:
-    """A call at a terminal. Keys are pressed when it has written a text, and more of them when it has written others after
-    that."""
+    """A call at a terminal. Keys are pressed when it has written a text, and more of them when it has written others
+    after that."""
     presses = [(after, keys), *more] if keys else []
     looked = 0
     number, terminal = pty.fork()
@@ -224,6 +221,6 @@ def said(*lines: str) -> bytes:
     return "".join(f"wq: {line}\n" for line in lines).encode()
 
 
-def wrong(tally: built.Tally, scene: Scene, words: List[object], *lines: str, status: int = 2) -> None:
+def wrong(case: Case, scene: Scene, words: List[object], *lines: str, status: int = 2) -> None:
     """A call that is refused with these lines."""
-    same(tally, f"wq {words}", scene.call(words), built.Ended(b"", said(*lines), status))
+    case.same(f"wq {words}", scene.call(words), built.Ended(b"", said(*lines), status))

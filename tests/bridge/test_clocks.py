@@ -1,0 +1,54 @@
+"""Clock specs through the bridge: seconds, whose boundaries are those of Watchman, objects, and a cursor without a
+name."""
+
+import os
+from pathlib import Path
+
+from bridged import Bridge, make_files
+from case import Case
+from test_lists import names_of
+
+SECOND = 1_700_000_000
+FILES = {"before": SECOND - 1, "at": SECOND, "after": SECOND + 1}
+
+
+class Clocks(Case):
+    def test_clocks(self) -> None:
+        root = self.room / "root"
+        make_files(root, list(FILES))
+        for name, second in FILES.items():
+            os.utime(root / name, (second, second))
+        with Bridge(self.room, 3_600_000) as bridge, bridge.client(root) as client:
+            for term, expected in (
+                (["since", SECOND, "mtime"], ["after", "at"]),
+                (["since", SECOND + 1, "mtime"], ["after"]),
+                (["since", SECOND + 2, "mtime"], []),
+                (["not", ["since", SECOND, "mtime"]], ["before"]),
+                (["since", 0, "mtime"], sorted(FILES)),
+                (["since", -5], sorted(FILES)),
+                (["since", {}], sorted(FILES)),
+            ):
+                self.same(f"{term}", names_of(client, root, {"expression": term}), expected)
+            clock = client.ask("clock", str(root))["clock"]
+            make_files(root, ["new"])
+            changed = ["allof", ["type", "f"], ["since", {"clock": clock}]]
+            for query, expected in (
+                ({"since": {"clock": clock}}, ["new"]),
+                ({"since": {}}, sorted([*FILES, "new"])),
+                ({"since": -5}, sorted([*FILES, "new"])),
+                ({"since": "n:"}, sorted([*FILES, "new"])),
+                ({"since": "n:"}, []),
+                ({"expression": changed}, ["new"]),
+            ):
+                given = {"expression": ["type", "f"], "sync_timeout": 1000, **query}
+                self.same(f"{query}".replace(clock, "CLOCK"), names_of(client, root, given), expected)
+            self.check_the_second_of_a_change(root, client)
+
+    def check_the_second_of_a_change(self, root: Path, client) -> None:
+        """A file that came in a second is told by the term of that second, and not by that of the next one."""
+        rows = client.ask("since", str(root), "c:0:0", "new")["files"]
+        began = rows[0]["mtime"]
+        for field in ("oclock", "cclock"):
+            fits = [names_of(client, root, {"expression": ["allof", ["name", "new"], ["since", second, field]]})
+                    for second in (began, began + 3600)]
+            self.same(f"the second of {field}", fits, [["new"], []])

@@ -1,0 +1,55 @@
+"""What the tests of all parts begin with."""
+
+import shutil
+import tempfile
+import traceback
+import unittest
+from pathlib import Path
+from typing import Any, Callable, Iterable
+
+# Traces of failures leave out the lines of this module.
+__unittest = True
+
+
+def place() -> str:
+    """The line of the test that calls the function here which calls this one."""
+    frame = traceback.extract_stack(limit=3)[0]
+    return f"{frame.filename}, line {frame.lineno}"
+
+
+def needs(*commands: str) -> Callable[[Any], Any]:
+    """Leaves out a test, or a class of tests, if one of these commands is not installed."""
+    missing = [command for command in commands if shutil.which(command) is None]
+    return unittest.skipIf(missing, f"not installed: {', '.join(missing)}")
+
+
+class Case(unittest.TestCase):
+    """Tests that go on after a check that failed. Each has a directory of its own."""
+
+    def setUp(self) -> None:
+        directory = tempfile.TemporaryDirectory()
+        self.addCleanup(directory.cleanup)
+        self.room = Path(directory.name).resolve()
+
+    def directory(self, name: str) -> Path:
+        """Makes a directory in the room."""
+        made = self.room / name
+        made.mkdir()
+        return made
+
+    def check(self, name: str, is_right: object, details: Iterable[str] = ()) -> None:
+        with self.subTest(name):
+            if not is_right:
+                self.fail("\n".join([place(), *details]))
+
+    def same(self, name: str, found: object, expected: object) -> None:
+        with self.subTest(name):
+            if found != expected:
+                self.assertEqual(found, expected, place())
+
+    def check_installed(self, command: str) -> None:
+        self.check(f"{command} is there", shutil.which(command))
+
+
+class Beside(Case):
+    """Tests that wait most of their time. Each runs in a process of its own, beside others."""

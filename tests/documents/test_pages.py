@@ -1,0 +1,119 @@
+"""Looks at the pages of the project as they are: each link leads to a file and a heading, README fits three screens and
+has the numbers of docs/figures.json, limits are those of the definitions, figures are those of docs/SPEED.md, recipes
+name rooms that are there, and no paragraph and no row of a table is on two pages."""
+
+import json
+import re
+import subprocess
+from collections import defaultdict
+from pathlib import Path
+from typing import Dict, Iterator, List, Set, Tuple
+
+import built
+from case import Case
+from limits import missing_limits
+from measures import wrong_measures
+from recipes import wrong_rooms
+from ways import wrong_ways
+from words import GENERATED, wordy
+
+PAGES = [
+    *(built.TOP / name for name in ("README.md", "CONTRIBUTING.md", "CHANGELOG.md")),
+    *sorted((built.TOP / "docs").rglob("*.md")),
+    *sorted((built.TOP / "examples").glob("*.md")),
+    *sorted((built.TOP / "crates").glob("*/*.md")),
+    *(built.TOP / name for name in ("tests/README.md", "bench/LOG.md")),
+]
+LINK = re.compile(r"\]\(([^)\s]+)\)")
+# README: how many lines it may have, and how many characters a line that is no row of a table.
+MOST_LINES = 150
+MOST_COLUMNS = 120
+# Parts of fewer words may be on two pages, as heads of tables.
+FEWEST_WORDS = 12
+# So far may the numbers of lines in docs/figures.json be from those of the tree.
+FAR = 0.1
+
+
+class Pages(Case):
+    def test_links(self) -> None:
+        headings = {page: headings_of(page) for page in PAGES}
+        for page in PAGES:
+            for number, target in links_of(page):
+                where = f"{name_of(page)}, line {number}"
+                self.check(f"{where}: {target}", leads_somewhere(page, target, headings))
+
+    def test_limits_are_those_of_the_definitions(self) -> None:
+        self.assertEqual(list(missing_limits(built.TOP)), [])
+
+    def test_figures_are_those_of_speed(self) -> None:
+        self.assertEqual(list(wrong_measures(built.TOP)), [])
+
+    def test_recipes_name_rooms_that_are_there(self) -> None:
+        self.assertEqual(list(wrong_rooms(built.TOP)), [])
+
+    def test_the_way_of_a_query_is_by_functions_that_are_there(self) -> None:
+        self.assertEqual(list(wrong_ways(built.TOP)), [])
+
+    def test_pages_keep_to_their_words(self) -> None:
+        self.assertEqual(list(wordy(built.TOP)), [])
+
+    def test_readme(self) -> None:
+        lines = PAGES[0].read_text(encoding="utf-8").rstrip("\n").split("\n")
+        self.check(f"README.md has at most {MOST_LINES} lines", len(lines) <= MOST_LINES, [f"it has {len(lines)}"])
+        long = [line for line in lines if len(line) > MOST_COLUMNS and not line.startswith("|")]
+        self.check(f"README.md has lines of at most {MOST_COLUMNS} characters", not long, long)
+
+    def test_figures(self) -> None:
+        """README has the figures of the file, and the file counts about as many lines as there are."""
+        said = subprocess.run([str(built.TOP / "docs" / "figures")], stdout=subprocess.PIPE, stderr=subprocess.STDOUT)
+        self.check("README has the numbers of docs/figures.json", said.returncode == 0,
+                   said.stdout.decode().splitlines())
+        kept = json.loads((built.TOP / "docs" / "figures.json").read_text(encoding="utf-8"))["counts"]
+        counted = json.loads(subprocess.check_output([str(built.TOP / "docs" / "counts"), "--sums"]))
+        far = [f"{name}: {kept.get(name, 0)}, and there are {count}" for name, count in counted.items()
+               if abs(kept.get(name, 0) - count) > FAR * count]
+        self.check("docs/figures.json has the lines of the tree: docs/counts --write", not far, far)
+
+    def test_parts(self) -> None:
+        """No paragraph, item or row is there twice."""
+        places: Dict[str, List[str]] = defaultdict(list)
+        for page in PAGES:
+            for number, line in prose_of(page):
+                if line == GENERATED:
+                    break
+                if len(re.findall(r"[A-Za-z]+", line)) >= FEWEST_WORDS and not line.startswith("<!--"):
+                    places[line.strip()].append(f"{name_of(page)}, line {number}")
+        twice = [f"{' and '.join(found)}: {line[:80]}" for line, found in places.items() if len(found) > 1]
+        self.check("no paragraph is there twice", not twice, twice)
+
+
+def name_of(page: Path) -> str:
+    return str(page.relative_to(built.TOP))
+
+
+def prose_of(page: Path) -> Iterator[Tuple[int, str]]:
+    """The lines of a page with their numbers, without blocks of code and without code within a line."""
+    is_fenced = False
+    for number, line in enumerate(page.read_text(encoding="utf-8").split("\n"), 1):
+        if line.startswith("```"):
+            is_fenced = not is_fenced
+        elif not is_fenced and not line.startswith("    "):
+            yield number, re.sub(r"`[^`]*`", "`code`", line)
+
+
+def links_of(page: Path) -> Iterator[Tuple[int, str]]:
+    for number, line in prose_of(page):
+        yield from ((number, target) for target in LINK.findall(line) if "://" not in target)
+
+
+def headings_of(page: Path) -> Set[str]:
+    """The headings of a page, as links name them."""
+    lines = page.read_text(encoding="utf-8").split("\n")
+    words = [line.lstrip("#").strip() for line in lines if re.match(r"#+ ", line)]
+    return {re.sub(r"[^\w\- ]", "", word.lower()).replace(" ", "-") for word in words}
+
+
+def leads_somewhere(page: Path, target: str, headings: Dict[Path, Set[str]]) -> bool:
+    path, _, heading = target.partition("#")
+    other = (page.parent / path).resolve() if path else page
+    return other.exists() and (not heading or heading in headings.get(other, set()))

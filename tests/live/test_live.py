@@ -1,0 +1,12 @@
+"""Tests of the shared view."""
+
+from pathlib import Path
+
+import unproved
+
+
+class Live(unproved.Unproved):
+    directory = Path(__file__).resolve().parent
+
+    def test_all(self) -> None:
+        self.check_all()

@@ -1,0 +1,81 @@
+"""A root with as many files as a view takes, and one more."""
+
+import os
+import subprocess
+import tempfile
+from pathlib import Path
+
+from case import Case
+from client import A_HOUR, VERSION, Server, query_of_names
+from test_yielding import fill
+
+MOST_FILES = 1_000_000
+DIRECTORIES = 20
+# A directory in memory makes a million names in a fourth of the time that a disk takes.
+MEMORY = Path("/dev/shm")
+
+
+class Large(Case):
+    def test_a_million(self) -> None:
+        """A root of 1,000,000 rows is watched. With one more it cannot be crawled, and its view stays."""
+        with in_memory(self.room) as shelf:
+            root = Path(shelf) / "tree"
+            try:
+                make_names(root, DIRECTORIES, MOST_FILES)
+                self.check_most_files(self.room, root)
+            finally:
+                subprocess.run(["rm", "-rf", str(root)], check=True)
+
+    def test_half_of_the_files(self) -> None:
+        """Every second file of a large root changes, and then every third goes: more places than a listing keeps
+        apart."""
+        with in_memory(self.room) as shelf, Server(self.room, interval=A_HOUR) as server, server.client() as client:
+            root = Path(shelf) / "half"
+            fill(root)
+            client.ask("watch", str(root))
+            for what, step, act in (("change", 2, lambda path: path.write_text("changed")), ("go", 3, Path.unlink)):
+                clock = client.ask("clock", str(root))["clock"]
+                paths = [path for directory in root.iterdir() for path in sorted(directory.iterdir())[::step]]
+                for path in paths:
+                    act(path)
+                query = {**query_of_names(), "since": clock, "expression": ["not", ["type", "d"]]}
+                found = client.ask("query", str(root), query)["files"]
+                self.same(f"many files that {what}", sorted(found),
+                          sorted(str(path.relative_to(root)) for path in paths))
+
+    def check_most_files(self, room: Path, root: Path) -> None:
+        named = {"path": [{"path": "", "depth": 0}], **query_of_names()}
+        directories = [f"directory{number:02}" for number in range(DIRECTORIES)]
+        too_many = {"error": "E12: too many files", **VERSION}
+        with Server(room, interval=A_HOUR) as server, server.client(root) as client:
+            reply = client.ask("query", str(root), {"sync_timeout": 0, **named})
+            self.same("a root of 1,000,000 files", (reply.get("files"), reply.get("clock")), (directories, "c:7:9:1:1"))
+            (root / "more").touch()
+            self.same("a root of one more", client.ask("query", str(root), named), too_many)
+            again = client.ask("query", str(root), {"sync_timeout": 0, **named})
+            self.same("the view of a root of one more", again, reply)
+            client.ask("watch-del", str(root))
+            self.same("a watch of too many files", client.ask("watch", str(root)), too_many)
+
+
+def in_memory(room: Path) -> "tempfile.TemporaryDirectory[str]":
+    """A directory in memory if that has room, and else below this one."""
+    return tempfile.TemporaryDirectory(dir=MEMORY if has_room(MEMORY) else room)
+
+
+def has_room(directory: Path) -> bool:
+    """Whether names can be made in a directory, and so many that a fifth is left over. A link in memory takes an
+    inode."""
+    return os.access(directory, os.W_OK) and os.statvfs(directory).f_favail > MOST_FILES * 6 // 5
+
+
+def make_names(root: Path, directories: int, rows: int) -> None:
+    """Directories with as many names each, all of which are links to one link: a row each, and no file."""
+    for number in range(directories):
+        directory = root / f"directory{number:02}"
+        directory.mkdir(parents=True)
+        opened = os.open(directory, os.O_RDONLY)
+        os.symlink("nothing", "0", dir_fd=opened)
+        for name in range(1, rows // directories - 1):
+            os.link("0", str(name), src_dir_fd=opened, dst_dir_fd=opened, follow_symlinks=False)
+        os.close(opened)

@@ -1,0 +1,25 @@
+"""Waiting for what comes to be so."""
+
+import os
+import time
+from typing import Callable, TypeVar
+
+# What should come is waited for so many seconds.
+PATIENCE = float(os.environ.get("PATIENCE", "60"))
+PAUSE = 0.01
+Seen = TypeVar("Seen")
+
+
+def look_until(look: Callable[[], Seen], is_right: Callable[[Seen], object], seconds: float = PATIENCE) -> Seen:
+    """What is seen when it is right, or else when the patience ends."""
+    end = time.monotonic() + seconds
+    while True:
+        seen = look()
+        if is_right(seen) or time.monotonic() > end:
+            return seen
+        time.sleep(PAUSE)
+
+
+def wait_until(is_so: Callable[[], object], seconds: float = PATIENCE) -> bool:
+    """Whether something comes to be so before the patience ends."""
+    return bool(look_until(is_so, bool, seconds))

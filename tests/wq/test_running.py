@@ -1,0 +1,191 @@
+"""`wq run`: one run at a time, bursts, names, restarts, and how it ends."""
+
+import json
+import os
+import signal
+import time
+from pathlib import Path
+from typing import Callable, List
+
+import built
+from case import Beside
+from scene import Going, Scene, following, said, wrong
+from waiting import wait_until
+
+# Appends a line at each run. A file `hold` keeps the run going until it is gone.
+SCRIPT = 'echo run >> "$LOG"; echo "$@" >> "$LOG.names"; while [ -e "$LOG.hold" ]; do sleep 0.01; done'
+
+
+class Log:
+    """The lines that the runs of a command wrote."""
+
+    def __init__(self, scene: Scene) -> None:
+        self.path = scene.room / "log"
+        self.hold = scene.room / "log.hold"
+        scene.environment["LOG"] = str(self.path)
+
+    def runs(self) -> int:
+        return len(self.path.read_text().splitlines()) if self.path.exists() else 0
+
+    def names(self) -> List[str]:
+        path = Path(f"{self.path}.names")
+        return path.read_text().splitlines() if path.exists() else []
+
+    def clear(self) -> None:
+        for path in (self.path, Path(f"{self.path}.names")):
+            if path.exists():
+                path.unlink()
+
+
+class Running(Beside):
+    def test_run(self) -> None:
+        with Scene(self.room) as scene:
+            log = Log(scene)
+            self.check_turns_of_runs(scene, log)
+            self.check_bursts(scene, log)
+            self.check_names_of_runs(scene, log)
+            self.check_restart_of_runs(scene, log)
+
+    def check_turns_of_runs(self, scene: Scene, log: Log) -> None:
+        """It runs now, and after a change; what changes while it runs is one more run."""
+        with scene.begin("run", ".", "*.c", *command()) as going:
+            self.check("a run at once", going.waits_for(has_runs(log, 1)))
+            self.check("how it ended is said", going.says("wq: sh ended with status 0\n"))
+            log.hold.touch()
+            change_until(scene, going, log, 2)
+            scene.write("src/a.c", "while it runs")
+            tick = scene.changes()
+            scene.write("src/b b.c", "once more")
+            self.check("both changes are seen", going.waits_for(lambda _: scene.changes() > tick))
+            time.sleep(0.2)
+            self.same("one run at a time", log.runs(), 2)
+            log.hold.unlink()
+            self.check("one more run", going.waits_for(has_runs(log, 3)))
+            self.check("three ends", going.says("ended with status 0", 3))
+            scene.write("Makefile", "does not fit the glob")
+            time.sleep(0.3)
+            self.same("and no further one", log.runs(), 3)
+            self.same("Ctrl-C of run", going.ends(signal.SIGINT), 130)
+        log.clear()
+
+    def check_bursts(self, scene: Scene, log: Log) -> None:
+        with scene.begin("run", "--quiet", "900", *command()) as going:
+            self.check("a run before the burst", going.waits_for(has_runs(log, 1)))
+            time.sleep(0.2)
+            for number in range(20):
+                scene.write(f"burst/{number}.c")
+                time.sleep(0.03)
+            self.check("a run after the burst", going.waits_for(has_runs(log, 2)))
+            time.sleep(1.2)
+            self.same("a burst is one run", log.runs(), 2)
+            self.same("SIGTERM of run", going.ends(signal.SIGTERM), 143)
+        log.clear()
+
+    def check_names_of_runs(self, scene: Scene, log: Log) -> None:
+        with scene.begin("run", ".", "*.h", *command("{}")) as going:
+            self.check("the names of the first run", going.waits_for(lambda _: log.names() == ["./src/deep/c.h"]))
+            scene.write("src/x y.h")
+            self.check("the names that changed", going.waits_for(lambda _: log.names()[1:2] == ["./src/x y.h"]))
+            (scene.tree / "src/x y.h").unlink()
+            scene.write("src/-z.h")
+            self.check("no name that is gone", going.waits_for(lambda _: log.names()[2:3] == ["./src/-z.h"]))
+        log.clear()
+        with scene.begin("run", "src", "*.h", "--stdin", "--once", "--", "cat") as going:
+            self.same("names on standard input", (going.ends(), going.output), (0, b"./src/-z.h\n./src/deep/c.h\n"))
+        with scene.begin("run", "src", "*.h", "--stdin", "-0", "--once", "--", "cat") as going:
+            self.same("with bytes 0", (going.ends(), going.output), (0, b"./src/-z.h\0./src/deep/c.h\0"))
+        with scene.begin("run", scene.tree / "src", "?z.h", "--once", "--", "echo", "{}") as going:
+            self.same("a directory by its whole path", (going.ends(), going.output),
+                      (0, f"{scene.tree}/src/-z.h\n".encode()))
+        with scene.begin("run", "?z.h", "src/deep", "src", "--once", "--", "echo", "{}") as going:
+            self.same("two directories", (going.ends(), going.output), (0, b"./src/-z.h\n"))
+        wrong(self, scene, ["run", "*.nothing", "--once", "--", "echo", "{}"], "no file matches", status=1)
+        with scene.begin("run", "src/deep", "--postpone", "--once", "--", "echo", "{}") as going:
+            turns = iter(range(10_000))
+            going.waits_for(lambda one: one.output or scene.write("src/deep/c.h", "x" * (next(turns) % 50 + 1)))
+            self.same("run --postpone --once", (going.ends(), going.output), (0, b"./src/deep/c.h\n"))
+        with scene.begin("run", "*.nothing", "--", "echo", "{}") as going:
+            going.waits_for(lambda _: is_asked(scene))
+            self.same("no run without a name", (going.ends(signal.SIGINT), going.output, following(going)),
+                      (130, b"", b""))
+
+    def check_restart_of_runs(self, scene: Scene, log: Log) -> None:
+        """A run and all that it started get SIGTERM; one that stays gets SIGKILL."""
+        log.hold.touch()
+        with scene.begin("run", "--restart", "*.c", *command()) as going:
+            self.check("a run that goes on", going.waits_for(has_runs(log, 1)))
+            change_until(scene, going, log, 2)
+            self.check("it was ended", going.says("wq: sh was ended by SIGTERM\n"))
+            self.same("Ctrl-C ends the other", going.ends(signal.SIGINT), 130)
+        log.hold.unlink()
+        log.clear()
+        stays = ("trap '' TERM; sleep 1000 & echo $! > \"$LOG.child\"; echo run >> \"$LOG\"; "
+                 "while :; do sleep 0.05; done")
+        with scene.begin("run", "--restart", "*.c", "--", "sh", "-c", stays) as going:
+            self.check("a run that stays", going.waits_for(has_runs(log, 1)))
+            child = int(Path(f"{log.path}.child").read_text())
+            began = time.monotonic()
+            change_until(scene, going, log, 2)
+            self.check("it is killed", going.says("wq: sh was ended by SIGKILL\n"))
+            self.check("after five seconds", 4.5 < time.monotonic() - began < 30, [str(time.monotonic() - began)])
+            self.check("with what it started", is_gone(child))
+            os.kill(going.process.pid, signal.SIGKILL)
+            os.killpg(os.getpgid(int(Path(f"{log.path}.child").read_text())), signal.SIGKILL)
+
+    def test_ends_of_run(self) -> None:
+        with Scene(self.room) as scene:
+            for script, status, words in (
+                ("exit 0", 0, "sh ended with status 0"),
+                ("exit 7", 7, "sh ended with status 7"),
+                ("kill -9 $$", 137, "sh was ended by SIGKILL"),
+                ("kill $$", 143, "sh was ended by SIGTERM"),
+            ):
+                ended = scene.wq("run", "--once", "--", "sh", "-c", script)
+                self.same(f"run --once of {script}", ended, built.Ended(b"", said(words), status))
+            self.same("what a command prints", scene.wq("run", "--once", "--", "echo", "a b").output, b"a b\n")
+            self.same("two dashes in a command", scene.wq("run", "--once", "--", "echo", "--", "-x").output, b"-- -x\n")
+            self.same("the directory of a command", scene.wq("run", "src", "--once", "--", "pwd").output,
+                      f"{scene.tree}\n".encode())
+            self.same("bytes that are no UTF-8 for a command",
+                      scene.call(["run", "--once", "--", "printf", b"\xff"]).output, b"\xff")
+            wrong(self, scene, ["run", "--once", "--", "not-there"], "not-there: there is no such command", status=127)
+            (scene.tree / "plain").write_text("no program")
+            wrong(self, scene, ["run", "--once", "--", "./plain"], "./plain: Permission denied", status=126)
+            reason = "run takes `--` and a command after it, such as: wq run '*.c' -- make"
+            for words in (["run"], ["run", "*.c"], ["run", "*.c", "--"]):
+                wrong(self, scene, words, reason)
+            wrong(self, scene, ["run", "--quiet", "x", "--", "true"],
+                  "argument --quiet: invalid int value: 'x'; see `wq run --help`")
+            wrong(self, scene, ["run", "--quiet=-1", "--", "true"], "--quiet takes a number of milliseconds from 0 on")
+
+
+def command(*words: str) -> List[str]:
+    return ["--", "sh", "-c", SCRIPT, "sh", *words]
+
+
+def has_runs(log: Log, count: int) -> Callable[[Going], bool]:
+    return lambda _: log.runs() >= count
+
+
+def change_until(scene: Scene, going: Going, log: Log, runs: int) -> None:
+    """Changes a file until so many runs began: when the subscription begins is not told."""
+    turns = iter(range(10_000))
+    going.waits_for(lambda _: log.runs() >= runs or scene.write("src/a.c", "x" * (next(turns) % 50 + 1)))
+
+
+def is_asked(scene: Scene) -> bool:
+    """Whether another client is connected."""
+    return json.loads(scene.wq("status", "--json").output)["clients"] > 0
+
+
+def is_gone(process: int) -> bool:
+    """Whether a process that nobody waits for has ended."""
+    return wait_until(lambda: state_of(process) in ("Z", ""), 5)
+
+
+def state_of(process: int) -> str:
+    """The letter that the system tells of a process, or nothing if there is none."""
+    try:
+        return Path(f"/proc/{process}/stat").read_text().rsplit(")", 1)[1].split()[0]
+    except OSError:
+        return ""

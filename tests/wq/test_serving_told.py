@@ -1,0 +1,269 @@
+"""`wq start`, `stop`, `restart`, `status`, roots and triggers: the server, what it watches, and what it runs."""
+
+import json
+import os
+import re
+import shutil
+import subprocess
+import time
+from pathlib import Path
+
+import built
+from case import Beside
+from client import PATIENCE
+from scene import COMMAND, Scene, said, wrong
+from waiting import wait_until
+from wq.processes import is_of_unit, names_unit
+
+A_HOUR = 3_600
+
+
+class ServingTold(Beside):
+    def test_server(self) -> None:
+        with Scene(self.room, starts=False) as scene:
+            nobody = f"no server listens on {scene.sockname}; `wq start` starts one"
+            for words in (["status"], ["stop"], ["roots"], ["unwatch"], ["triggers"], ["untrigger", ".", "t"]):
+                wrong(self, scene, words, nobody, status=1)
+            started = said(f"started a server at {scene.sockname}")
+            self.same("start", scene.wq("start", "--interval", "50", "--workers=2"), built.Ended(b"", started, 0))
+            again = said(f"a server listens on {scene.sockname} already")
+            self.same("start again", scene.wq("start"), built.Ended(b"", again, 0))
+            process = facts(scene)["process"]
+            words = ["--share", "10", "--interval", "50", "--workers", "2"]
+            self.same("the words of the server", words_of(process)[-6:], words)
+            ended = said(f"the server at {scene.sockname} has ended")
+            self.same("restart", scene.wq("restart"), built.Ended(b"", ended + started, 0))
+            self.same("restart keeps the words", words_of(facts(scene)["process"])[-4:],
+                      ["--interval", "50", "--workers", "2"])
+            self.same("another process", facts(scene)["process"] != process, True)
+            scene.wq("watch")
+            gone = said("1 root with triggers and cursors went with it; commands that need one watch it again")
+            self.same("restart with words", scene.wq("restart", "--share", "50"),
+                      built.Ended(b"", ended + gone + started, 0))
+            self.same("those words", words_of(facts(scene)["process"])[-4:], ["--interval", "100", "--share", "50"])
+            self.same("stop", scene.wq("stop"), built.Ended(b"", ended, 0))
+            self.same("restart of none", scene.wq("restart"), built.Ended(b"", started, 0))
+            usual = ["--share", "10", "--interval", "100"]
+            self.same("the usual words", words_of(facts(scene)["process"])[-4:], usual)
+            scene.wq("stop")
+            failed = scene.wq("start", "--interval", "1")
+            self.same("start with a wrong word", (failed.status, b"--interval takes a number from 10" in failed.errors),
+                      (3, True))
+            self.check_starts_at_once(scene)
+            self.check_sockets(scene)
+
+    def test_unit(self) -> None:
+        """A server that systemd started is known by its control group."""
+        for groups, expected in (
+            ("0::/user.slice/user-1000.slice/user@1000.service/app.slice/wqd.service\n", True),
+            ("1:name=systemd:/a/wqd.service\n0::/b\n", True),
+            ("0::/user.slice/user-1000.slice/user@1000.service/app.slice/vte.scope\n", False),
+            ("0::/\n", False), ("", False),
+        ):
+            self.same(f"the unit in {groups!r}", names_unit(groups), expected)
+        self.same("the unit of this process", is_of_unit(os.getpid()), False)
+
+    def check_starts_at_once(self, scene: Scene) -> None:
+        """Of commands that start a server at once one does, and the others wait for it."""
+        calls = [subprocess.Popen([COMMAND, "find", "*.h", "--keep"], cwd=scene.tree, stdout=subprocess.PIPE,
+                                  stderr=subprocess.PIPE,
+                                  env=scene.environment) for _ in range(4)]
+        ended = [call.communicate(timeout=PATIENCE) for call in calls]
+        self.same("what commands at once find", [output for output, _ in ended], [b"src/deep/c.h\n"] * 4)
+        started = said(f"started a server at {scene.sockname}")
+        self.same("one of them starts a server", sorted(errors for _, errors in ended), [b"", b"", b"", started])
+        scene.wq("stop")
+
+    def check_sockets(self, scene: Scene) -> None:
+        """Places of the socket, and sockets that cannot be."""
+        named = scene.room / "named"
+        self.same("WQD_SOCK", scene.wq("start", WQD_SOCK=str(named)).errors, said(f"started a server at {named}"))
+        self.same("its status", json.loads(scene.wq("status", "--json", WQD_SOCK=str(named)).output)["socket"],
+                  str(named))
+        scene.wq("stop", WQD_SOCK=str(named))
+        own = scene.room / f"wqd-{os.getuid()}"
+        ended = scene.wq("start", XDG_RUNTIME_DIR="")
+        self.same("without a session", ended.errors, said(f"started a server at {own}/wqd.sock"))
+        self.same("the mode of the directory", own.stat().st_mode & 0o777, 0o700)
+        scene.wq("stop", XDG_RUNTIME_DIR="")
+        own.chmod(0o711)
+        refused = built.Ended(b"", said(f"{own}: it is no directory of yours alone"), 3)
+        self.same("a directory that others enter", scene.wq("find", XDG_RUNTIME_DIR=""), refused)
+        shutil.rmtree(own)
+        own.symlink_to(scene.runtime)
+        self.same("a link in its place", scene.wq("find", XDG_RUNTIME_DIR=""), refused)
+        missing = scene.wq("find", WQD_SOCK=str(scene.room / "no" / "sock"))
+        self.same("a socket in no directory", (missing.status, b"No such file or directory" in missing.errors),
+                  (3, True))
+        long = scene.wq("find", WQD_SOCK=str(scene.room / ("x" * 120)))
+        self.same("a path that is too long", (long.status, long.errors.count(b"\n")), (3, 1))
+        broken = scene.room / "broken"
+        broken.write_text("#!/bin/sh\necho it cannot >&2\nexit 1\n")
+        broken.chmod(0o755)
+        ended = scene.wq("find", WQD=str(broken))
+        self.same("a server that does not start", (ended.status, ended.errors.endswith(b": it cannot\n")), (3, True))
+
+    def test_status(self) -> None:
+        with Scene(self.room) as scene, scene.client() as other:
+            scene.wq("watch")
+            scene.wq("trigger", ".", "build", "--", "make", "all targets")
+            (self.room / "gone").mkdir()
+            scene.wq("watch", self.room / "gone")
+            (self.room / "gone").rmdir()
+            tool = [str(built.TOP / "clients" / "wqasm"), "add", "large", str(built.TOP / "examples" / "large.program")]
+            subprocess.run(tool, env=scene.environment, stdout=subprocess.DEVNULL)
+            other.ask("program-add", "other", "V1FQRgEAAAAAAAAAAAACAQEAACMAAAA=")
+            found = facts(scene)
+            version = (built.TOP / "CHANGELOG.md").read_text().split("\n## ")[1].split(",")[0]
+            self.same("the versions", (found["version"], found["protocol"]), (f"wqd {version}", "wq-1"))
+            self.same("the socket", found["socket"], scene.sockname)
+            self.same("the program", found["program"], str(built.program_path()))
+            self.same("since when", 0 <= time.time() - found["started"] < A_HOUR, True)
+            self.same("the clients", found["clients"], 1)
+            for name in ("process", "memory", "threads"):
+                self.same(f"the {name}", found[name] > 0, True)
+            self.same("the processor time", 0 <= found["processor_seconds"] < A_HOUR, True)
+            root = found["roots"][0]
+            self.same("a root", (root["root"], root["files"], root["directories"]), (str(scene.tree), 13, 6))
+            self.same("its tick", root["tick"], 1)
+            self.same("its crawl", 0 < root["crawl_seconds"] < PATIENCE, True)
+            self.same("its last change", root["changed_within"] in (1, 10, 60), True)
+            triggers = [(trigger["name"], trigger["command"]) for trigger in root["triggers"]]
+            self.same("its triggers", triggers, [("build", ["make", "all targets"])])
+            self.same("a root that is gone", found["roots"][1],
+                      {"root": str(self.room / "gone"), "error": "E11: root cannot be read"})
+            programs = [{"name": "large", "budget": 7}, {"name": "other", "budget": None}]
+            self.same("the programs", found["programs"], programs)
+            text = scene.wq("status").output.decode()
+            for part in (f"socket    {scene.sockname}\n", "clients   1 beside this one",
+                         "7 files and 6 directories, tick 1, a crawl takes",
+                         "trigger build: make 'all targets'", "E11: root cannot be read",
+                         "program   large, budget 7 steps a file",
+                         "program   other, budget unknown", f"process   {found['process']}, "):
+                self.check(f"status has {part!r}", part in text, text.splitlines())
+
+    def test_watches(self) -> None:
+        with Scene(self.room) as scene:
+            self.same("no roots", scene.wq("roots"), built.Ended(b"", b"", 1))
+            self.same("watch", scene.wq("watch"), built.Ended(f"{scene.tree}\n".encode(), b"", 0))
+            self.same("roots", scene.names("roots"), [str(scene.tree)])
+            self.same("roots -0", scene.wq("roots", "-0").output, f"{scene.tree}\0".encode())
+            self.same("roots --json", json.loads(scene.wq("roots", "--json").output)["roots"], [str(scene.tree)])
+            wrong(self, scene, ["watch", "not-there"], "not-there: No such file or directory")
+            wrong(self, scene, ["watch", "Makefile"], "Makefile: Not a directory")
+            wrong(self, scene, ["unwatch", self.room], f"{self.room} is not watched; watched are {scene.tree}",
+                  status=1)
+            self.same("unwatch of a part", scene.names("unwatch", "src"), [str(scene.tree)])
+            wrong(self, scene, ["unwatch"], ". is not watched; no root is", status=1)
+            names = [str(self.room / f"r{number:02}") for number in range(17)]
+            for name in names:
+                os.mkdir(name)
+            self.same("sixteen roots", scene.names("watch", *names[:16]), names[:16])
+            words = ["16 roots are watched, and more may not be; `wq unwatch DIR` gives the place of one back:"]
+            words += [f"  {name}" for name in names[:16]]
+            wrong(self, scene, ["watch", names[16]], "E13: too many roots", *words, status=3)
+            wrong(self, scene, ["find", names[16]], "E13: too many roots", *words, status=3)
+            os.rmdir(names[3])
+            self.same("unwatch of one that is gone", scene.names("unwatch", names[3]), [names[3]])
+            self.same("a place that was given back", scene.names("watch", names[16]), [names[16]])
+
+    def test_triggers(self) -> None:
+        with Scene(self.room) as scene:
+            self.same("the root of a trigger is watched", scene.wq("triggers").status, 3)
+            made = said(f"trigger t of {scene.tree} is created; its command runs there")
+            script = 'pwd > ../ran; echo "$@" >> ../ran'
+            call = scene.wq("trigger", "src", "t", "*.h", "--", "sh", "-c", script, "sh", "{}")
+            self.same("trigger", call, built.Ended(b"", made, 0))
+            self.check("its command runs", reads(self.room / "ran", f"{scene.tree}\n./src/deep/c.h\n"))
+            lines = scene.names("triggers", "src")
+            self.same("triggers", lines, [f"t: sh -c '{script}' sh {{}}"])
+            asked = json.loads(scene.wq("triggers", "--json").output)["triggers"][0]
+            self.same("triggers --json", (asked["append_files"], asked["expression"][0]), (True, "allof"))
+            again = said(f"trigger t of {scene.tree} is replaced; its command runs there")
+            call = scene.wq("trigger", ".", "t", "Makefile", "--stdin", "--", "sh", "-c", "cat > ../names")
+            self.same("a second one", call, built.Ended(b"", again, 0))
+            self.check("names on its input", reads(self.room / "names", "Makefile\n"))
+            self.check_names_of_triggers(scene)
+            self.same("untrigger", scene.wq("untrigger", ".", "t"), built.Ended(b"", b"", 0))
+            wrong(self, scene, ["untrigger", ".", "t"], f"{scene.tree} has no trigger t", status=1)
+            self.same("no triggers", scene.wq("triggers"), built.Ended(b"", b"", 1))
+            wrong(self, scene, ["trigger", ".", "t"],
+                  "trigger takes `--` and a command after it, such as: wq trigger build '*.c' -- make")
+            for command in (["echo", "{}", "x"], ["{}"]):
+                wrong(self, scene, ["trigger", ".", "t", "--", *command],
+                      "the names of files come last in the command of a trigger, so {} may be its last word alone")
+            wrong(self, scene, ["trigger", ".", "n" * 256, "--", "true"], "E36: bad name",
+                  f'the name has 256 bytes, and at most 255 may be: "{"n" * 59}..', status=3)
+            wrong(self, scene, ["triggers", self.room], "E14: root is not watched",
+                  f'"{self.room}" is not watched; did you mean "{scene.tree}"?. ["watch","{self.room}"] watches it',
+                  status=3)
+
+    def check_names_of_triggers(self, scene: Scene) -> None:
+        """The directory may come before the name, and is the current one without. What is neither is refused."""
+        made = said(f"trigger u of {scene.tree} is created; its command runs there")
+        self.same("a trigger here", scene.wq("trigger", "u", "*.none", "--", "true"), built.Ended(b"", made, 0))
+        self.same("untrigger here", scene.wq("untrigger", "u"), built.Ended(b"", b"", 0))
+        for words, sentence in (
+            (["trigger", "srk", "build", "--", "true"], "build is no file here; write './build' for one that may come"),
+            (["trigger", "build", "src", "--", "true"],
+             "src is a directory; a trigger has one, which comes before its name"),
+            (["trigger", "src", "*.c", "--", "true"], "src is a directory, and the name of the trigger comes after it"),
+            (["trigger", "--", "true"],
+             "the name of the trigger is missing, such as in: wq trigger build '*.c' -- make"),
+            (["untrigger"], "the name of the trigger is missing, such as in: wq untrigger build"),
+            (["untrigger", ".", "t", "u"], "untrigger takes one name: u"),
+        ):
+            wrong(self, scene, words, sentence)
+
+    def test_failures(self) -> None:
+        """What went wrong is shown with the trigger and the root; it is in the log of the server."""
+        with Scene(self.room) as scene:
+            scene.wq("trigger", "fails", "*.h", "--", "sh", "-c", "echo unread; exit 3")
+            scene.wq("trigger", "killed", "*.h", "--", "sh", "-c", "kill -9 $$")
+            scene.wq("trigger", "no-file", "*.h", "--", "./not-there")
+            scene.wq("trigger", "no-command", "*.h", "--", "not-there", "{}")
+            scene.wq("trigger", "good", "*.h", "--", "true")
+            once = "; failed 1 time since it was registered"
+            lines = [
+                "fails: sh -c 'echo unread; exit 3'", f"  last failure: ended with status 3{once}",
+                "killed: sh -c 'kill -9 $$'", f"  last failure: ended by signal 9{once}",
+                "no-file: ./not-there", "  last failure: could not be started: No such file or directory (os error 2)",
+                "no-command: not-there {}",
+                f"  last failure: ended with status 127, which shells say of a command that is not there{once}",
+                "good: true",
+            ]
+            self.check("failures of triggers", wait_until(lambda: scene.names("triggers") == lines),
+                       scene.names("triggers"))
+            scene.write("src/deep/c.h", "changed")
+            # A scan may come in the middle of a write, so it may be two more.
+            more = re.compile("  last failure: ended with status 3; failed [2-9] times since it was registered")
+            self.check("a second failure", wait_until(lambda: bool(more.fullmatch(scene.names("triggers")[1]))))
+            scene.wq("trigger", "fails", "*.h", "--", "true")
+            self.same("one that is registered anew has none", scene.names("triggers")[:2],
+                      ["fails: true", "killed: sh -c 'kill -9 $$'"])
+            (scene.tree / os.fsdecode(b"not\xffutf8")).touch()
+            (scene.tree / "closed").mkdir(mode=0)
+            shown = "          left out: names that are not UTF-8: 1"
+            self.check("names that are left out", wait_until(lambda: shown in scene.names("status")),
+                       scene.names("status"))
+            found = facts(scene)
+            closed = 0 if os.getuid() == 0 else 1
+            self.same("what is left out", found["roots"][0]["left_out"], {"names": 1, "directories": closed})
+            text = scene.names("status")
+            for line in (f"log       {found['log']}", "          trigger killed: sh -c 'kill -9 $$'",
+                         "            last failure: could not be started: No such file or directory (os error 2)"):
+                self.check(f"status has {line!r}", line in text, text)
+            self.same("the log is a file", "listening on" in Path(found["log"]).read_text(), True)
+
+
+def words_of(process: int) -> list:
+    return Path(f"/proc/{process}/cmdline").read_text().split("\0")[:-1]
+
+
+def facts(scene: Scene) -> dict:
+    return json.loads(scene.wq("status", "--json").output)
+
+
+def reads(path: Path, text: str) -> bool:
+    """Whether a file comes to have this text."""
+    return wait_until(lambda: path.exists() and path.read_text() == text)

@@ -1,0 +1,161 @@
+"""What people type first, since fd, find, watchexec and entr have it: options and forms that wq has too, and for others
+the one that there is."""
+
+import os
+import time
+
+import built
+from case import Beside
+from scene import Scene, wrong
+
+C_FILES = ["src/a.c", "src/b b.c"]
+
+
+class Typed(Beside):
+    def test_typed(self) -> None:
+        with Scene(self.room) as scene:
+            self.check_lists(scene)
+            self.check_times(scene)
+            self.check_sizes(scene)
+            self.check_commands(scene)
+            self.check_dashes(scene)
+            self.check_foreign(scene)
+
+    def check_lists(self, scene: Scene) -> None:
+        for words, expected in (
+            (["-i", "A.C", "MAKE*"], ["Makefile", "src/a.c"]),
+            (["--ignore-case", "SRC/*.C"], C_FILES),
+            (["-d", "1"], ["Makefile", "src"]),
+            (["--max-depth", "2", "-t", "f"], ["Makefile", *C_FILES]),
+            (["--min-depth", "3"], ["src/deep/c.h"]),
+            (["src", "--max-depth", "1"], [*C_FILES, "src/deep"]),
+            (["src", "--min-depth", "2", "--max-depth", "2"], ["src/deep/c.h"]),
+            (["-E", "*.c", "-t", "file"], ["Makefile", "src/deep/c.h"]),
+            (["-t", "file", "-t", "dir", "-E", "*.*"], ["Makefile", "src", "src/deep"]),
+            (["--type", "directory"], ["src", "src/deep"]),
+            (["-e", "c,h"], [*C_FILES, "src/deep/c.h"]),
+            (["--extension", "h"], ["src/deep/c.h"]),
+            (["*.{c,h}"], [*C_FILES, "src/deep/c.h"]),
+            (["{Make,src/b}*", "src"], []),
+            (["/{Make*,src}"], ["Makefile", "src"]),
+            (["{a,{b b,x}}.c"], C_FILES),
+            (["{nothing,Makefile}"], ["Makefile"]),
+            (["-E", "{src/d*,*.c}"], ["Makefile", "src"]),
+            (["-a", "Make*"], [f"{scene.tree}/Makefile"]),
+            (["-a", "src/deep/"], [f"{scene.tree}/src/deep/c.h"]),
+            (["--absolute-path", "./src/..", "*.h"], [f"{scene.tree}/src/deep/c.h"]),
+        ):
+            ended = scene.wq("find", *words)
+            expected_end = built.Ended("".join(f"{name}\n" for name in expected).encode(), b"", 0 if expected else 1)
+            self.same(f"find {words}", ended, expected_end)
+        scene.write("odd{a,b}")
+        self.same("braces in a name that is there", scene.names("find", "odd{a,b}"), ["odd{a,b}"])
+        scene.wq("since", "-a", "{src,x}/*")
+        scene.write("src/new")
+        self.same("since -a", scene.names("since", "-a", "{src,x}/*"), [f"+ {scene.tree}/src/new"])
+        for name in ("src/new", "odd{a,b}"):
+            (scene.tree / name).unlink()
+        for words, reason in (
+            (["-d", "0"], "--max-depth takes a number from 1 on, which is what lies directly in the directory"),
+            (["-d", "x"], "argument -d/--max-depth: invalid int value: 'x'; see `wq find --help`"),
+            (["{" + "1,2},{" * 9 + "1,2}"], "the braces are short for 1,024 globs, and at most 1,000 may be"),
+        ):
+            wrong(self, scene, ["find", *words], reason)
+
+    def check_times(self, scene: Scene) -> None:
+        for name, second in (("Makefile", 1_500_000_000), ("src/a.c", 1_600_000_000),
+                             ("src/b b.c", time.time() - 5_400)):
+            os.utime(scene.tree / name, (second, second))
+        for words, expected in (
+            (["--changed-within", "2h"], ["src/b b.c", "src/deep/c.h"]),
+            (["--changed-within", "60min"], ["src/deep/c.h"]),
+            (["--newer", "1 hour"], ["src/deep/c.h"]),
+            (["--newer", "2018-01-01"], ["src/a.c", "src/b b.c", "src/deep/c.h"]),
+            (["--newer", "2020-09-13T12:26:39Z"], ["src/a.c", "src/b b.c", "src/deep/c.h"]),
+            (["--newer", "2020-09-13 12:26:41+00:00"], ["src/b b.c", "src/deep/c.h"]),
+            (["--newer", "@1599999999", "--older", "1day"], ["src/a.c"]),
+            (["--changed-before", "2018-01-01"], ["Makefile"]),
+        ):
+            self.same(f"find {words}", scene.names("find", "-t", "f", *words), expected)
+        takes = "--newer takes an age, such as 30s, 10min, 2h, 3d or 1w, or a date, such as 2026-11-28 or " \
+                "'2026-11-28 10:00'"
+        for word in ("soon", "10 fortnights", "2026-13-01"):
+            wrong(self, scene, ["find", "--newer", word], f'{takes}, and not "{word}"')
+        wrong(self, scene, ["find", "--older", "90y"], '--older takes a time since 1970, and not "90y"')
+
+    def check_sizes(self, scene: Scene) -> None:
+        """As GNU's tools have it, k is 1,024 bytes, and kB 1,000."""
+        scene.write("size", "x" * 1_024)
+        for size, expected in (
+            ("1k", 1), ("1KiB", 1), ("+1k", 1), ("1kB", 0), ("+1kB", 1), ("-1kB", 0), ("1024", 1), ("1024b", 1),
+        ):
+            found = scene.wq("find", "size", "--size", size)
+            self.same(f"find --size {size}", (found.output.count(b"\n"), found.errors), (expected, b""))
+        (scene.tree / "size").unlink()
+
+    def check_commands(self, scene: Scene) -> None:
+        """-x runs a command for each name, and -X one for all."""
+        for words, expected in (
+            (["*.c", "-x", "echo", "{}"], "./src/a.c\n./src/b b.c\n"),
+            (["*.c", "-x", "echo"], "./src/a.c\n./src/b b.c\n"),
+            (["src", "*.c", "--exec", "echo", "{.}.o", "{/}", "{//}", "{/.}"],
+             "./src/a.o a.c src a\n./src/b b.o b b.c src b b\n"),
+            (["*.h", "-x", "echo", "x{}y", "{"], "x./src/deep/c.hy {\n"),
+            (["*.c", "-X", "printf", "%s;", "{}"], "./src/a.c;./src/b b.c;"),
+            (["*.c", "--exec-batch", "echo"], "./src/a.c ./src/b b.c\n"),
+            (["-x", "echo", "{}", ";", "-e", "h"], "./src/deep/c.h\n"),
+            (["*.h", "-a", "-x", "echo", "--", "{}"], f"-- {scene.tree}/src/deep/c.h\n"),
+        ):
+            self.same(f"find {words}", scene.wq("find", *words), built.Ended(expected.encode(), b"", 0))
+        for words, status in (
+            (["*.c", "-x", "sh", "-c", "exit 7"], 7), (["*.h", "-x", "sh", "-c", "kill $$"], 143),
+            (["*.h", "-X", "false"], 1), (["*.nothing", "-x", "echo"], 1), (["*.nothing", "-X", "echo"], 1),
+        ):
+            self.same(f"the status of find {words}", scene.wq("find", *words), built.Ended(b"", b"", status))
+        wrong(self, scene, ["find", "*.c", "-x", "not-there"], "not-there: there is no such command", status=127)
+        wrong(self, scene, ["find", "-x"], "argument -x/--exec: expected one argument; see `wq find --help`")
+
+    def check_dashes(self, scene: Scene) -> None:
+        """Two dashes end the options of each command."""
+        scene.write("-x/in")
+        for words, output in (
+            (["find", "--", "-x"], b"-x/in\n"),
+            (["find", "-t", "f", "--", "-x", "in"], b"-x/in\n"),
+            (["watch", "--", "-x"], f"{scene.tree}\n".encode()),
+            (["triggers", "--json", "--", "-x"], b'{"triggers":[],"version":"wq-1"}\n'),
+            (["explain", "--", "true", "x"], b""),
+            (["ask", "--", '["version"]'], b'{"version":"wq-1"}\n'),
+            (["unwatch", "--", "-x"], f"{scene.tree}\n".encode()),
+        ):
+            ended = scene.wq(*words)
+            self.same(f"wq {words}", (ended.status == 2, ended.output), (not output, output))
+        self.same("since -- -x", scene.wq("since", "--", "name", "-x").output, b"+ -x/in\n")
+        (scene.tree / "-x" / "in").unlink()
+        (scene.tree / "-x").rmdir()
+
+    def check_foreign(self, scene: Scene) -> None:
+        """An option or a command that others have gets the one that there is."""
+        for words, reason in (
+            (["run", "--debounce", "500", "--", "true"], "no option --debounce; use --quiet MS"),
+            (["run", "-r", "--", "true"], "no option -r; use --restart"),
+            (["run", "-i", "*.md", "--", "true"], "no option -i; use --exclude GLOB, or --ignore-case"),
+            (["run", "-d", "500", "--", "true"], "no option -d; use --quiet MS"),
+            (["run", "-s", "--", "true"], "no option -s; use --shell"),
+            (["follow", "-x", "echo"], "no option -x; use `wq run`"),
+            (["trigger", "-maxdepth", "1", "t", "--", "true"], "no option -maxdepth; use --max-depth N"),
+            (["run", "-w", "src", "--", "true"], "no option -w; a word that is a directory is watched"),
+            (["find", "-name", "*.c"], "no option -name; a word is a glob, such as '*.c'"),
+            (["find", "-type", "f"], "no option -type; use -t KINDS"),
+            (["find", "-H"], "no option -H; hidden files are listed as others"),
+            (["find", "-maxdepth", "1"], "no option -maxdepth; use --max-depth N"),
+            (["find", "--print0"], "no option --print0; use -0"),
+            (["find", "--color=never"], "no option --color; the variable NO_COLOR takes colours away"),
+            (["follow", "-m"], "no option -m; it goes on until you stop it"),
+            (["find", "--frob"], "there is no option --frob; see `wq find --help`"),
+            (["find", "--expresion", "7"],
+             "there is no option --expresion; did you mean --expression?; see `wq find --help`"),
+            (["--hlep"], "there is no option --hlep; did you mean --help?; `wq --help` says which there are"),
+            (["watch-del", "."], "there is no command watch-del; use `wq unwatch`; `wq --help` says which there are"),
+            (["version"], "there is no command version; use `wq --version`; `wq --help` says which there are"),
+        ):
+            wrong(self, scene, words, reason)
