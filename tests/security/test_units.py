@@ -3,15 +3,25 @@
 import re
 import shutil
 import subprocess
+import sys
 from pathlib import Path
 from typing import List, Set
 
 import built
 from case import Beside, needs
 from client import PATIENCE, Server
+from waiting import wait_until
 
 # What a user that the lines narrow to calls of the system may call, as systemd names them.
 FILTER = "@system-service"
+# Gives up new privileges, and memory that is both written and executed, as two of the lines do; then becomes the server.
+HARDENED = """
+import ctypes, os, sys
+call = ctypes.CDLL(None).prctl
+if call(38, 1, 0, 0, 0) or call(65, 1, 0, 0, 0):
+    sys.exit("the kernel is too old")
+os.execv(sys.argv[1], sys.argv[1:])
+"""
 
 
 def strict_lines() -> str:
@@ -59,6 +69,21 @@ class Units(Beside):
         made = set(re.findall(r"^[0-9]+ +([a-z_0-9]+)\(", trace.read_text(), re.MULTILINE))
         self.same("calls that are forbidden", sorted(made - allowed(FILTER)), [])
         self.same("calls that were seen", {"socket", "accept4", "getdents64"} <= made, True)
+
+    def test_hardened(self) -> None:
+        """The server and the command of a trigger need no new privileges, and no memory that is written and executed."""
+        wrapped = [sys.executable, "-c", HARDENED]
+        if subprocess.run([*wrapped, "/bin/true"], stderr=subprocess.DEVNULL).returncode != 0:
+            self.skipTest("the kernel does not refuse such memory")
+        root, out = self.room / "root", self.room / "out"
+        root.mkdir()
+        trigger = {"name": "t", "command": ["/bin/sh", "-c", f"cat > {out}"], "stdin": ["name"], "expression": ["suffix", "c"]}
+        with Server(self.room, 50, through=wrapped) as server, server.client() as client:
+            client.ask("watch", str(root))
+            client.ask("trigger", str(root), trigger)
+            (root / "a.c").touch()
+            wait_until(lambda: out.exists() and out.read_text() == '["a.c"]\n')
+        self.same("what the command got", out.read_text(), '["a.c"]\n')
 
 
 def said_of(path: Path) -> str:
