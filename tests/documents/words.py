@@ -16,7 +16,7 @@ MOST = {
     "docs/DECISIONS.md": 920,
     "crates/*/DECISIONS.md": 7500,
     "docs/PROGRAMS.md": 3250,
-    "docs/PROOFS.md": 2200,
+    "docs/PROOFS.md": 2220,
     "docs/PROTOCOL.md": 5000,
     "docs/REFERENCE.md": 2500,
     "docs/RECIPES.md": 1400,
