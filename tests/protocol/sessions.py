@@ -57,7 +57,7 @@ class Room:
         for name in ("files", "bin"):
             (room / name).mkdir()
         (room / "files" / "examples").symlink_to(built.TOP / "examples")
-        for name, words in (("wqasm", [sys.executable, str(TOOL)]), ("wqd", [str(built.program_path())])):
+        for name, words in (("wqasm", [sys.executable, "-B", str(TOOL)]), ("wqd", [str(built.program_path())])):
             command = room / "bin" / name
             command.write_text("#!/bin/sh\nexec " + " ".join(f"'{word}'" for word in words) + ' "$@"\n')
             command.chmod(0o755)

@@ -67,8 +67,8 @@ class Terminal:
             "PATH": f"{self.room / 'bin'}:{os.environ['PATH']}", "HOME": self.directory, "LC_ALL": "C.UTF-8",
             "XDG_RUNTIME_DIR": str(self.room / "run"), "WQD": str(built.program_path()), "GIT_CONFIG_NOSYSTEM": "1",
         }
-        for name, words in (("wq", [sys.executable, str(built.TOP / "wq")]),
-                            ("wqasm", [sys.executable, str(built.TOP / "clients" / "wqasm")]),
+        for name, words in (("wq", [sys.executable, "-B", str(built.TOP / "wq")]),
+                            ("wqasm", [sys.executable, "-B", str(built.TOP / "clients" / "wqasm")]),
                             ("wqd", [str(built.TOP / "wqd")])):
             command = self.room / "bin" / name
             command.write_text("#!/bin/sh\nexec " + " ".join(f"'{word}'" for word in words) + ' "$@"\n')
