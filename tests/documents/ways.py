@@ -1,4 +1,4 @@
-"""The way of a query in docs/ARCHITECTURE.md: each function that it names is in its crate and is called, with no function
+"""The way of a query in docs/ARCHITECTURE.md: each function that it names is in its crate and is called, with none
 between, by another one of the way; and the page says how many there are."""
 
 import re
@@ -12,7 +12,7 @@ ROW = re.compile(r"^(?P<crate>wq_\w+) +(?P<names>.*(?:\n .*)*)", re.M)
 COUNT = re.compile(r"(\d+) functions")
 # Where the way begins: the thread that reads a client's socket, and the one of its session.
 BEGINNINGS = {"read_all", "serve"}
-BLOCK = re.compile(r"^(?P<indent> *)(?:(?:pub(?:\([a-z]+\))? |unsafe )*)(?:impl(?P<head>[^{;]*)\{|fn (?P<name>\w+))", re.M)
+BLOCK = re.compile(r"^(?P<indent> *)(?:pub(?:\([a-z]+\))? |unsafe )*(?:impl(?P<head>[^{;]*)\{|fn (?P<name>\w+))", re.M)
 # The parameters of a block, innermost first.
 ANGLES = re.compile(r"<[^<>]*>")
 

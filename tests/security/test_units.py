@@ -14,7 +14,7 @@ from waiting import wait_until
 
 # What a user that the lines narrow to calls of the system may call, as systemd names them.
 FILTER = "@system-service"
-# Gives up new privileges, and memory that is both written and executed, as two of the lines do; then becomes the server.
+# Gives up new privileges, and memory that is written and executed, as two of the lines do; then becomes the server.
 HARDENED = """
 import ctypes, os, sys
 call = ctypes.CDLL(None).prctl
@@ -71,13 +71,14 @@ class Units(Beside):
         self.same("calls that were seen", {"socket", "accept4", "getdents64"} <= made, True)
 
     def test_hardened(self) -> None:
-        """The server and the command of a trigger need no new privileges, and no memory that is written and executed."""
+        """Neither the server nor a trigger needs new privileges, or memory that is written and executed."""
         wrapped = [sys.executable, "-c", HARDENED]
         if subprocess.run([*wrapped, "/bin/true"], stderr=subprocess.DEVNULL).returncode != 0:
             self.skipTest("the kernel does not refuse such memory")
         root, out = self.room / "root", self.room / "out"
         root.mkdir()
-        trigger = {"name": "t", "command": ["/bin/sh", "-c", f"cat > {out}"], "stdin": ["name"], "expression": ["suffix", "c"]}
+        command = ["/bin/sh", "-c", f"cat > {out}"]
+        trigger = {"name": "t", "command": command, "stdin": ["name"], "expression": ["suffix", "c"]}
         with Server(self.room, 50, through=wrapped) as server, server.client() as client:
             client.ask("watch", str(root))
             client.ask("trigger", str(root), trigger)
