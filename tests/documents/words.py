@@ -23,7 +23,7 @@ MOST = {
     "docs/SCRIPTS.md": 1100,
     "docs/SECURITY.md": 2200,
     "docs/SERVER.md": 4260,
-    "docs/SPEED.md": 2000,
+    "docs/SPEED.md": 2040,
     "docs/STABILITY.md": 580,
     "docs/TROUBLESHOOTING.md": 1550,
     "docs/TUTORIAL.md": 1450,
