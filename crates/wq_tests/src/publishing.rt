@@ -17,7 +17,7 @@ use wq_clock::Run;
 use wq_crawl::{CrawlFault, LaneParts, LockRoots, Roots, SeatViews, SharedCrawler};
 use wq_live::{Blank, Named, Told};
 use wq_registry::{CacheKey, Compiled, Forgotten};
-use wq_serve::{LockDesk, SeatViews, serve};
+use wq_serve::{LockDesk, serve};
 use wq_session::{Desk, Prepared, Unset, Work};
 use wq_stream::{MemoryInbox, Splitter};
 use wq_verify::StoredProgram;
