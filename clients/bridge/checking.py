@@ -3,7 +3,7 @@
 from typing import Callable, Dict, List
 
 from bridge.clocks import BAD, CURSOR
-from bridge.expressions import BARE, DEEPEST, GROUPS, TERMS, Term
+from bridge.expressions import BARE, DEEPEST, DIRECTORIES, GROUPS, NAMES, PATTERNS, TERMS, Term
 from bridge.faults import Refused
 from wqclient.names import KINDS, RELATIONS, SCOPES
 
@@ -151,6 +151,8 @@ def check_since(_: str, words: object) -> None:
 
 
 CHECKS: Dict[str, Callable[[str, object], None]] = {
-    "name": check_name, "iname": check_name, "match": check_match, "imatch": check_match, "dirname": check_directory,
-    "idirname": check_directory, "size": check_size, "type": check_kind, "suffix": check_suffix, "since": check_since,
+    **dict.fromkeys(NAMES, check_name),
+    **dict.fromkeys(PATTERNS, check_match),
+    **dict.fromkeys(DIRECTORIES, check_directory),
+    "size": check_size, "type": check_kind, "suffix": check_suffix, "since": check_since,
 }

@@ -12,6 +12,7 @@ from bridge.places import resolved
 from bridge.queries import asking_of, directory_of, is_plain
 from bridge.session import Reply, Session
 from bridge.settling import settle
+from wqclient import names
 
 Command = List[object]
 
@@ -145,9 +146,6 @@ COMMANDS: Dict[str, Known] = {
     "list-capabilities": Known(list_capabilities, 0, MANY),
     "log": Known(notifying.log, 0, MANY),
     "log-level": Known(notifying.log_level, 0, MANY),
-    "program-add": Known(passed, 2, 2),
-    "program-del": Known(passed, 1, 1),
-    "program-list": Known(passed, 0, 0),
     "query": Known(query, 2, 2),
     "shutdown-server": Known(shutdown_server, 0, MANY),
     "since": Known(since, 2, MANY, FEW),
@@ -165,3 +163,5 @@ COMMANDS: Dict[str, Known] = {
     "watch-list": Known(watching.watch_list, 0, MANY),
     "watch-project": Known(watching.watch_project, 1, 1, TO),
 }
+# The server itself judges the arguments of its other commands, which Watchman has not.
+COMMANDS.update({name: Known(passed, 0, MANY) for name in names.COMMANDS if name not in COMMANDS})

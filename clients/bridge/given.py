@@ -6,11 +6,12 @@ import os
 import sys
 from typing import List, NamedTuple, NoReturn, Optional
 
-# The first argument of these is a root.
+from wqclient.names import COMMANDS_OF_A_ROOT
+
+# The first argument of these is a root. The server has no command of the first names.
 OF_A_ROOT = (
-    "clock", "debug-get-subscriptions", "debug-recrawl", "find", "flush-subscriptions", "get-config", "query", "since",
-    "state-enter", "state-leave", "subscribe", "trigger", "trigger-del", "trigger-list", "unsubscribe", "watch",
-    "watch-del", "watch-project",
+    "debug-get-subscriptions", "debug-recrawl", "find", "flush-subscriptions", "get-config", "since", "state-enter",
+    "state-leave", *COMMANDS_OF_A_ROOT,
 )
 
 

@@ -18,7 +18,6 @@ MODES = {
     "f": stat.S_IFREG, "d": stat.S_IFDIR, "l": stat.S_IFLNK, "b": stat.S_IFBLK, "c": stat.S_IFCHR, "p": stat.S_IFIFO,
     "s": stat.S_IFSOCK,
 }
-KEPT = ("name", "exists", "new", "size", "type", "cclock", "oclock", "mtime", "mtime_ms")
 OF_STAT = {
     "mode": "st_mode", "uid": "st_uid", "gid": "st_gid", "ino": "st_ino", "dev": "st_dev", "nlink": "st_nlink",
     "ctime": "st_ctime", "atime": "st_atime",
@@ -68,10 +67,10 @@ def give_input(style: object, root: str, above: str) -> None:
 
 
 def row_of(found: dict, fields: list, root: str, above: str) -> object:
-    """A file as the definition wants it: with one field it is the bare value."""
+    """A file as the definition wants it: with one field it is the bare value. What the server keeps, it has told."""
     file = looked_at(os.path.join(root, found["name"])) if found["exists"] else None
     found["name"] = found["name"][len(above):]
-    row = {field: found[field] if field in KEPT else value_of(field, file, found["type"]) for field in fields}
+    row = {field: found[field] if field in found else value_of(field, file, found["type"]) for field in fields}
     return row if len(fields) > 1 else row[fields[0]]
 
 

@@ -15,11 +15,10 @@ from wqprogram.terms import read_term
 from .errors import culprits
 from .faults import OF_TERMS, of_expression
 from .home import Home
-from .sentences import lines_of
+from .sentences import TERMS, lines_of
 from .terminal import say, show, write
 from .trouble import FOUND, Trouble, WrongWords
 from .values import NotJson, read
-from .vocabulary import TERMS
 from .warnings import of_term
 
 

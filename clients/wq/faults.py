@@ -8,9 +8,10 @@ from wqprogram.limits import MAX_PATTERN, MAX_TERM_DEPTH
 
 from .mending import mended_term, mended_value
 from .questions import ErrorOf, Look, NoAnswer, Object, Questions, first_of
+from .sentences import TERMS
 from .term_order import wrong_term
-from .vocabulary import (LEFT_OUT_KEYS, LEFT_OUT_OF_SUBSCRIPTIONS, LEFT_OUT_OF_TRIGGERS, QUERY_KEYS, TERMS,
-                         TERMS_OF_WATCHMAN, TRIGGER_KEYS, meant, quoted)
+from .vocabulary import (LEFT_OUT_KEYS, LEFT_OUT_OF_SUBSCRIPTIONS, LEFT_OUT_OF_TRIGGERS, QUERY_KEYS, TERMS_OF_WATCHMAN,
+                         TRIGGER_KEYS, meant, quoted)
 
 LONGEST_PLACE = 60
 SUBSCRIPTION_KEYS = {**QUERY_KEYS, "since": 'a clock id that a reply gave ("c:.."), or a second, and no cursor'}

@@ -1,6 +1,8 @@
-"""The meaning of an expression, in words."""
+"""The terms in words: what each takes, which is for hints alone, and what an expression of them means."""
 
-from typing import Any, Callable, Dict, Iterator, List, Optional
+from typing import Any, Callable, Dict, Iterator, List, NamedTuple, Optional
+
+from wqclient import names
 
 from .vocabulary import quoted
 
@@ -18,14 +20,27 @@ def lines_of(term: Any, indent: str = "") -> Iterator[str]:
     parts = [term] if isinstance(term, str) else term
     head, arguments = parts[0], parts[1:]
     if head in GROUPS:
-        yield indent + (GROUPS[head] if arguments else EMPTY[head])
+        yield indent + (GROUPS[head].says if arguments else EMPTY[head])
         for inner in arguments:
             yield from lines_of(inner, indent + DEPTH)
     else:
-        yield indent + PLAIN[head](*arguments)
+        yield indent + PLAIN[head].says(*arguments)
 
 
-GROUPS = {"not": "this is not so:", "allof": "all of these are so:", "anyof": "one of these is so:"}
+class Plain(NamedTuple):
+    """A term without terms in it: what it takes, and what it says of a file with these arguments."""
+
+    takes: str
+    says: Callable[..., str]
+
+
+class Group(NamedTuple):
+    """A term with terms in it: what it takes, and what it says of the lines below it."""
+
+    takes: str
+    says: str
+
+
 EMPTY = {"allof": "whatever the file is", "anyof": "never, since none of no terms is so"}
 
 
@@ -68,16 +83,37 @@ def since_words(spec: Any, field: str = "oclock") -> str:
     return f"it {CLOCKS[field]} after {moment}"
 
 
-PLAIN: Dict[str, Callable[..., str]] = {
-    "true": lambda: "whatever the file is",
-    "false": lambda: "never",
-    "exists": lambda: "it exists, so was not deleted",
-    "empty": lambda: "it exists, is a file or a directory, and has size 0",
-    "type": lambda letter: f"it is {KINDS[letter]}",
-    "size": lambda relation, number: f"it exists, and its size {RELATIONS[relation]} {number:,} bytes",
-    "suffix": lambda suffixes: f"what follows the last dot of its name is {one_of(suffixes)}, A to Z as a to z",
-    "name": name_words(False), "iname": name_words(True),
-    "match": match_words(False), "imatch": match_words(True),
-    "dirname": dirname_words(False), "idirname": dirname_words(True),
-    "since": since_words,
+NAME = 'a text or a list of texts, and "basename" or "wholename", such as ["%s",["Makefile","a.c"]]'
+MATCH = 'a pattern, "basename" or "wholename", and flags, such as ["%s","*.c","basename",{"includedotfiles":true}]'
+DIRNAME = 'a directory, and a depth if you like, such as ["%s","src",["depth","eq",0]]'
+RELATION = f"a relation ({' '.join(names.RELATIONS)}) and a whole number without quotes or unit"
+SINCE = ('a clock id that a reply gave ("c:..") or a second, and "oclock", "cclock" or "mtime", which takes a second '
+         'alone, such as ["since",1700000000,"mtime"]')
+PLAIN: Dict[str, Plain] = {
+    "true": Plain("nothing", lambda: "whatever the file is"),
+    "false": Plain("nothing", lambda: "never"),
+    "exists": Plain("nothing", lambda: "it exists, so was not deleted"),
+    "empty": Plain("nothing", lambda: "it exists, is a file or a directory, and has size 0"),
+    "type": Plain('one letter (f file, d directory, l link, b c p s D), such as ["type","f"]',
+                  lambda letter: f"it is {KINDS[letter]}"),
+    "size": Plain(f'{RELATION}, such as ["size","gt",1048576]',
+                  lambda relation, number: f"it exists, and its size {RELATIONS[relation]} {number:,} bytes"),
+    "name": Plain(NAME % "name", name_words(False)),
+    "match": Plain(MATCH % "match", match_words(False)),
+    "dirname": Plain(DIRNAME % "dirname", dirname_words(False)),
+    "iname": Plain(NAME % "iname", name_words(True)),
+    "imatch": Plain(MATCH % "imatch", match_words(True)),
+    "idirname": Plain(DIRNAME % "idirname", dirname_words(True)),
+    "suffix": Plain('a text or a list of texts, such as ["suffix",["c","h"]]', lambda suffixes:
+                    f"what follows the last dot of its name is {one_of(suffixes)}, A to Z as a to z"),
+    "since": Plain(SINCE, since_words),
 }
+GROUPS: Dict[str, Group] = {
+    "not": Group('one term, such as ["not","exists"]', "this is not so:"),
+    "allof": Group("any number of terms", "all of these are so:"),
+    "anyof": Group("any number of terms", "one of these is so:"),
+}
+# The names of terms that have terms in them. A head that is no text may be looked for in it.
+GROUP_NAMES = tuple(GROUPS)
+# What each term takes.
+TERMS: Dict[str, str] = {name: term.takes for table in (PLAIN, GROUPS) for name, term in table.items()}

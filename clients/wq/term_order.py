@@ -5,7 +5,7 @@ from itertools import islice
 from typing import Any, Iterator, List, NamedTuple, Tuple
 
 from .questions import ErrorOf, first_of
-from .vocabulary import GROUPS
+from .sentences import GROUP_NAMES
 
 # A group that may have no term.
 EMPTY = ["allof"]
@@ -20,7 +20,7 @@ class Term(NamedTuple):
 
 def inner_of(term: Any) -> List[Any]:
     """The terms in a term. A `not` without its one term is wrong itself."""
-    if not isinstance(term, list) or not term or term[0] not in GROUPS or term[0] == "not" and len(term) != 2:
+    if not isinstance(term, list) or not term or term[0] not in GROUP_NAMES or term[0] == "not" and len(term) != 2:
         return []
     return term[1:]
 

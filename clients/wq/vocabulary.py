@@ -1,30 +1,11 @@
-"""The arguments that words of the protocol take: commands, keys of queries and triggers, terms. It is for hints alone:
-the server decides what is right."""
+"""The arguments that words of the protocol take: commands, keys of queries and triggers. It is for hints alone: the
+server decides what is right. Terms are in `sentences`."""
 
 import json
 from typing import Dict, Iterable, NamedTuple, Tuple
 
 from wqclient.names import FIELDS, FIELDS_OF_SINCE, FLAGS_OF_MATCH, KINDS, RELATIONS, SCOPES
 
-RELATION = f"a relation ({' '.join(RELATIONS)}) and a whole number without quotes or unit"
-MATCH = 'a pattern, "basename" or "wholename", and flags, such as ["match","*.c","basename",{"includedotfiles":true}]'
-DIRNAME = 'a directory, and a depth if you like, such as ["dirname","src",["depth","eq",0]]'
-NAME = 'a text or a list of texts, and "basename" or "wholename", such as ["name",["Makefile","a.c"]]'
-TERMS: Dict[str, str] = {
-    **dict.fromkeys(("true", "false", "exists", "empty"), "nothing"),
-    "type": 'one letter (f file, d directory, l link, b c p s D), such as ["type","f"]',
-    "size": f"{RELATION}, such as [\"size\",\"gt\",1048576]",
-    "name": NAME, "match": MATCH, "dirname": DIRNAME,
-    **{own: words.replace(f'["{plain}"', f'["{own}"') for plain, own, words in (
-        ("name", "iname", NAME), ("match", "imatch", MATCH), ("dirname", "idirname", DIRNAME))},
-    "suffix": 'a text or a list of texts, such as ["suffix",["c","h"]]',
-    "since": 'a clock id that a reply gave ("c:..") or a second, and "oclock", "cclock" or "mtime", which takes a '
-             'second alone, such as ["since",1700000000,"mtime"]',
-    "not": 'one term, such as ["not","exists"]',
-    "allof": "any number of terms", "anyof": "any number of terms",
-}
-# The terms that have terms in them.
-GROUPS = ("not", "allof", "anyof")
 # Terms of Watchman that the server does not have.
 TERMS_OF_WATCHMAN = {"pcre": "match", "ipcre": "imatch"}
 

@@ -5,8 +5,8 @@ from typing import Any, Iterator, List
 
 from wqprogram.patterns import Flags, atoms_of
 
-from .vocabulary import (GROUPS, IGNORED_KEYS, LEFT_OUT_KEYS, LEFT_OUT_OF_TRIGGERS, QUERY_KEYS, TRIGGER_KEYS, meant,
-                         quoted)
+from .sentences import GROUPS
+from .vocabulary import IGNORED_KEYS, LEFT_OUT_KEYS, LEFT_OUT_OF_TRIGGERS, QUERY_KEYS, TRIGGER_KEYS, meant, quoted
 
 OF_NAMES = ("name", "iname")
 OF_PATTERNS = ("match", "imatch")

@@ -1,9 +1,13 @@
-"""The recipes of docs/RECIPES.md: each room that a table of them names is there, and has what its row says of it."""
+"""The recipes of docs/RECIPES.md: each room that a table of them names is there, and has what its row says of it. Each
+file that names a sibling of what a recipe adds is a room of it, or need not change."""
 
 import re
 from collections import defaultdict
+from fnmatch import fnmatch
 from pathlib import Path
 from typing import Dict, Iterator, List, NamedTuple, Set
+
+from siblings import SIBLINGS, files_that_name
 
 PAGE = "docs/RECIPES.md"
 CODE = re.compile(r"`([^`]+)`")
@@ -11,8 +15,9 @@ CODE = re.compile(r"`([^`]+)`")
 WORD = re.compile(r"(?!NAME)[A-Za-z_][\w-]*")
 CRATE = re.compile(r"In `(crates/\w+)`")
 HEADING = "## To add "
-# The page says how many rooms the tables name: files, and directories that get a file more.
-COUNTED = re.compile(r"The tables for (a term) name (\d+) rooms, and those for (a command or an error) (\d+)\.")
+# The page says how many rooms the tables of these name: files, and directories that get a file more.
+COUNTED_RECIPES = ("a term", "a field", "a query key", "a command that reads", "a command that changes", "an error")
+COUNTED = re.compile(rf"(?:tables|those) for ({'|'.join(COUNTED_RECIPES)})(?: name)? (\d+)")
 
 
 class Room(NamedTuple):
@@ -61,7 +66,11 @@ def wrong_rooms(top: Path) -> Iterator[str]:
         for word in room.words:
             if text and WORD.fullmatch(word) and word not in text:
                 yield f"line {room.number}: {word} is in none of its files"
-    counts = {recipe: len(files) for recipe, files in named.items()}
-    said = COUNTED.search(page)
-    if said is None or (counts.get(said[1]), counts.get(said[3])) != (int(said[2]), int(said[4])):
+    said = {recipe: int(count) for recipe, count in COUNTED.findall(page)}
+    counts = {recipe: len(named[recipe]) for recipe in COUNTED_RECIPES}
+    if said != counts:
         yield f"the tables name other numbers of rooms than the page says: {counts}"
+    for recipe, sibling in SIBLINGS.items():
+        known = [*named[recipe], *(f"{room}/*" for room in named[recipe]), *sibling.unchanged]
+        yield from (f"{recipe}: {name} names {' and '.join(sibling.words)}, and is no room"
+                    for name in files_that_name(top, sibling.words) if not any(fnmatch(name, one) for one in known))

@@ -8,6 +8,7 @@ from queries import FIELDS, LEFT_OUT_KEYS, Query, listed_records
 from replay import EndOfRun, Malformed, Turn, turns
 from triggers import Round, Start, has_input
 from views import View
+from wqclient import names
 from wqprogram import clocks, errors
 from wqprogram.json_values import NotJson, read
 from wqprogram.limits import MAX_NUMBER
@@ -46,7 +47,7 @@ SCRIPT_FAULTS = [
 
 def expected_cases() -> List[str]:
     """Every case that has to come."""
-    cases = ["clock answered", "query answered", "files listed", "no file listed", "deleted file listed"]
+    cases = [f"{name} answered" for name in names.COMMANDS] + ["files listed", "no file listed", "deleted file listed"]
     cases += ["empty on fresh instance", "one field", "several fields", "a field twice", "default fields"]
     cases += ["cursor at its first use", "cursor that was used", "query by a program"]
     cases += SUBSCRIPTION_CASES + TRIGGER_CASES
@@ -55,6 +56,7 @@ def expected_cases() -> List[str]:
     cases += ["root watched", "root watched no more", "root listed", "no root listed", "clock id of an earlier root"]
     cases += [f"error {error}" for error in errors.ALL]
     cases += ["script ends well"] + [f"script line: {fault}" for fault in SCRIPT_FAULTS]
+    cases += [f"key {key}" for key in names.QUERY_KEYS]
     cases += [f"field {name}" for name in FIELDS] + [f"bound: {bound}" for bound in BOUNDS]
     cases += [f"new is {value} after a {kind}" for kind in ("tick", "second") for value in ("true", "false")]
     cases += [f"generator {name} with {bound}" for name in ("suffix", "path", "glob") for bound in BOUNDS]
@@ -100,14 +102,14 @@ def count_turn(turn: Turn, counts: Counter) -> None:
     if "error" in reply:
         counts[f"error {reply['error']}"] += 1
         count_left_out_keys(turn.line, counts)
-    elif "files" not in reply:
-        counts["clock answered"] += "clock" in reply and "subscribe" not in reply
+        return
+    counts[f"{read(turn.line)[0]} answered"] += 1
+    if "files" not in reply:
         if "unsubscribe" in reply:
             counts["subscription deleted" if reply["deleted"] else "no subscription deleted"] += 1
         count_roots(reply, counts)
         count_triggers(reply, counts)
     else:
-        counts["query answered"] += 1
         count_query(read(turn.line)[2], turn.query, turn.view, counts)
 
 
@@ -201,6 +203,7 @@ def count_query(asked: Dict[str, Any], query: Query, view: View, counts: Counter
     files = listed_records(query, view)
     counts["files listed" if files else "no file listed"] += 1
     counts["deleted file listed"] += any(not record.exists for record in files)
+    counts.update(f"key {key}" for key in names.QUERY_KEYS if key in asked)
     counts["cursor at its first use"] += query.cursor is not None and query.bound.kind == "fresh"
     counts["cursor that was used"] += query.cursor is not None and query.bound.kind == "tick"
     counts["query by a program"] += query.program is not None

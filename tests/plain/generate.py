@@ -7,7 +7,7 @@ writes the script of that counter.
 
 import sys
 from pathlib import Path
-from typing import Dict, List, Tuple
+from typing import Callable, Dict, List, Tuple
 
 sys.path.insert(0, str(Path(__file__).resolve().parents[2] / "clients"))
 
@@ -15,6 +15,11 @@ from draws import Draws, array, json_object
 from generate_terms import MAX, WRONG_NUMBERS, World, clock_spec, expression, globs, paths, suffixes
 from generate_triggers import rounds, trigger_command
 from programs import FAULTS, PROGRAMS
+from queries import LEFT_OUT_KEYS
+from wqclient.names import FIELDS
+
+# The text of a value of a key.
+Value = Callable[[Draws, World], str]
 
 NAMES = [
     "a", "a.c", "A.C", ".a.c", "b.txt", "src", "src/a.c", "src/A.c", "Src/a.c", "src/b/c.TXT", "src/.y/a.c", ".x/a.c",
@@ -24,12 +29,10 @@ NAMES = [
     ":]", "[]", "x:", "a]", "g", "F", "G", "x/.c", "x/[a]/7", "x/y/.z/a.c", "*", "?", "@", "`", "{",
     "/".join("abcdefgh"), "a" * 40,
 ]
-FIELDS = ["name", "exists", "new", "size", "type", "cclock", "oclock", "mtime", "mtime_ms"]
 LETTERS = "fffffffddddlbcpsD?"
 WRONG_FIELDS = [
     '"name"', "[]", '["name",7]', '["mode"]', '["Name"]', "null", "{}", '[["name"]]', '[""]', '["name",null]',
 ]
-LEFT_OUT_KEYS = ["relative_root", "settle_period", "settle_timeout"]
 SUBSCRIPTION_NAMES = ['"s"', '"s"', '"s"', '"t"', '"ü"', '""', '"' + "s" * 256 + '"', "7"]
 PROGRAM_NAMES = ['"p"', '"p"', '"p"', '"q"', '"ü"', '""', '"' + "p" * 256 + '"', "7"]
 IGNORED_KEYS = ["dedup_results", "defer", "drop", "frob", "", "Fields", "case_sensitive "]
@@ -310,22 +313,9 @@ def query(draws: Draws, world: World) -> str:
         members.append(("program", draws.pick(PROGRAM_NAMES)))
     if not draws.one_in(4):
         members.append(("fields", fields(draws)))
-    if draws.one_in(2):
-        members.append(("since", clock_spec(draws, world)))
-    if draws.one_in(4):
-        members.append(("suffix", suffixes(draws)))
-    if draws.one_in(4):
-        members.append(("path", paths(draws, world)))
-    if draws.one_in(4):
-        members.append(("glob", globs(draws, world)))
-    if draws.one_in(6):
-        members.append(("glob_includedotfiles", draws.pick(["true"] * 8 + ["false"] * 3 + ["null", "1", '"true"'])))
-    if draws.one_in(6):
-        members.append(("empty_on_fresh_instance", draws.pick(["true"] * 4 + ["false"] * 3 + ["null", "1", '"true"'])))
-    if draws.one_in(6):
-        members.append(("sync_timeout", draws.pick(WRONG_NUMBERS + ["0", "5000", "-1", str(MAX), str(-MAX)] * 8)))
-    if draws.one_in(10):
-        members.append(("case_sensitive", draws.pick(["true"] * 6 + ["false", "null", "1"])))
+    for key, share, value in KEYS:
+        if draws.one_in(share):
+            members.append((key, value(draws, world)))
     if draws.one_in(10):
         members.append((draws.pick(IGNORED_KEYS), draws.pick(ANY_VALUES)))
     if draws.one_in(40):
@@ -342,6 +332,23 @@ def fields(draws: Draws) -> str:
     if draws.one_in(3):
         return '["name"]'
     return array(draws, [f'"{draws.pick(FIELDS)}"' for _ in range(draws.between(1, 5))])
+
+
+def one_of(*values: str) -> Value:
+    return lambda draws, world: draws.pick(values)
+
+
+# The other keys of a query: one query in so many has the key, with such a value.
+KEYS: List[Tuple[str, int, Value]] = [
+    ("since", 2, clock_spec),
+    ("suffix", 4, lambda draws, world: suffixes(draws)),
+    ("path", 4, paths),
+    ("glob", 4, globs),
+    ("glob_includedotfiles", 6, one_of(*["true"] * 8, *["false"] * 3, "null", "1", '"true"')),
+    ("empty_on_fresh_instance", 6, one_of(*["true"] * 4, *["false"] * 3, "null", "1", '"true"')),
+    ("sync_timeout", 6, one_of(*WRONG_NUMBERS, *["0", "5000", "-1", str(MAX), str(-MAX)] * 8)),
+    ("case_sensitive", 10, one_of(*["true"] * 6, "false", "null", "1")),
+]
 
 
 if __name__ == "__main__":

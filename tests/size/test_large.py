@@ -10,10 +10,9 @@ from typing import Dict, List, NamedTuple, Optional, Set
 
 import built
 from case import Case
-from queries import FIELDS, Query, read_query, reply_to
+from queries import FIELDS, read_query, reply_to
 from replay import read_line
 from views import History, Row, View, pass_of
-from wqprogram.clocks import FRESH
 from wqprogram.errors import PROGRAM_TOO_LARGE
 from wqprogram.json_values import compact_text
 from wqprogram.limits import MAX_ROWS
@@ -193,7 +192,7 @@ def fits_stars(record: Record) -> bool:
 def expected_reply(case: Asked, view: View) -> Dict[str, object]:
     if case.test is None:
         return reply_to(read_query(case.asked), view)
-    return reply_to(Query(case.test, case.asked["fields"], FRESH, False), view)
+    return reply_to(read_query({"fields": case.asked["fields"]})._replace(matches=case.test), view)
 
 
 def source_path(number: int) -> bytes:

@@ -21,7 +21,7 @@ use Rattle.wq_ask.specs.Subscribe.{IsSubscribing, subscribe_arguments}
 use Rattle.wq_ask.specs.Trigger.{IsTriggering, trigger_arguments}
 use Rattle.wq_ask.specs.declared.ask.Ask.{Ask}
 use Rattle.wq_ask.specs.declared.ask.Ask.TheVariants.{Alone, OfRoot, OfShelf, Unwatch, Watch}
-use Rattle.wq_ask.specs.declared.ask.ShelfAsk.TheVariants.{AddProgram, DeleteProgram, ListPrograms, ListRoots, SocketName}
+use Rattle.wq_ask.specs.declared.ask.ShelfAsk.TheVariants.{AddProgram, DeleteProgram, Reads}
 use Rattle.wq_ask.specs.declared.command.Command.{Command}
 use Rattle.wq_ask.specs.declared.command.Command.TheVariants as command
 use Rattle.wq_ask.specs.declared.refusal.Refusal.{Refusal}
@@ -31,9 +31,7 @@ use Rattle.wq_ask.specs.declared.refusal.Refusal.TheVariants.{WrongArguments, Ro
 by_kind : (a : Ask) → ((name : List ℕ) (program : Raw) → a ≡ OfShelf (AddProgram name program) → IsValid program) → HandsInValid a
 by_kind (OfShelf (AddProgram name program)) valid = valid name program refl
 by_kind (OfShelf (DeleteProgram name)) valid = tt
-by_kind (OfShelf ListRoots) valid = tt
-by_kind (OfShelf SocketName) valid = tt
-by_kind (OfShelf ListPrograms) valid = tt
+by_kind (OfShelf (Reads what)) valid = tt
 by_kind (Watch root) valid = tt
 by_kind (Unwatch root) valid = tt
 by_kind (OfRoot root crawl what) valid = tt

@@ -1,5 +1,4 @@
 mod Behind
 mod Texts
-mod Constants
+pub mod Constants
 mod HandingIn
-mod Newlines

@@ -14,7 +14,8 @@ use Rattle.wq_view.specs.View.{ViewData}
 use Rattle.wq_ask.specs.Argument.{RequestData, complete}
 use Rattle.wq_ask.specs.Root.{root_named}
 use Rattle.wq_ask.specs.declared.ask.Ask.TheVariants.{OfRoot}
-use Rattle.wq_ask.specs.declared.ask.RootAsk.TheVariants.{Clock}
+use Rattle.wq_ask.specs.declared.ask.RootAsk.TheVariants.{Reads}
+use Rattle.wq_ask.specs.declared.ask.RootRead.TheVariants.{Clock}
 use Rattle.wq_ask.specs.declared.refusal.Refusal.{Refusal}
 use Rattle.wq_ask.specs.declared.refusal.Refusal.TheVariants.{WrongArguments}
 
@@ -35,7 +36,7 @@ clock_arguments _ = None
 abbrev pub clock_request : Items → Result RequestData Refusal
 clock_request arguments =
     or_fault WrongArguments (clock_arguments arguments) (λ (root, crawl).
-    Ok (complete (OfRoot (root_named root) crawl Clock)))
+    Ok (complete (OfRoot (root_named root) crawl (Reads Clock))))
 
 -- the clock id of a view
 abbrev pub clock_data : InstanceData → ViewData → Data

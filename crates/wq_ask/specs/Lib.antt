@@ -6,9 +6,6 @@ pub mod Argument
 pub mod Words
 pub mod Need
 pub mod Reply
-pub mod Out
-pub mod Line
-pub mod Said
 pub mod Query
 pub mod Clock
 pub mod Watch

@@ -15,7 +15,8 @@ use Rattle.wq_base.specs.Version.{version}
 use Rattle.wq_ask.specs.Argument.{RequestData, complete, adds, are_none, one_text, two_texts}
 use Rattle.wq_ask.specs.Limit.{max_program_name}
 use Rattle.wq_ask.specs.declared.ask.Ask.TheVariants.{OfShelf}
-use Rattle.wq_ask.specs.declared.ask.ShelfAsk.TheVariants.{ListPrograms, DeleteProgram}
+use Rattle.wq_ask.specs.declared.ask.ShelfAsk.TheVariants.{Reads, DeleteProgram}
+use Rattle.wq_ask.specs.declared.ask.ShelfRead.TheVariants.{ListPrograms}
 use Rattle.wq_ask.specs.declared.refusal.Refusal.{Refusal}
 use Rattle.wq_ask.specs.declared.refusal.Refusal.TheVariants.{WrongArguments, BadName}
 use Rattle.wq_ask.specs.declared.refusal.Refusal.TheVariants.{NotBase64, NoMemory}
@@ -45,7 +46,7 @@ add_request arguments = or_fault WrongArguments (two_texts arguments) adding
 -- `program-list` requests the names of the programs
 abbrev pub names_request : Items → Result RequestData Refusal
 names_request arguments =
-    unless_fault WrongArguments (are_none arguments) (Ok (complete (OfShelf ListPrograms)))
+    unless_fault WrongArguments (are_none arguments) (Ok (complete (OfShelf (Reads ListPrograms))))
 
 -- `program-del` requests that the server no longer keeps a program
 abbrev pub delete_request : Items → Result RequestData Refusal

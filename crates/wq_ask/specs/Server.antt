@@ -8,7 +8,8 @@ use Rattle.wq_base.specs.Version.{version}
 use Rattle.wq_ask.specs.Argument.{RequestData, complete, are_none, are_options}
 use Rattle.wq_ask.specs.declared.ask.Ask.TheVariants.{Alone, OfShelf}
 use Rattle.wq_ask.specs.declared.ask.LoneAsk.TheVariants.{ShutDown, Version}
-use Rattle.wq_ask.specs.declared.ask.ShelfAsk.TheVariants.{SocketName}
+use Rattle.wq_ask.specs.declared.ask.ShelfAsk.TheVariants.{Reads}
+use Rattle.wq_ask.specs.declared.ask.ShelfRead.TheVariants.{SocketName}
 use Rattle.wq_ask.specs.declared.refusal.Refusal.{Refusal}
 use Rattle.wq_ask.specs.declared.refusal.Refusal.TheVariants.{WrongArguments}
 
@@ -20,7 +21,7 @@ version_request arguments =
 -- `get-sockname` requests the name of the server's socket
 abbrev pub socket_request : Items → Result RequestData Refusal
 socket_request arguments =
-    unless_fault WrongArguments (are_none arguments) (Ok (complete (OfShelf SocketName)))
+    unless_fault WrongArguments (are_none arguments) (Ok (complete (OfShelf (Reads SocketName))))
 
 -- `shutdown-server` requests that the server ends
 abbrev pub shutdown_request : Items → Result RequestData Refusal

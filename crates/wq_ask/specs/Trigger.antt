@@ -12,7 +12,8 @@ use Rattle.wq_ask.specs.Argument.{RequestData, complete, triggers, one_text, two
 use Rattle.wq_ask.specs.Root.{root_named}
 use Rattle.wq_ask.specs.declared.ask.Ask.{Ask}
 use Rattle.wq_ask.specs.declared.ask.Ask.TheVariants.{OfRoot}
-use Rattle.wq_ask.specs.declared.ask.RootAsk.TheVariants.{AddTrigger, ListTriggers, DeleteTrigger}
+use Rattle.wq_ask.specs.declared.ask.RootAsk.TheVariants.{Reads, AddTrigger, DeleteTrigger}
+use Rattle.wq_ask.specs.declared.ask.RootRead.TheVariants.{ListTriggers}
 use Rattle.wq_ask.specs.declared.refusal.Refusal.{Refusal}
 use Rattle.wq_ask.specs.declared.refusal.Refusal.TheVariants.{WrongArguments}
 
@@ -32,7 +33,7 @@ trigger_request arguments =
 abbrev pub list_triggers_request : Items → Result RequestData Refusal
 list_triggers_request arguments =
     or_fault WrongArguments (one_text arguments) (λ root.
-    Ok (complete (OfRoot (root_named root) false ListTriggers)))
+    Ok (complete (OfRoot (root_named root) false (Reads ListTriggers))))
 
 -- `trigger-del` requests that the server drops a trigger of a root
 abbrev pub delete_trigger_request : Items → Result RequestData Refusal

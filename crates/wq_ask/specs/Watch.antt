@@ -9,7 +9,8 @@ use Rattle.wq_base.specs.Version.{version}
 use Rattle.wq_ask.specs.Argument.{RequestData, complete, are_none, one_text}
 use Rattle.wq_ask.specs.Root.{is_absolute, root_named}
 use Rattle.wq_ask.specs.declared.ask.Ask.TheVariants.{OfShelf, Unwatch, Watch}
-use Rattle.wq_ask.specs.declared.ask.ShelfAsk.TheVariants.{ListRoots}
+use Rattle.wq_ask.specs.declared.ask.ShelfAsk.TheVariants.{Reads}
+use Rattle.wq_ask.specs.declared.ask.ShelfRead.TheVariants.{ListRoots}
 use Rattle.wq_ask.specs.declared.refusal.Refusal.{Refusal}
 use Rattle.wq_ask.specs.declared.refusal.Refusal.TheVariants.{WrongArguments, RootNotAbsolute}
 
@@ -23,7 +24,7 @@ watch_request arguments =
 -- `watch-list` requests the watched roots
 abbrev pub list_request : Items → Result RequestData Refusal
 list_request arguments =
-    unless_fault WrongArguments (are_none arguments) (Ok (complete (OfShelf ListRoots)))
+    unless_fault WrongArguments (are_none arguments) (Ok (complete (OfShelf (Reads ListRoots))))
 
 -- `watch-del` requests that the server no longer watches a root
 abbrev pub unwatch_request : Items → Result RequestData Refusal

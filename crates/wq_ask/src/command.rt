@@ -41,7 +41,7 @@ use wq_crawl::Need;
 pub(crate) enum Command {
     /// The server watches a root.
     Watch,
-    /// The same.
+    /// The server watches a root, by the name that clients use for the root of a project.
     WatchProject,
     /// The watched roots.
     ListRoots,

@@ -6,13 +6,13 @@ ghost use Rattle.wq_ask.specs.Reply.{error_data, reply_line};
 use crate::refusal::Refusal;
 
 /// The version alone.
-pub(crate) const VERSION_ALONE: &[u8] = b"{\"version\":\"wq-1\"}\n";
+pub const VERSION_ALONE: &[u8] = b"{\"version\":\"wq-1\"}\n";
 
 /// The server ends.
-pub(crate) const SHUTS_DOWN: &[u8] = b"{\"shutdown-server\":true,\"version\":\"wq-1\"}\n";
+pub const SHUTS_DOWN: &[u8] = b"{\"shutdown-server\":true,\"version\":\"wq-1\"}\n";
 
 /// Memory ran out.
-pub(crate) const NO_MEMORY: &[u8] = b"{\"error\":\"E60: no memory\",\"version\":\"wq-1\"}\n";
+pub const NO_MEMORY: &[u8] = b"{\"error\":\"E60: no memory\",\"version\":\"wq-1\"}\n";
 
 const LINE_TOO_LONG: &[u8] = b"{\"error\":\"E1: line too long\",\"version\":\"wq-1\"}\n";
 

@@ -15,7 +15,7 @@ mod text;
 mod text_list;
 mod version;
 mod workers;
-mod writing;
+mod writer;
 
 pub use asker::{Asker, FILES_BETWEEN_LOOKS, Stays};
 pub use compare::{Case, Relation, folded_order, is_suffix};
@@ -27,4 +27,4 @@ pub use text::Text;
 pub use text_list::TextList;
 pub use version::VERSION;
 pub use workers::Workers;
-pub use writing::write_all;
+pub use writer::write_all;

@@ -12,8 +12,8 @@ use Rattle.wq_clock.specs.Limit.{max_cursor_name}
 use Rattle.wq_clock.specs.ClockSpec.{SpecData, clock_id, old_clock_id, named_cursor, IsWithinLimits, numbers_of, id_from_numbers, id_of, cursor_of, clock_spec_of}
 use Rattle.wq_clock.specs.Spelling.{IsClockSpelling}
 use Rattle.wq_clock.specs.Spec.{spec_data, said_by}
-use Rattle.wq_clock.specs.declared.reading.ClockFault.{ClockFault}
-use Rattle.wq_clock.specs.declared.reading.Spec.{Spec}
+use Rattle.wq_clock.specs.declared.parser.ClockFault.{ClockFault}
+use Rattle.wq_clock.specs.declared.parser.Spec.{Spec}
 use Rattle.std.specs.Result.{IfOk}
 use Rattle.wq_clock.specs.Law.{TextsSayWhatTheySpell, PrintedIdsReadBack, SameTextSameId}
 use Rattle.wq_clock.proofs.Joined.{AllInRange, slice_split-join, numbers_of-map, text_from_numbers}

@@ -3,9 +3,9 @@
 use Rattle.std.specs.Prelude.{Option, Some, None, Result, Ok, Err}
 use Rattle.wq_clock.specs.Instance.{instance_data}
 use Rattle.wq_clock.specs.ClockSpec.{SpecData, clock_id, old_clock_id, named_cursor}
-use Rattle.wq_clock.specs.declared.reading.ClockFault.{ClockFault}
-use Rattle.wq_clock.specs.declared.reading.Spec.{Spec}
-use Rattle.wq_clock.specs.declared.reading.Spec.TheVariants.{Id, OldId, Cursor}
+use Rattle.wq_clock.specs.declared.parser.ClockFault.{ClockFault}
+use Rattle.wq_clock.specs.declared.parser.Spec.{Spec}
+use Rattle.wq_clock.specs.declared.parser.Spec.TheVariants.{Id, OldId, Cursor}
 
 -- the clock spec of a `Spec`
 abbrev pub spec_data : Spec → SpecData

@@ -6,7 +6,7 @@ ghost use Rattle.wq_clock.specs.Instance.{instance_data};
 ghost use Rattle.wq_clock.specs.Spec.{spec_data};
 
 use crate::instance::Instance;
-use crate::reading::Spec;
+use crate::parser::Spec;
 use wq_base::MAX_NUMBER;
 
 /// The point after which observations are new to a client, as Watchman's documentation of

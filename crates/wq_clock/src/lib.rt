@@ -9,12 +9,12 @@ mod bound;
 mod clock_text;
 mod instance;
 mod law;
-mod reading;
+mod parser;
 mod run;
 
 pub use bound::{Bound, resolve};
 pub use clock_text::{ClockText, MAX_CLOCK_TEXT, print};
 pub use instance::Instance;
 pub use law::{printed_ids_read_back, same_text_same_id, texts_say_what_they_spell};
-pub use reading::{ClockFault, MAX_CURSOR_NAME, Spec, parse};
+pub use parser::{ClockFault, MAX_CURSOR_NAME, Spec, parse};
 pub use run::Run;

@@ -14,8 +14,6 @@ mod lane;
 mod lanes;
 mod lister;
 mod lock_roots;
-mod looking;
-mod meeting;
 mod need;
 mod occupants;
 mod own_roots;

@@ -13,8 +13,8 @@ use wq_crawl::{LaneParts, Seconds, Tree};
 use wq_launch::{Notices, Spawn};
 use wq_live::{Blank, Named};
 use wq_registry::Cache;
-use wq_serve::SharedShelf;
 use wq_server::{Listening, Pace, ToldTree, run};
+use wq_session::SharedShelf;
 
 /// How many seats a server has: one for each session, one for idle moments, one for rounds of triggers, and a few more.
 pub const SEATS: usize = 48;

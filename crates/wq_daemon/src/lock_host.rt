@@ -17,8 +17,8 @@ use wq_crawl::{
 use wq_follow::Trigger;
 use wq_launch::{MAX_RUNS, Notices, Runs, Spawn, StartedCommand};
 use wq_live::{Named, Publisher, Seat};
-use wq_serve::{Ended, Kept, LockDesk, ReachedShelf, SharedShelf, serve};
 use wq_server::{Host, MAX_SESSIONS, RootNumbers, Stop, Worked, refuse, time_since};
+use wq_session::{Ended, Kept, LockDesk, ReachedShelf, SharedShelf, serve};
 use wq_stream::Inbox;
 use wq_view::Reach;
 

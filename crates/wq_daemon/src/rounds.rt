@@ -1,15 +1,15 @@
 //! Rounds of triggers. A round looks at the root and runs the programs of its triggers. Then it
 //! holds the shelf while it makes the batches of the triggers and starts their commands.
 ghost use Rattle.std.specs.Prelude.{IfSome};
-ghost use Rattle.wq_query.specs.Ahead.{AreAheadAt, IsAheadAt};
+ghost use Rattle.wq_reply.specs.Ahead.{AreAheadAt, IsAheadAt};
 
 use std::alloc::{AllocError, Global};
 use std::sync::{Arc, Mutex, Wait};
 use wq_clock::{Bound, Instance, Run};
 use wq_launch::{Launcher, Runs, Spawn};
 use wq_live::{Named, Seat};
-use wq_query::Ahead;
-use wq_serve::SharedShelf;
+use wq_reply::Ahead;
+use wq_session::SharedShelf;
 use wq_verify::StoredProgram;
 use wq_view::View;
 

@@ -5,14 +5,14 @@
 //! out.
 #![tactic(auto)]
 
-mod collecting;
+mod collector;
 mod evaluation;
 mod gate;
 mod law;
 mod piece;
 mod workers;
 
-pub use collecting::collect;
+pub use collector::collect;
 pub use evaluation::filter;
 pub use gate::{Gate, OpenGate};
 pub use law::{answers_are_said, answers_are_within, runs_say, steps_are_said};

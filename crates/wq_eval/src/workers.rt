@@ -8,7 +8,7 @@ ghost use Rattle.wq_eval.specs.Piece.{AreRight, AreSound};
 ghost use Rattle.wq_view.specs.Limit.{max_records};
 ghost use Rattle.wq_view.specs.Position.{passes_at};
 
-use crate::collecting::collect;
+use crate::collector::collect;
 use crate::gate::Gate;
 use crate::piece::{Done, Pieces};
 use std::alloc::{AllocError, Global};

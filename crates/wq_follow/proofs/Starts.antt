@@ -1,7 +1,7 @@
 -- The parts of a start.
 use Rattle.std.proofs.Common.{◌≡◌, ◌≤◌, ℕ, Bool, List, ◌++◌, length, take, sym, ap, ◌∙◌}
 use Rattle.wq_clock.specs.Instance.{InstanceData}
-use Rattle.wq_query.specs.Listing.{AreWithin}
+use Rattle.wq_reply.specs.Listing.{AreWithin}
 use Rattle.wq_view.specs.Position.{records_at}
 use Rattle.wq_record.specs.RecordData.{RecordData}
 use Rattle.wq_follow.specs.Follower.{batch_at}

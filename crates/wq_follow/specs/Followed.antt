@@ -1,6 +1,6 @@
 -- The meaning of the types `Follower`, `Subscription` and `Trigger`.
 -- It is this server's own.
-use Rattle.wq_query.specs.Query.{planned}
+use Rattle.wq_reply.specs.Plan.{planned}
 use Rattle.wq_follow.specs.Batch.{FollowerData}
 use Rattle.wq_follow.specs.Kept.{data_in}
 use Rattle.wq_follow.specs.Round.{TriggerData}

@@ -1,7 +1,7 @@
 -- The meaning of the type `Batch`.
 -- It is this server's own.
 use Rattle.std.specs.Prelude.{◌≡◌, List}
-use Rattle.wq_query.specs.Listing.{AreWithin}
+use Rattle.wq_reply.specs.Listing.{AreWithin}
 use Rattle.wq_view.specs.Position.{records_at}
 use Rattle.wq_record.specs.RecordData.{RecordData}
 use Rattle.wq_follow.specs.Batch.{BatchData}

@@ -4,8 +4,8 @@
 use Rattle.std.specs.Prelude.{◌≡◌, ◌≤◌, ℕ, Bool, true, false, ◌&&◌, nat_le, nat_lt}
 use Rattle.std.specs.Prelude.{List, [], ◌∷◌, filter, None, if◌then◌else◌}
 use Rattle.wq_clock.specs.declared.bound.Bound.TheVariants.{Tick}
-use Rattle.wq_query.specs.Listing.{is_meant}
-use Rattle.wq_query.specs.Query.{PlanData}
+use Rattle.wq_reply.specs.Listing.{is_meant}
+use Rattle.wq_reply.specs.Plan.{PlanData}
 use Rattle.wq_record.specs.RecordData.{RecordData}
 use Rattle.wq_view.specs.View.{ViewData}
 use Rattle.wq_follow.specs.Batch.{BatchData, FollowerData, polled, told_up_to}

@@ -10,7 +10,7 @@ use Rattle.wq_clock.specs.Instance.{InstanceData}
 use Rattle.wq_clock.specs.declared.bound.Bound.{Bound}
 use Rattle.wq_clock.specs.declared.bound.Bound.TheVariants.{Tick}
 use Rattle.wq_query.specs.declared.field.Field.{Field}
-use Rattle.wq_query.specs.Following.{files_data}
+use Rattle.wq_reply.specs.Following.{files_data}
 use Rattle.wq_record.specs.RecordData.{RecordData}
 use Rattle.wq_follow.specs.Batch.{BatchData}
 

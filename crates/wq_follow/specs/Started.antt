@@ -9,8 +9,8 @@ use Rattle.wq_follow.specs.Start.{no_input, names, objects}
 use Rattle.wq_follow.specs.declared.order.Order.{Order}
 use Rattle.wq_follow.specs.declared.order.Input.{Input}
 use Rattle.wq_follow.specs.declared.order.Input.TheVariants.{Nothing, Names, Objects}
-use Rattle.wq_follow.specs.declared.starting.Env.{Env}
-use Rattle.wq_follow.specs.declared.starting.Start.{Start}
+use Rattle.wq_follow.specs.declared.start.Env.{Env}
+use Rattle.wq_follow.specs.declared.start.Start.{Start}
 
 -- the input
 abbrev pub input_data : Input → InputData

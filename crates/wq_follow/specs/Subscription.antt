@@ -5,8 +5,8 @@ use Rattle.serde_json.specs.Data.{Data, boolean, string, object, no_members, mem
 use Rattle.serde_json.specs.Written.{compact_text}
 use Rattle.wq_base.specs.Version.{version}
 use Rattle.wq_clock.specs.Instance.{InstanceData}
-use Rattle.wq_query.specs.Following.{list_data}
-use Rattle.wq_query.specs.Query.{PlanData}
+use Rattle.wq_reply.specs.Following.{list_data}
+use Rattle.wq_reply.specs.Plan.{PlanData}
 use Rattle.wq_record.specs.RecordData.{RecordData}
 use Rattle.wq_view.specs.View.{ViewData}
 use Rattle.wq_follow.specs.Batch.{FollowerData, polled, told_up_to, untold}

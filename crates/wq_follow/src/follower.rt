@@ -5,7 +5,7 @@ ghost use Rattle.wq_base.specs.Limit.{max_number};
 
 use crate::batch::Batch;
 use std::alloc::{AllocError, Global};
-use wq_query::{Ahead, Plan};
+use wq_reply::{Ahead, Plan};
 use wq_view::View;
 
 /// A plan that is used again and again, each time from the tick up to which it told changes.
@@ -19,8 +19,8 @@ pub struct Follower {
 impl Follower {
     ghost use Rattle.std.specs.Prelude.{◌≡◌, IfErr, IfOk, IfSome, List, false};
     ghost use Rattle.wq_record.specs.RecordData.{RecordData};
-    ghost use Rattle.wq_query.specs.Ahead.{IsAheadAt};
-    ghost use Rattle.wq_query.specs.Query.{planned};
+    ghost use Rattle.wq_reply.specs.Ahead.{IsAheadAt};
+    ghost use Rattle.wq_reply.specs.Plan.{planned};
     ghost use Rattle.wq_follow.specs.Batch.{untold, is_told, last_or, listing, nothing, polled};
     ghost use Rattle.wq_follow.specs.Batch.{told_up_to};
     ghost use Rattle.wq_follow.specs.Followed.{follower_data};

@@ -3,7 +3,7 @@ ghost use Rattle.std.specs.Prelude.{◌≡◌, IfErr, OnOk};
 ghost use Rattle.wq_follow.specs.Launcher.{EndsRun, Rose, StartsRun, run_of};
 ghost use Rattle.wq_follow.specs.Started.{start_data};
 
-use crate::starting::Start;
+use crate::start::Start;
 use thiserror::Error;
 
 /// A command could not be started.

@@ -12,7 +12,7 @@ mod law;
 mod object_text;
 mod order;
 mod shape;
-mod starting;
+mod start;
 mod subscription;
 mod trigger;
 
@@ -29,6 +29,6 @@ pub use law::{
 pub use object_text::ObjectText;
 pub use order::{Input, Order};
 pub use shape::MAX_TRIGGER_NAME;
-pub use starting::{Env, MAX_APPENDED, Start};
+pub use start::{Env, MAX_APPENDED, Start};
 pub use subscription::Subscription;
 pub use trigger::Trigger;

@@ -4,9 +4,9 @@ ghost use Rattle.serde_json.specs.View.{view as data_of};
 ghost use Rattle.serde_json.specs.Written.{compact_text, has_float};
 ghost use Rattle.wq_base.specs.Limit.{max_number};
 ghost use Rattle.wq_clock.specs.Instance.{instance_data};
-ghost use Rattle.wq_query.specs.Following.{list_data};
-ghost use Rattle.wq_query.specs.Listing.{AreWithin};
-ghost use Rattle.wq_query.specs.Query.{planned};
+ghost use Rattle.wq_reply.specs.Following.{list_data};
+ghost use Rattle.wq_reply.specs.Listing.{AreWithin};
+ghost use Rattle.wq_reply.specs.Plan.{planned};
 ghost use Rattle.wq_view.specs.Position.{records_at};
 ghost use Rattle.wq_follow.specs.Batch.{is_told, polled};
 ghost use Rattle.wq_follow.specs.Followed.{subscription_data};
@@ -20,7 +20,7 @@ use serde_json::{Value, json};
 use std::alloc::{AllocError, Global};
 use wq_base::{Text, VERSION};
 use wq_clock::Instance;
-use wq_query::{Plan, print_list};
+use wq_reply::{Plan, print_list};
 use wq_view::View;
 
 /// The changes of a root that a client wants to be told, list by list.

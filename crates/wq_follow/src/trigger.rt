@@ -1,7 +1,7 @@
 //! A command that is started when files changed: its making, and its turn in a round.
 ghost use Rattle.std.specs.Prelude.{◌≡◌, IfOk, IfSome};
-ghost use Rattle.wq_query.specs.Ahead.{IsAheadAt};
-ghost use Rattle.wq_query.specs.Query.{planned};
+ghost use Rattle.wq_reply.specs.Ahead.{IsAheadAt};
+ghost use Rattle.wq_reply.specs.Plan.{planned};
 ghost use Rattle.wq_follow.specs.Started.{IsClocked};
 
 use crate::definition::Definition;
@@ -9,12 +9,12 @@ use crate::follower::Follower;
 use crate::launch::Launch;
 use crate::object_text::ObjectText;
 use crate::order::Order;
-use crate::starting::start_of;
+use crate::start::start_of;
 use std::alloc::{AllocError, Global};
 use std::sync::Arc;
 use wq_base::Text;
 use wq_clock::{Bound, Instance};
-use wq_query::Ahead;
+use wq_reply::{Ahead, Plan};
 use wq_verify::StoredProgram;
 use wq_view::View;
 
@@ -32,7 +32,7 @@ pub struct Trigger {
 impl Trigger {
     ghost use Rattle.std.specs.Prelude.{None, is_err, option_map};
     ghost use Rattle.wq_clock.specs.Instance.{instance_data};
-    ghost use Rattle.wq_query.specs.Meaning.{AnswersWithin};
+    ghost use Rattle.wq_reply.specs.Meaning.{AnswersWithin};
     ghost use Rattle.wq_query.specs.Query.{asked_of};
     ghost use Rattle.wq_follow.specs.Defined.{definition_data};
     ghost use Rattle.wq_follow.specs.Defining.{triggered};
@@ -59,7 +59,7 @@ impl Trigger {
             (option_map (λ _. program.value) ((definition_data definition).query).program)
             running }
     {
-        let plan = definition.query.plan(Bound::Fresh, program);
+        let plan = Plan::of(definition.query, Bound::Fresh, program);
         Trigger {
             order: Order::of(definition.shape, root),
             follower: Follower::new(plan),

@@ -7,7 +7,7 @@ use Rattle.std.proofs.lemmas.Bool.{and_from, le-leb, lt-ltb, leb-true, ltb-true}
 use Rattle.wq_view.specs.Below.{is_below}
 use Rattle.wq_view.specs.Position.{passes_at}
 use Rattle.wq_record.specs.RecordData.{RecordData}
-use Rattle.wq_gen.specs.declared.generators.PathGen.{PathGen}
+use Rattle.wq_term.specs.declared.generators.PathGen.{PathGen}
 use Rattle.wq_gen.specs.Candidate.{is_under}
 use Rattle.wq_gen.specs.Depth.{under_between}
 use Rattle.wq_gen.proofs.Positions.{more}

@@ -11,7 +11,7 @@ use Rattle.wq_base.specs.Byte.{is_slash}
 use Rattle.wq_base.specs.Directory.{after_slash, rest_below}
 use Rattle.wq_base.specs.declared.compare.Case.TheVariants.{Exact}
 use Rattle.wq_record.specs.RecordData.{RecordData}
-use Rattle.wq_gen.specs.declared.generators.PathGen.{PathGen}
+use Rattle.wq_term.specs.declared.generators.PathGen.{PathGen}
 use Rattle.wq_gen.specs.Candidate.{is_under, is_within}
 use Rattle.wq_gen.specs.Depth.{IsDeep}
 

@@ -12,7 +12,7 @@ use Rattle.wq_base.specs.Directory.{rest_below}
 use Rattle.wq_base.specs.declared.compare.Case.TheVariants.{Exact}
 use Rattle.wq_record.specs.Kind.{letter_of}
 use Rattle.wq_record.specs.RecordData.{RecordData}
-use Rattle.wq_gen.specs.declared.generators.PathGen.{PathGen}
+use Rattle.wq_term.specs.declared.generators.PathGen.{PathGen}
 use Rattle.wq_gen.specs.Candidate.{is_itself, is_under, is_within}
 use Rattle.wq_gen.specs.Outer.{holds, is_unlimited, reaches}
 use Rattle.wq_gen.proofs.Deep.{after, after_form, below_is, from_some, slash, through}

@@ -13,7 +13,7 @@ use Rattle.std.proofs.lemmas.List.{drop_all, get_or-map, length-map}
 use Rattle.std.proofs.lemmas.List.Sorted.{list_any-IsPermutation, ranks_by, sorted_far}
 use Rattle.std.proofs.lemmas.List.Sums.{sum_by-cons}
 use Rattle.wq_record.specs.RecordData.{RecordData}
-use Rattle.wq_gen.specs.declared.generators.PathGen.{PathGen}
+use Rattle.wq_term.specs.declared.generators.PathGen.{PathGen}
 use Rattle.wq_gen.specs.Candidate.{is_itself, is_on_path, is_under}
 use Rattle.wq_gen.specs.Outer.{holds, is_held, kept_after, once, outer, path_order}
 use Rattle.wq_gen.proofs.Holding.{either, holds_gives, holds_itself, holds_on}

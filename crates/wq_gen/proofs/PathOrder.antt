@@ -12,7 +12,7 @@ use Rattle.std.proofs.lemmas.Cmp.{back_total, int_cmp_total, nat_cmp_total, nat_
 use Rattle.wq_base.specs.Byte.{is_slash}
 use Rattle.wq_base.specs.Directory.{rest_below}
 use Rattle.wq_base.specs.declared.compare.Case.TheVariants.{Exact}
-use Rattle.wq_gen.specs.declared.generators.PathGen.{PathGen}
+use Rattle.wq_term.specs.declared.generators.PathGen.{PathGen}
 use Rattle.wq_gen.specs.Outer.{depth_order, holds, is_unlimited, path_order, rank, reaches, text_order}
 use Rattle.wq_gen.proofs.Deep.{after, below_is}
 use Rattle.wq_gen.proofs.Holding.{Held, held_from, held_is, unlimited_is, unlimited_reaches}

@@ -12,7 +12,7 @@ use Rattle.wq_base.specs.declared.compare.Case.TheVariants.{Exact}
 use Rattle.wq_view.specs.Below.{is_below}
 use Rattle.wq_record.specs.RecordData.{RecordData}
 use Rattle.wq_view.specs.Position.{has_name, passes_at, positions_of}
-use Rattle.wq_gen.specs.declared.generators.PathGen.{PathGen}
+use Rattle.wq_term.specs.declared.generators.PathGen.{PathGen}
 use Rattle.wq_gen.specs.Candidate.{is_itself, is_on_path, is_under}
 use Rattle.wq_gen.proofs.Positions.{none_before, none_behind, none_given, none_passes, one_alone, positions_alike}
 

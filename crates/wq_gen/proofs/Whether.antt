@@ -2,7 +2,7 @@
 use Rattle.std.proofs.Common.{◌≡◌, true, false, not, ◌||◌, List, ap, sym}
 use Rattle.wq_record.specs.RecordData.{RecordData}
 use Rattle.wq_view.specs.Position.{all_positions, positions_of}
-use Rattle.wq_gen.specs.declared.generators.Generators.{Generators}
+use Rattle.wq_term.specs.declared.generators.Generators.{Generators}
 use Rattle.wq_gen.specs.Candidate.{is_any_there, is_candidate, is_given}
 use Rattle.wq_gen.proofs.Positions.{all_pass}
 

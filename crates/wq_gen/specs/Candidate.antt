@@ -19,8 +19,8 @@ use Rattle.wq_glob.specs.Pattern.{PatternData, fits}
 use Rattle.wq_record.specs.Kind.{letter_of}
 use Rattle.wq_view.specs.Position.{has_name}
 use Rattle.wq_record.specs.RecordData.{RecordData}
-use Rattle.wq_gen.specs.declared.generators.Generators.{Generators}
-use Rattle.wq_gen.specs.declared.generators.PathGen.{PathGen}
+use Rattle.wq_term.specs.declared.generators.Generators.{Generators}
+use Rattle.wq_term.specs.declared.generators.PathGen.{PathGen}
 
 -- whether the file was seen to change after a tick, or at a second or after it; a fresh bound gives
 -- nothing

@@ -9,8 +9,8 @@ use Rattle.wq_view.specs.Below.{is_below}
 use Rattle.wq_record.specs.RecordData.{RecordData}
 use Rattle.wq_view.specs.Suffix.{has_suffix}
 use Rattle.wq_view.specs.View.{ViewData}
-use Rattle.wq_gen.specs.declared.generators.Generators.{Generators}
-use Rattle.wq_gen.specs.declared.generators.PathGen.{PathGen}
+use Rattle.wq_term.specs.declared.generators.Generators.{Generators}
+use Rattle.wq_term.specs.declared.generators.PathGen.{PathGen}
 use Rattle.wq_gen.specs.Candidate.{changed_since}
 use Rattle.wq_gen.specs.Outer.{outer}
 

@@ -7,7 +7,7 @@ use Rattle.wq_base.specs.declared.compare.Case.TheVariants.{Exact}
 use Rattle.wq_view.specs.Below.{is_below}
 use Rattle.wq_view.specs.Position.{passes_at}
 use Rattle.wq_record.specs.RecordData.{RecordData}
-use Rattle.wq_gen.specs.declared.generators.PathGen.{PathGen}
+use Rattle.wq_term.specs.declared.generators.PathGen.{PathGen}
 use Rattle.wq_gen.specs.Candidate.{is_under}
 
 -- the name is below the directory, and the path gives no file below the directory

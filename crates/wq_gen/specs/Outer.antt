@@ -10,7 +10,7 @@ use Rattle.std.specs.declared.cmp.Ordering.{Ordering}
 use Rattle.wq_base.specs.Byte.{is_slash}
 use Rattle.wq_base.specs.Directory.{rest_below}
 use Rattle.wq_base.specs.declared.compare.Case.TheVariants.{Exact}
-use Rattle.wq_gen.specs.declared.generators.PathGen.{PathGen}
+use Rattle.wq_term.specs.declared.generators.PathGen.{PathGen}
 
 -- whether a depth is without limit
 abbrev pub is_unlimited : ℤ → Bool

@@ -7,7 +7,7 @@ ghost use Rattle.wq_view.specs.Limit.{max_records};
 ghost use Rattle.wq_view.specs.Position.{positions_of};
 
 use crate::counted::Counted;
-use crate::generators::Generators;
+use crate::generators::is_any_there;
 use crate::glob::with_glob;
 use crate::path::with_path;
 use crate::position::union;
@@ -15,6 +15,7 @@ use crate::since::changed_since;
 use crate::suffix::with_suffix;
 use std::alloc::{AllocError, Global};
 use wq_base::Asker;
+use wq_term::Generators;
 use wq_view::View;
 
 /// The positions of the candidates, ascending, each once. The candidates are the records that some
@@ -51,7 +52,7 @@ pub fn candidates_counted<A: Asker>(
         ≤ counted.old.count + allowed generators.now counted.old.view.records }
     ensures same { counted.new.view ≡ counted.old.view }
 {
-    if !generators.is_any_there() {
+    if !is_any_there(generators) {
         return all(alloc, counted.len());
     }
     let changed = changed_since(alloc, counted, generators.since)?;

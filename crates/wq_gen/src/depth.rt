@@ -3,8 +3,8 @@ ghost use Rattle.std.specs.Prelude.{◌≡◌, ◌≤◌, ◌<◌, pos, true, If
 ghost use Rattle.wq_base.specs.Byte.{is_slash};
 ghost use Rattle.wq_gen.specs.Depth.{IsDeep};
 
-use crate::generators::PathGen;
 use wq_base::{Case, rest_below};
+use wq_term::PathGen;
 use wq_view::MAX_NAME;
 
 /// The directory of a name in which the depth of a path is exceeded. The path gives no file below it.

@@ -18,4 +18,3 @@ mod suffix;
 
 pub use candidate::{candidates, candidates_counted};
 pub use counted::Counted;
-pub use generators::{ANY_DEPTH, Generators, PathGen};

@@ -2,16 +2,16 @@
 ghost use Rattle.std.specs.Prelude.{◌≡◌, ◌≤◌, ℕ, map, sum_by, IfOk};
 ghost use Rattle.std.specs.List.Sorted.{IsPermutation, IsSortedBy};
 ghost use Rattle.std.specs.Ordering.{is_lt};
-ghost use Rattle.wq_gen.specs.declared.generators.PathGen.{PathGen};
+ghost use Rattle.wq_term.specs.declared.generators.PathGen.{PathGen};
 ghost use Rattle.wq_gen.specs.Candidate.{is_on_path};
 ghost use Rattle.wq_gen.specs.Outer.{depth_order, holds, outer, path_order, rank, reaches};
 ghost use Rattle.wq_gen.specs.Outer.{text_order};
 ghost use Rattle.wq_record.specs.RecordData.{RecordData};
 
-use crate::generators::{ANY_DEPTH, PathGen};
 use std::alloc::{AllocError, Global};
 use std::cmp::Ordering;
 use wq_base::{Case, rest_below};
+use wq_term::{ANY_DEPTH, PathGen};
 
 /// The paths that no other one holds, each once. They give the same files.
 pub(crate) fn outer_paths<'a>(
@@ -31,7 +31,7 @@ pub(crate) fn outer_paths<'a>(
     let mut last: &PathGen = *first;
     kept.push(last)?;
     for path in later {
-        if !last.holds(path) {
+        if !holds(last, path) {
             last = *path;
             kept.push(last)?;
         }
@@ -104,14 +104,12 @@ fn reaches(depth: i64, other: i64) -> bool
     depth == ANY_DEPTH || (other != ANY_DEPTH && other <= depth)
 }
 
-impl PathGen {
-    /// Whether this path gives every file that another one gives, as one can tell by the two alone.
-    fn holds(&self, other: &PathGen) -> bool
-        ensures { result ≡ holds self.now other.now }
-    {
-        let path = self.path.as_bytes();
-        let inner = other.path.as_bytes();
-        (path == inner && reaches(self.depth, other.depth))
-            || (self.depth == ANY_DEPTH && rest_below(Case::Exact, path, inner).is_some())
-    }
+/// Whether a path gives every file that another one gives, as one can tell by the two alone.
+fn holds(path: &PathGen, other: &PathGen) -> bool
+    ensures { result ≡ holds path.now other.now }
+{
+    let outer = path.path.as_bytes();
+    let inner = other.path.as_bytes();
+    (outer == inner && reaches(path.depth, other.depth))
+        || (path.depth == ANY_DEPTH && rest_below(Case::Exact, outer, inner).is_some())
 }

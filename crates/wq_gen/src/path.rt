@@ -11,11 +11,12 @@ ghost use Rattle.wq_record.specs.RecordData.{RecordData};
 
 use crate::counted::Counted;
 use crate::depth::deep_directory;
-use crate::generators::PathGen;
+use crate::generators::{is_itself, is_under};
 use crate::outer::outer_paths;
 use crate::position::{keep_if, union};
 use std::alloc::{AllocError, Global};
 use wq_base::{Case, Table, rest_below};
+use wq_term::PathGen;
 
 /// How far ahead of a file that is too deep another one of its directory is sought. A search for the end of a directory
 /// takes about as long as so many looks.
@@ -88,7 +89,7 @@ fn itself(alloc: Global, counted: &mut Counted<'_>, path: &PathGen) -> Result<Ve
     let Some(i) = counted.find(path.path.as_str()) else {
         return Ok(found);
     };
-    keep_if(path.is_itself(counted.look(i)), &mut found, i)?;
+    keep_if(is_itself(path, counted.look(i)), &mut found, i)?;
     Ok(found)
 }
 
@@ -128,12 +129,12 @@ fn go_on(
     ensures same { counted.new.view ≡ counted.old.view }
 {
     let file = counted.look(at);
-    if end - at > AHEAD && !path.is_under(file) {
+    if end - at > AHEAD && !is_under(path, file) {
         if let Some(directory) = deep_directory(path, file.name.as_str()) {
             return pass_over(counted, path, directory, found, at, end);
         }
     }
-    keep_if(path.is_under(file), found, at)?;
+    keep_if(is_under(path, file), found, at)?;
     Ok(at + 1)
 }
 
@@ -166,8 +167,8 @@ fn pass_over(
         return Ok(next.min(end));
     }
     for i in at + 1..far {
-        keep_if(path.is_under(counted.look(i)), found, i)?;
+        keep_if(is_under(path, counted.look(i)), found, i)?;
     }
-    keep_if(path.is_under(last), found, far)?;
+    keep_if(is_under(path, last), found, far)?;
     Ok(far + 1)
 }

@@ -15,8 +15,8 @@ use Rattle.wq_glob.specs.Step.{AllStand, IsCompiled, IsKept, IsPieceOf, IsStepOf
 use Rattle.wq_glob.specs.declared.byte_set.ByteSet.{ByteSet}
 use Rattle.wq_glob.specs.declared.class.Item.{Item}
 use Rattle.wq_glob.specs.declared.flag.Flags.{Flags}
-use Rattle.wq_glob.specs.declared.reading.Piece.{Piece}
-use Rattle.wq_glob.specs.declared.reading.Piece.TheVariants.{Plain, Held}
+use Rattle.wq_glob.specs.declared.parser.Piece.{Piece}
+use Rattle.wq_glob.specs.declared.parser.Piece.TheVariants.{Plain, Held}
 use Rattle.wq_glob.specs.declared.rules.Rules.{Rules}
 use Rattle.wq_glob.specs.declared.step.Step.{Step}
 use Rattle.wq_glob.specs.declared.step.Step.TheVariants.{Byte, AnyByte, Set, Stars, Below, Tail, Never}

@@ -13,8 +13,8 @@ use Rattle.wq_glob.specs.FitsTest.{admits}
 use Rattle.wq_glob.specs.Limit.{max_pattern_length}
 use Rattle.wq_glob.specs.declared.byte_set.ByteSet.{ByteSet}
 use Rattle.wq_glob.specs.declared.flag.Flags.{Flags}
-use Rattle.wq_glob.specs.declared.reading.Piece.{Piece}
-use Rattle.wq_glob.specs.declared.reading.Piece.TheVariants.{Plain, Held}
+use Rattle.wq_glob.specs.declared.parser.Piece.{Piece}
+use Rattle.wq_glob.specs.declared.parser.Piece.TheVariants.{Plain, Held}
 use Rattle.wq_glob.specs.declared.row.Seen.{Seen}
 use Rattle.wq_glob.specs.declared.rules.Rules.{Rules}
 use Rattle.wq_glob.specs.declared.step.Step.{Step}

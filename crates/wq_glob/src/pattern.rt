@@ -7,8 +7,8 @@ ghost use Rattle.wq_glob.specs.Limit.{max_pattern_length, max_matched_text};
 
 use crate::flag::Flags;
 use crate::limit::MAX_PATTERN;
-use crate::matching::{Hit, fits_of, hit_of};
-use crate::reading::read_steps;
+use crate::matcher::{Hit, fits_of, hit_of};
+use crate::parser::read_steps;
 use crate::rules::Rules;
 use crate::step::{Step, least_of};
 use std::alloc::{AllocError, Global};

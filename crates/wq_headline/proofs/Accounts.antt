@@ -12,9 +12,10 @@ use Rattle.wq_follow.specs.Missing.{IsOf, end_of}
 use Rattle.wq_follow.specs.Subscription.{SubscriptionData, caught_up, next_list, subscribed, text_if_any}
 use Rattle.wq_live.specs.Event.{passes_over}
 use Rattle.wq_live.specs.declared.event.RootEvent.{RootEvent}
-use Rattle.wq_query.specs.Following.{list_data, with_bound}
-use Rattle.wq_query.specs.Listing.{files_of}
-use Rattle.wq_query.specs.Query.{PlanData, QueryData}
+use Rattle.wq_reply.specs.Following.{list_data, with_bound}
+use Rattle.wq_reply.specs.Listing.{files_of}
+use Rattle.wq_query.specs.Query.{QueryData}
+use Rattle.wq_reply.specs.Plan.{PlanData}
 use Rattle.wq_query.specs.Subscribed.{subscribes as subscription_of}
 use Rattle.wq_replay.specs.Playing.{sent_list}
 use Rattle.wq_replay.specs.World.{SentData}

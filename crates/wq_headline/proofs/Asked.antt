@@ -6,8 +6,8 @@ use Rattle.wq_replay.specs.Gets.{answered, kept}
 use Rattle.wq_replay.specs.Playing.{Runs, sent_to}
 use Rattle.wq_replay.specs.World.{HappeningData, WorldData, asked, at_events}
 use Rattle.wq_crawl.specs.Basis.{Basis}
-use Rattle.wq_serve.specs.Serving.{PlaceData, stand_at}
-use Rattle.wq_ask.specs.Out.{MayRefuse, OutData, runs_out}
+use Rattle.wq_session.specs.Serving.{PlaceData, stand_at}
+use Rattle.wq_session.specs.Out.{MayRefuse, OutData, runs_out}
 use Rattle.wq_crawl.specs.Need.{watch}
 use Rattle.wq_ask.specs.Need.{need_of}
 use Rattle.wq_ask.specs.declared.ask.Ask.{Ask}
@@ -16,7 +16,7 @@ use Rattle.wq_ask.specs.declared.refusal.Refusal.TheVariants.{NoMemory as OutOfM
 use Rattle.wq_session.proofs.Finishing.{can_finish}
 use Rattle.wq_session.specs.Answer.{answer, giving}
 use Rattle.wq_session.specs.At.{ShelfNow}
-use Rattle.wq_session.specs.Begun.{begun, takes_memory}
+use Rattle.wq_session.specs.Begun.{taken_ask, takes_memory}
 use Rattle.wq_session.specs.Crawl.{crawl_refusal}
 use Rattle.wq_session.specs.Desk.{StandData, stand}
 use Rattle.wq_crawl.specs.Views.{ReadyData}
@@ -62,7 +62,7 @@ module _ (ask : Ask) (shelf : ShelfNow) (follows : List SubscriptionData) (out :
   exact_or_short (next, inl exact, shown) = inl (next, shown, exact)
   exact_or_short (next, inr (inl (takes, is, same, stays)), shown) = inr (runs_out_too takes is (shown ∙ ap Some same) stays)
   exact_or_short (next, inr (inr (plan, cursor, work, is, unset, stays)), shown) =
-      absurd (can_finish ask None shelf (evaluates plan cursor) (begun ask None shelf).shelf (inl (ap (λ w. begun_with w (begun ask None shelf).shelf) work)))
+      absurd (can_finish ask None shelf (evaluates plan cursor) (taken_ask ask None shelf).shelf (inl (ap (λ w. begun_with w (taken_ask ask None shelf).shelf) work)))
 
   -- a refusal for want of memory is one for an ask that needs that a root is watched
   pub short_of_watch : (root : List ℕ) → need_of ask ≡ watch root → MayRefuse OutOfMemory out → stand after left ≡ stand (Some shelf) follows

@@ -9,9 +9,9 @@ use Rattle.wq_ask.specs.declared.ask.Ask.TheVariants.{Alone, OfRoot, OfShelf, Un
 use Rattle.wq_ask.specs.declared.ask.LoneAsk.{LoneAsk}
 use Rattle.wq_ask.specs.declared.ask.LoneAsk.TheVariants.{Leave, Nothing, Refused, ShutDown, Version}
 use Rattle.wq_ask.specs.declared.ask.RootAsk.{RootAsk}
-use Rattle.wq_ask.specs.declared.ask.RootAsk.TheVariants.{AddTrigger, Clock, DeleteTrigger, ListTriggers, Query as AsksQuery, Subscribe, Unsubscribe}
+use Rattle.wq_ask.specs.declared.ask.RootAsk.TheVariants.{AddTrigger, DeleteTrigger, Query as AsksQuery, Reads as ReadsRoot, Subscribe, Unsubscribe}
 use Rattle.wq_ask.specs.declared.ask.ShelfAsk.{ShelfAsk}
-use Rattle.wq_ask.specs.declared.ask.ShelfAsk.TheVariants.{AddProgram, DeleteProgram, ListPrograms, ListRoots, SocketName}
+use Rattle.wq_ask.specs.declared.ask.ShelfAsk.TheVariants.{AddProgram, DeleteProgram, Reads as ReadsShelf}
 use Rattle.wq_ask.specs.declared.refusal.Refusal.{Refusal}
 use Rattle.wq_ask.specs.declared.refusal.Refusal.TheVariants.{BadName, NotWatched, Query, ShelfFull, TooManyRoots, TooManyTriggers}
 use Rattle.wq_code.specs.declared.raw.Raw.{Raw}
@@ -21,12 +21,12 @@ use Rattle.wq_query.specs.Reading.{asks as query_of}
 use Rattle.wq_query.specs.Subscribed.{subscribes as subscription_of}
 use Rattle.wq_crawl.specs.At.{AtData}
 use Rattle.wq_session.specs.At.{ShelfNow, is_watched, watched}
-use Rattle.wq_session.specs.Begun.{begun, or_refused, tried, tried_alone, tried_on, tried_there}
+use Rattle.wq_session.specs.Begun.{begun_ask, begun_alone, begun_on_shelf, begun_there, or_refused, reply_at, taken_ask}
 use Rattle.wq_registry.specs.ByName.{has_no_place}
 use Rattle.wq_registry.specs.Limit.{max_programs}
 use Rattle.wq_registry.specs.Shelf.{root_has_no_place}
 use Rattle.wq_session.specs.Query.{has_place, program_for}
-use Rattle.wq_session.specs.Subscribe.{first_plan, try_subscribe}
+use Rattle.wq_session.specs.Subscribe.{first_plan, begun_subscribe}
 use Rattle.wq_session.specs.Trigger.{defined_by, defined_name, has_no_trigger_place}
 use Rattle.wq_session.specs.Work.{BegunData, WorkData, begins, drops, evaluates, prints, says}
 
@@ -50,29 +50,29 @@ BeginsSo at (prints d) = Unit {0}
 BeginsSo at (evaluates plan cursor) = Unit {0}
 BeginsSo at (drops number name) = Unit {0}
 
-abbrev Tries : Option AtData → Result BegunData Refusal → Type 0
-Tries at (Ok begun) = BeginsSo at begun.work
-Tries at (Err refusal) = Unit {0}
+abbrev BegunSo : Option AtData → Result BegunData Refusal → Type 0
+BegunSo at (Ok b) = BeginsSo at b.work
+BegunSo at (Err refusal) = Unit {0}
 
 module _ (at : Option AtData) where
-  unless_so : (refusal : Refusal) (test : Bool) (next : Result BegunData Refusal) → Tries at next → Tries at (unless_fault refusal test next)
+  unless_so : (refusal : Refusal) (test : Bool) (next : Result BegunData Refusal) → BegunSo at next → BegunSo at (unless_fault refusal test next)
   unless_so refusal false next so = tt
   unless_so refusal true next so = so
 
-  or_so : {A : Type 0} (refusal : Refusal) (found : Option A) (next : A → Result BegunData Refusal) → ((a : A) → Tries at (next a)) → Tries at (or_fault refusal found next)
+  or_so : {A : Type 0} (refusal : Refusal) (found : Option A) (next : A → Result BegunData Refusal) → ((a : A) → BegunSo at (next a)) → BegunSo at (or_fault refusal found next)
   or_so refusal None next so = tt
   or_so refusal (Some a) next so = so a
 
-  or_its : {A F : Type 0} (of : F → Refusal) (found : Result A F) (next : A → Result BegunData Refusal) → ((a : A) → found ≡ Ok a → Tries at (next a))
-      → Tries at (or_its_fault of found next)
+  or_its : {A F : Type 0} (of : F → Refusal) (found : Result A F) (next : A → Result BegunData Refusal) → ((a : A) → found ≡ Ok a → BegunSo at (next a))
+      → BegunSo at (or_its_fault of found next)
   or_its of (Err fault) next so = tt
   or_its of (Ok a) next so = so a refl
 
-  or_own : {A : Type 0} (found : Result A Refusal) (next : A → Result BegunData Refusal) → ((a : A) → Tries at (next a)) → Tries at (or_own_fault found next)
+  or_own : {A : Type 0} (found : Result A Refusal) (next : A → Result BegunData Refusal) → ((a : A) → BegunSo at (next a)) → BegunSo at (or_own_fault found next)
   or_own (Err fault) next so = tt
   or_own (Ok a) next so = so a
 
-  subscribes : (name root : List ℕ) (d : Data) (here : AtData) (shelf : ShelfNow) → at ≡ Some here → Tries at (try_subscribe root name d here shelf)
+  subscribes : (name root : List ℕ) (d : Data) (here : AtData) (shelf : ShelfNow) → at ≡ Some here → BegunSo at (begun_subscribe root name d here shelf)
   subscribes name root d here shelf there =
       or_so NotWatched here.view _ (λ view.
       unless_so BadName (is_name name) _ (
@@ -89,53 +89,50 @@ module _ (at : Option AtData) where
         is = refl;
       }))))
 
-  there_so : (what : RootAsk) (root : List ℕ) (here : AtData) (shelf : ShelfNow) → at ≡ Some here → Tries at (tried_there what root here shelf)
+  there_so : (what : RootAsk) (root : List ℕ) (here : AtData) (shelf : ShelfNow) → at ≡ Some here → BegunSo at (begun_there what root here shelf)
+  there_so (ReadsRoot what) root here shelf there = or_own (reply_at what here shelf) _ (λ d. tt)
   there_so (AsksQuery q) root here shelf there =
       or_so NotWatched here.view _ (λ view. or_its Query (query_of here.instance (data_of q)) _ (λ q asks. or_own (program_for q shelf) _ (λ program.
       unless_so ShelfFull (has_place (here.instance).root q.since shelf) _ tt)))
-  there_so Clock root here shelf there = or_so NotWatched here.view _ (λ view. tt)
   there_so (Subscribe name q) root here shelf there = subscribes name root (data_of q) here shelf there
   there_so (Unsubscribe name) root here shelf there = unless_so BadName (is_name name) _ tt
   there_so (AddTrigger t) root here shelf there =
       or_so NotWatched here.view _ (λ view. or_own (defined_by here.instance (data_of t)) _ (λ d. or_own (program_for d.query shelf) _ (λ program.
       unless_so TooManyTriggers (not (has_no_trigger_place (here.instance).root (defined_name d) shelf)) _ tt)))
-  there_so ListTriggers root here shelf there = tt
   there_so (DeleteTrigger name) root here shelf there = unless_so BadName (is_name name) _ tt
 
-  on_so : (what : ShelfAsk) (shelf : ShelfNow) → Tries at (tried_on what shelf)
-  on_so ListRoots shelf = tt
-  on_so SocketName shelf = tt
+  on_so : (what : ShelfAsk) (shelf : ShelfNow) → BegunSo at (begun_on_shelf what shelf)
+  on_so (ReadsShelf what) shelf = tt
   on_so (AddProgram name program) shelf = unless_so ShelfFull (not (has_no_place max_programs name shelf.programs)) _ tt
-  on_so ListPrograms shelf = tt
   on_so (DeleteProgram name) shelf = tt
 
-  alone_so : (what : LoneAsk) (shelf : ShelfNow) → Tries at (tried_alone what shelf)
+  alone_so : (what : LoneAsk) (shelf : ShelfNow) → BegunSo at (begun_alone what shelf)
   alone_so (Refused refusal) shelf = tt
   alone_so Version shelf = tt
   alone_so ShutDown shelf = tt
   alone_so Leave shelf = tt
   alone_so Nothing shelf = tt
 
-  refused_so : (tries : Result BegunData Refusal) (shelf : ShelfNow) → Tries at tries → BeginsSo at (or_refused tries shelf).work
+  refused_so : (begun : Result BegunData Refusal) (shelf : ShelfNow) → BegunSo at begun → BeginsSo at (or_refused begun shelf).work
   refused_so (Ok b) shelf so = so
   refused_so (Err refusal) shelf so = tt
 
 -- what is watched is what is looked at
-watched_so : (at : Option AtData) (root : List ℕ) (shelf : ShelfNow) (next : AtData → Result BegunData Refusal) → ((here : AtData) → at ≡ Some here → Tries at (next here))
-    → Tries at (or_fault NotWatched (watched root at shelf) next)
+watched_so : (at : Option AtData) (root : List ℕ) (shelf : ShelfNow) (next : AtData → Result BegunData Refusal) → ((here : AtData) → at ≡ Some here → BegunSo at (next here))
+    → BegunSo at (or_fault NotWatched (watched root at shelf) next)
 watched_so None root shelf next so = tt
 watched_so (Some here) root shelf next so = by (is_watched root here shelf)
   where
-    by : (b : Bool) → Tries (Some here) (or_fault NotWatched (cond b (Some here) None) next)
+    by : (b : Bool) → BegunSo (Some here) (or_fault NotWatched (cond b (Some here) None) next)
     by true = so here refl
     by false = tt
 
-tries_so : (ask : Ask) (at : Option AtData) (shelf : ShelfNow) → Tries at (tried ask at shelf)
-tries_so (Watch root) at shelf = or_so at NotWatched at _ (λ here. unless_so at TooManyRoots (not (root_has_no_place root (here.instance).root shelf)) _ tt)
-tries_so (Unwatch root) at shelf = or_so at NotWatched (watched root at shelf) _ (λ here. tt)
-tries_so (OfRoot root crawl what) at shelf = watched_so at root shelf _ (λ here there. there_so at what root here shelf there)
-tries_so (OfShelf what) at shelf = on_so at what shelf
-tries_so (Alone what) at shelf = alone_so at what shelf
+begun_so : (ask : Ask) (at : Option AtData) (shelf : ShelfNow) → BegunSo at (begun_ask ask at shelf)
+begun_so (Watch root) at shelf = or_so at NotWatched at _ (λ here. unless_so at TooManyRoots (not (root_has_no_place root (here.instance).root shelf)) _ tt)
+begun_so (Unwatch root) at shelf = or_so at NotWatched (watched root at shelf) _ (λ here. tt)
+begun_so (OfRoot root crawl what) at shelf = watched_so at root shelf _ (λ here there. there_so at what root here shelf there)
+begun_so (OfShelf what) at shelf = on_so at what shelf
+begun_so (Alone what) at shelf = alone_so at what shelf
 
-pub begins_so : (ask : Ask) (at : Option AtData) (shelf : ShelfNow) → BeginsSo at (begun ask at shelf).work
-begins_so ask at shelf = refused_so at (tried ask at shelf) shelf (tries_so ask at shelf)
+pub begins_so : (ask : Ask) (at : Option AtData) (shelf : ShelfNow) → BeginsSo at (taken_ask ask at shelf).work
+begins_so ask at shelf = refused_so at (begun_ask ask at shelf) shelf (begun_so ask at shelf)

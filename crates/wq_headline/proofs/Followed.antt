@@ -9,7 +9,7 @@ use Rattle.serde_json.specs.Data.{Data}
 use Rattle.serde_json.specs.Written.{compact_text}
 use Rattle.wq_crawl.specs.Need.{NeedData, crawl as crawl_of, look, none, unwatch, watch}
 use Rattle.wq_ask.specs.Need.{need_of}
-use Rattle.wq_ask.specs.Out.{OutData, refuses, silence}
+use Rattle.wq_session.specs.Out.{OutData, refuses, silence}
 use Rattle.wq_ask.specs.declared.ask.Ask.{Ask}
 use Rattle.wq_ask.specs.declared.refusal.Refusal.TheVariants.{TooManySubscriptions}
 use Rattle.wq_clock.specs.Run.{RunData, instance_of}
@@ -24,7 +24,8 @@ use Rattle.wq_live.specs.Event.{number_of, passes_over}
 use Rattle.wq_live.specs.Table.{IsTableOf, RootView, TableData, has_number, has_text, root_by_text}
 use Rattle.wq_live.specs.declared.event.RootEvent.{RootEvent}
 use Rattle.wq_code.specs.declared.raw.Raw.{Raw}
-use Rattle.wq_query.specs.Query.{PlanData, QueryData}
+use Rattle.wq_query.specs.Query.{QueryData}
+use Rattle.wq_reply.specs.Plan.{PlanData}
 use Rattle.wq_query.specs.Subscribed.{SubscriptionsArePlain, subscribes as subscription_of}
 use Rattle.wq_crawl.specs.Meets.{MeetsAt, Meets, MeetsFor, at_root, ending, fault_for, looked, numbered}
 use Rattle.wq_replay.specs.Gets.{kept, with_follows}
@@ -35,7 +36,7 @@ use Rattle.wq_replay.specs.World.{Crawls, CrawlsAt, HappeningData, SentData, Sta
 use Rattle.wq_session.specs.Answer.{AnswersAsk, DoneData, finished, following, giving, subscribing_at, subscribing_by}
 use Rattle.wq_crawl.specs.At.{AtData}
 use Rattle.wq_session.specs.At.{ShelfNow}
-use Rattle.wq_session.specs.Begun.{begun}
+use Rattle.wq_session.specs.Begun.{taken_ask}
 use Rattle.wq_session.specs.Desk.{StandData, stand}
 use Rattle.wq_session.specs.Followed.{has_no_room, is_called, with_subscription, without_called}
 use Rattle.wq_session.specs.Moment.{Shown, left_of, listed_once, shown_in, told_list_at, told_lists_of, told_of}
@@ -216,7 +217,7 @@ module _ (run : RunData) (client : ℤ) where
         → Accounts events (said ++ sent_to client out) left
     answered ask shelf after left (inl is) =
         subst (Accounts events (said ++ sent_to client out)) (ap (λ a. (a.done).follows) is)
-        (done (begun ask at shelf).work (begins_so ask at shelf) (sym (ap (λ a. (a.done).out) is)))
+        (done (taken_ask ask at shelf).work (begins_so ask at shelf) (sym (ap (λ a. (a.done).out) is)))
     answered ask shelf after left (inr (inl (takes, gives, same, stays))) = subst (Accounts events (said ++ sent_to client out)) (sym stays) all
     answered ask shelf after left (inr (inr (plan, cursor, work, gives, unset, stays))) = subst (Accounts events (said ++ sent_to client out)) (sym stays) all
 

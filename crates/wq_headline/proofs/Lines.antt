@@ -13,8 +13,8 @@ use Rattle.wq_clock.specs.Instance.{InstanceData}
 use Rattle.wq_code.specs.declared.raw.Raw.{Raw}
 use Rattle.wq_compile.specs.Cost.{most_steps_of}
 use Rattle.wq_eval.specs.Cost.{steps_of}
-use Rattle.wq_query.specs.Law.{PlansKeepMeasures}
-use Rattle.wq_query.specs.Query.{planned, program_in}
+use Rattle.wq_reply.specs.Law.{PlansKeepMeasures}
+use Rattle.wq_reply.specs.Plan.{planned, program_in}
 use Rattle.wq_query.specs.Reading.{expression_of}
 use Rattle.wq_ask.specs.Reading.{WordsData, value_of, words_of}
 use Rattle.wq_term.specs.Expr.{ExprData, always}

@@ -3,16 +3,16 @@ use Rattle.std.proofs.Common.{◌≡◌, ℕ, Bool, true, false, cond, nat_eq, L
 use mathlib.Core.Bool.{false≢true}
 use Rattle.std.specs.List.{AllByRecursion}
 use Rattle.std.proofs.lemmas.Bool.Decides.{nat_tests}
-use Rattle.wq_ask.specs.Out.{OutData}
+use Rattle.wq_session.specs.Out.{OutData}
 use Rattle.wq_clock.specs.Run.{RunData, instance_of, run_data}
 use Rattle.wq_clock.specs.declared.run.Run.{Run}
 use Rattle.wq_follow.specs.Subscription.{SubscriptionData, next_list}
 use Rattle.wq_live.specs.Event.{is_shown, passes_over}
 use Rattle.wq_live.specs.declared.event.RootEvent.{RootEvent}
 use Rattle.wq_crawl.specs.Basis.{Basis}
-use Rattle.wq_serve.specs.Idling.{IsIdled}
+use Rattle.wq_session.specs.Idling.{IsIdled}
 use Rattle.wq_crawl.specs.Run.{ShowsNumber}
-use Rattle.wq_serve.specs.Serving.{PlaceData, stand_at}
+use Rattle.wq_session.specs.Serving.{PlaceData, stand_at}
 use Rattle.wq_crawl.specs.At.{AtData}
 use Rattle.wq_session.specs.Moment.{AreLeft, Idles, MayRunOut, Shown, ToldListData, left_of, listed_once, shown_in, told_list_at, told_lists_of, told_of}
 use Rattle.wq_view.specs.View.{IsViewOf}

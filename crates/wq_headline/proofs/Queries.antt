@@ -4,7 +4,7 @@ use Rattle.serde_json.specs.Data.{Data}
 use Rattle.serde_json.specs.View.{view as data_of}
 use Rattle.serde_json.specs.declared.value.Value.{Value}
 use Rattle.std.specs.Option.{option_map_or}
-use Rattle.wq_ask.specs.Out.{OutData, replies, silence}
+use Rattle.wq_session.specs.Out.{OutData, replies, silence}
 use Rattle.wq_ask.specs.declared.ask.Ask.TheVariants.{OfRoot}
 use Rattle.wq_ask.specs.declared.ask.RootAsk.TheVariants.{Query as AsksQuery}
 use Rattle.wq_ask.specs.declared.refusal.Refusal.{Refusal}
@@ -15,14 +15,14 @@ use Rattle.wq_compile.specs.Large.{is_too_large}
 use Rattle.wq_follow.specs.Subscription.{SubscriptionData}
 use Rattle.wq_query.specs.Query.{QueryData}
 use Rattle.wq_query.specs.Reading.{asks as query_of}
-use Rattle.wq_query.specs.Reply.{reply_of}
+use Rattle.wq_reply.specs.Reply.{reply_of}
 use Rattle.wq_query.specs.declared.fault.QueryFault.{QueryFault}
 use Rattle.wq_registry.specs.ByName.{under}
 use Rattle.wq_session.specs.Answer.{AnswersAsk, finished}
 use Rattle.wq_crawl.specs.At.{AtData}
 use Rattle.wq_session.specs.At.{ShelfNow, is_watched, watched}
 use Rattle.wq_session.specs.Begun.{or_refused}
-use Rattle.wq_session.specs.Query.{begun_query, has_place, moved_cursor, plan_at, program_for, program_named, try_query, used_at}
+use Rattle.wq_session.specs.Query.{begun_read_query, has_place, moved_cursor, plan_at, program_for, program_named, begun_query, used_at}
 use Rattle.wq_session.specs.Work.{BegunData, evaluates}
 use Rattle.wq_verify.specs.Typing.{IsValid}
 use Rattle.wq_view.specs.View.{ViewData}
@@ -83,7 +83,7 @@ module _ (shelf : ShelfNow) (valid : (name : List ℕ) (raw : Raw) → under nam
     }
 
     -- a query that was begun lists its files
-    begun_lists : (here : AtData) (begun : BegunData) → watched root at shelf ≡ Some here → try_query d here shelf ≡ Ok begun → Gives (Ok begun) → ListsExactly here shelf d out
+    begun_lists : (here : AtData) (begun : BegunData) → watched root at shelf ≡ Some here → begun_query d here shelf ≡ Ok begun → Gives (Ok begun) → ListsExactly here shelf d out
     begun_lists here begun there is gives = at_view here.view refl is
       where
         at_program : (view : ViewData) (query : QueryData) (program : Result (Option Raw) Refusal) → here.view ≡ Some view → query_of here.instance d ≡ Ok query
@@ -103,26 +103,26 @@ module _ (shelf : ShelfNow) (valid : (name : List ℕ) (raw : Raw) → under nam
             by false is = absurd cc
 
         at_query : (view : ViewData) (query : Result QueryData QueryFault) → here.view ≡ Some view → query_of here.instance d ≡ query
-            → or_its_fault Query query (λ q. begun_query (here.instance).root view.tick q shelf) ≡ Ok begun → ListsExactly here shelf d out
+            → or_its_fault Query query (λ q. begun_read_query (here.instance).root view.tick q shelf) ≡ Ok begun → ListsExactly here shelf d out
         at_query view (Err fault) shown asks is = absurd cc
         at_query view (Ok query) shown asks is = at_program view query (program_for query shelf) shown asks refl is
 
         at_view : (view : Option ViewData) → here.view ≡ view
-            → or_fault NotWatched view (λ view. or_its_fault Query (query_of here.instance d) (λ q. begun_query (here.instance).root view.tick q shelf)) ≡ Ok begun
+            → or_fault NotWatched view (λ view. or_its_fault Query (query_of here.instance d) (λ q. begun_read_query (here.instance).root view.tick q shelf)) ≡ Ok begun
             → ListsExactly here shelf d out
         at_view None shown is = absurd cc
         at_view (Some view) shown is = at_query view (query_of here.instance d) shown refl is
 
     -- the reply of the work that was begun at what is watched
     reply_there : (there : Option AtData) (begun : Result BegunData Refusal) → watched root at shelf ≡ there
-        → or_fault NotWatched there (λ at. try_query d at shelf) ≡ begun → Gives begun → IsReplyAt root d at shelf out
+        → or_fault NotWatched there (λ at. begun_query d at shelf) ≡ begun → Gives begun → IsReplyAt root d at shelf out
     reply_there there (Err refusal) is reason gives =
-        inr (inl (refusal, ap (λ w. or_fault NotWatched w (λ at. try_query d at shelf)) is ∙ reason, gives))
+        inr (inl (refusal, ap (λ w. or_fault NotWatched w (λ at. begun_query d at shelf)) is ∙ reason, gives))
     reply_there None (Ok begun) is reason gives = absurd cc
     reply_there (Some here) (Ok begun) is reason gives = inl (here, is, begun_lists here begun is reason gives)
 
-    reply_at : Gives (or_fault NotWatched (watched root at shelf) (λ at. try_query d at shelf)) → IsReplyAt root d at shelf out
-    reply_at gives = reply_there (watched root at shelf) (or_fault NotWatched (watched root at shelf) (λ at. try_query d at shelf)) refl refl gives
+    reply_at : Gives (or_fault NotWatched (watched root at shelf) (λ at. begun_query d at shelf)) → IsReplyAt root d at shelf out
+    reply_at gives = reply_there (watched root at shelf) (or_fault NotWatched (watched root at shelf) (λ at. begun_query d at shelf)) refl refl gives
 
   -- the reply to an ask for files
   pub query_reply : (root : List ℕ) (crawl : Bool) (q : Value) (at : Option AtData) (follows left : List SubscriptionData) (out : OutData) (after : ShelfNow)

@@ -6,8 +6,8 @@ use Rattle.wq_replay.proofs.Worlds.{runs_go_on}
 use Rattle.wq_replay.specs.Playing.{Runs, sent_for, sent_list, sent_to}
 use Rattle.wq_replay.specs.World.{HappeningData, SentData, WorldData}
 use Rattle.wq_crawl.specs.Basis.{Basis}
-use Rattle.wq_serve.specs.Serving.{PlaceData, line_for, lines_for, written_for}
-use Rattle.wq_ask.specs.Out.{OutData}
+use Rattle.wq_session.specs.Serving.{PlaceData, line_for, lines_for, written_for}
+use Rattle.wq_session.specs.Out.{OutData}
 use Rattle.wq_stream.specs.declared.event.Event.{Event}
 use Rattle.wq_view.specs.View.{HasOneView}
 use Rattle.wq_headline.specs.Alone.{AloneGoesOn, EndsShowAWorld, GoingOnIsARun, HappensFor, HappensInTurn, IsRunFor, IsRunOf, ServedAloneIsARun, ShowsWorld, WasBlind, WasBlindOnce, written_of}

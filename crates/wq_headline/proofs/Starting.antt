@@ -20,7 +20,8 @@ use Rattle.wq_follow.specs.Round.{Agrees, FiredData, Fires, TriggerData, failed,
 use Rattle.wq_follow.specs.Start.{OrderData, StartData, start_of}
 use Rattle.wq_live.specs.Event.{passes_over}
 use Rattle.wq_live.specs.declared.event.RootEvent.{RootEvent}
-use Rattle.wq_query.specs.Query.{PlanData, QueryData}
+use Rattle.wq_query.specs.Query.{QueryData}
+use Rattle.wq_reply.specs.Plan.{PlanData}
 use Rattle.wq_query.specs.Reading.{asks as query_of, cursor_in}
 use Rattle.wq_query.specs.Subscribed.{SubscriptionsArePlain, has_cursor, has_generator, subscribes, without_generators}
 use Rattle.wq_registry.specs.ByName.{ByName}

@@ -5,13 +5,13 @@ use Rattle.serde_json.specs.View.{view as data_of}
 use Rattle.serde_json.specs.declared.value.Value.{Value}
 use Rattle.wq_ask.specs.HandedIn.{AsksHandInValid, HandsInValid}
 use Rattle.wq_ask.specs.Need.{need_of}
-use Rattle.wq_ask.specs.Out.{OutData}
+use Rattle.wq_session.specs.Out.{OutData}
 use Rattle.wq_ask.specs.Reading.{Asks}
 use Rattle.wq_ask.specs.declared.ask.Ask.{Ask}
 use Rattle.wq_ask.specs.declared.ask.Ask.TheVariants.{Alone, OfRoot}
 use Rattle.wq_ask.specs.declared.ask.LoneAsk.TheVariants.{Refused}
 use Rattle.wq_ask.specs.declared.ask.RootAsk.TheVariants.{Query as AsksQuery}
-use Rattle.wq_ask.specs.declared.cursor.Cursor.{Cursor}
+use Rattle.wq_session.specs.declared.cursor.Cursor.{Cursor}
 use Rattle.wq_ask.specs.declared.refusal.Refusal.TheVariants.{NoMemory}
 use Rattle.wq_clock.specs.Instance.{InstanceData}
 use Rattle.wq_clock.specs.Run.{instance_of, run_data}
@@ -21,15 +21,15 @@ use Rattle.wq_crawl.specs.declared.fault.CrawlFault.{CrawlFault}
 use Rattle.wq_follow.specs.Subscription.{SubscriptionData}
 use Rattle.wq_live.specs.Event.{Root}
 use Rattle.wq_live.specs.declared.event.RootEvent.{RootEvent}
-use Rattle.wq_serve.proofs.Reaching.{take_reached, unset_reached}
+use Rattle.wq_session.proofs.Reaching.{take_reached, unset_reached}
 use Rattle.wq_crawl.specs.Basis.{Basis}
 use Rattle.wq_crawl.specs.Ready.{Hears, KnownData, Looks, LooksAfter, Readies}
 use Rattle.wq_crawl.specs.Run.{ShowsAt}
-use Rattle.wq_serve.specs.Serving.{Does, GoesOn, IsAnswered, PlaceData, Serves, stand_at}
+use Rattle.wq_session.specs.Serving.{Does, GoesOn, IsAnswered, PlaceData, Serves, stand_at}
 use Rattle.wq_session.specs.Answer.{AnswersAsk, without_cursor}
 use Rattle.wq_crawl.specs.At.{AtData}
 use Rattle.wq_session.specs.At.{ShelfNow}
-use Rattle.wq_session.specs.Begun.{begun}
+use Rattle.wq_session.specs.Begun.{taken_ask}
 use Rattle.wq_session.specs.Desk.{AnswersShelf, StandData}
 use Rattle.wq_session.specs.Reached.{IsReached, ReachedProgramsAreValid}
 use Rattle.wq_crawl.specs.Views.{ReadyData}
@@ -67,8 +67,8 @@ sees_of_look basis root before after at (roots, inl (begins, shows, published)) 
 sees_of_look basis root before after at (roots, inr (same, unseen, refused)) = inr (unseen, subst basis.refused (sym same) refused)
 
 -- a shelf that an answer leaves is reached
-begun_reached : (ask : Ask) (at : Option AtData) (shelf : ShelfNow) → HandsInValid ask → IsReached shelf → IsReached (begun ask at shelf).shelf
-begun_reached ask at shelf valid reached = take_reached ask at shelf (begun ask at shelf).shelf (begun ask at shelf).work valid (inl refl) reached
+begun_reached : (ask : Ask) (at : Option AtData) (shelf : ShelfNow) → HandsInValid ask → IsReached shelf → IsReached (taken_ask ask at shelf).shelf
+begun_reached ask at shelf valid reached = take_reached ask at shelf (taken_ask ask at shelf).shelf (taken_ask ask at shelf).work valid (inl refl) reached
 
 unset_stays : (cursor : Option Cursor) (shelf : ShelfNow) → IsReached shelf → IsReached (without_cursor cursor shelf)
 unset_stays None shelf reached = reached
@@ -79,7 +79,7 @@ answer_reached : (ask : Ask) (at : Option AtData) (shelf after : ShelfNow) (foll
 answer_reached ask at shelf after follows left out valid (inl is) reached = subst IsReached (ap (λ a. a.shelf) is) (begun_reached ask at shelf valid reached)
 answer_reached ask at shelf after follows left out valid (inr (inl (takes, is, same, stays))) reached = subst IsReached (sym same) reached
 answer_reached ask at shelf after follows left out valid (inr (inr (plan, cursor, work, is, unset, stays))) reached =
-    subst IsReached (sym unset) (unset_stays cursor (begun ask at shelf).shelf (begun_reached ask at shelf valid reached))
+    subst IsReached (sym unset) (unset_stays cursor (taken_ask ask at shelf).shelf (begun_reached ask at shelf valid reached))
 
 shelf_reached : (shown after : Option ShelfNow) (ask : Ask) (at : Option AtData) (follows left : List SubscriptionData) (out : OutData) → HandsInValid ask
     → AnswersShelf shown follows ask at out after left → IfSome shown IsReached → IfSome after IsReached

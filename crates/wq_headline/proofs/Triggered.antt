@@ -9,14 +9,14 @@ use Rattle.serde_json.specs.View.{view as data_of}
 use Rattle.wq_base.proofs.Fault.{or_its_fault-ok, or_own_fault-ok, unless_fault-ok}
 use Rattle.wq_crawl.specs.Need.{NeedData, crawl as crawl_of, look, none, unwatch, watch}
 use Rattle.wq_ask.specs.Need.{need_of}
-use Rattle.wq_ask.specs.Out.{OutData}
+use Rattle.wq_session.specs.Out.{OutData}
 use Rattle.wq_ask.specs.declared.ask.Ask.{Ask}
 use Rattle.wq_ask.specs.declared.ask.Ask.TheVariants.{Alone, OfRoot, OfShelf, Unwatch, Watch}
 use Rattle.wq_ask.specs.declared.ask.RootAsk.{RootAsk}
-use Rattle.wq_ask.specs.declared.ask.RootAsk.TheVariants.{AddTrigger, Clock, DeleteTrigger, ListTriggers, Query as AsksQuery, Subscribe, Unsubscribe}
+use Rattle.wq_ask.specs.declared.ask.RootAsk.TheVariants.{AddTrigger, DeleteTrigger, Query as AsksQuery, Reads as ReadsRoot, Subscribe, Unsubscribe}
 use Rattle.wq_ask.specs.declared.ask.ShelfAsk.{ShelfAsk}
-use Rattle.wq_ask.specs.declared.ask.ShelfAsk.TheVariants.{AddProgram, DeleteProgram, ListPrograms, ListRoots, SocketName}
-use Rattle.wq_ask.specs.declared.cursor.Cursor.{Cursor}
+use Rattle.wq_ask.specs.declared.ask.ShelfAsk.TheVariants.{AddProgram, DeleteProgram, Reads as ReadsShelf}
+use Rattle.wq_session.specs.declared.cursor.Cursor.{Cursor}
 use Rattle.wq_ask.specs.declared.refusal.Refusal.{Refusal}
 use Rattle.wq_clock.specs.Instance.{InstanceData}
 use Rattle.wq_clock.specs.Run.{RunData, instance_of}
@@ -243,20 +243,17 @@ module _ (run : RunData) where
           by (Ok definition) is = made definition is (program_for definition.query shelf)
 
       there_fit : (what : RootAsk) (root : List ℕ) (at : AtData) (shelf : ShelfNow) → IsPlaced (Some at) → AllByRecursion Fits (there_calls what root at shelf)
+      there_fit (ReadsRoot what) root at shelf placed = tt
       there_fit (AsksQuery q) root at shelf placed = shown_fit at.instance at.view (data_of q)
-      there_fit Clock root at shelf placed = tt
       there_fit (Subscribe name q) root at shelf placed = tt
       there_fit (Unsubscribe name) root at shelf placed = tt
       there_fit (AddTrigger t) root at shelf placed = defined_fit root at.instance (data_of t) shelf placed
-      there_fit ListTriggers root at shelf placed = tt
       there_fit (DeleteTrigger name) root at shelf placed = (tt, tt)
 
       shelf_fit : (what : ShelfAsk) → AllByRecursion Fits (shelf_calls what)
       shelf_fit (AddProgram name program) = (tt, tt)
       shelf_fit (DeleteProgram name) = (tt, tt)
-      shelf_fit ListRoots = tt
-      shelf_fit SocketName = tt
-      shelf_fit ListPrograms = tt
+      shelf_fit (ReadsShelf what) = tt
 
       calls_fit : (ask : Ask) (at : Option AtData) (shelf : ShelfNow) → IsPlaced at → AllByRecursion Fits (calls_of ask at shelf)
       calls_fit (OfShelf what) at shelf placed = shelf_fit what

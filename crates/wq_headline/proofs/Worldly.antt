@@ -6,13 +6,13 @@ use Rattle.serde_json.specs.declared.value.Value.{Value}
 use Rattle.wq_ask.specs.Argument.{queries}
 use Rattle.wq_crawl.specs.Need.{crawl as crawl_of, none}
 use Rattle.wq_ask.specs.Need.{need_of}
-use Rattle.wq_ask.specs.Out.{OutData, runs_out}
+use Rattle.wq_session.specs.Out.{OutData, runs_out}
 use Rattle.wq_ask.specs.Query.{IsQuerying}
 use Rattle.wq_ask.specs.Reading.{Asks, IsRequested, requested}
 use Rattle.wq_ask.specs.declared.ask.Ask.{Ask}
 use Rattle.wq_ask.specs.declared.ask.Ask.TheVariants.{Alone, OfRoot, OfShelf, Unwatch, Watch}
 use Rattle.wq_ask.specs.declared.ask.LoneAsk.TheVariants.{Refused}
-use Rattle.wq_ask.specs.declared.ask.RootAsk.TheVariants.{AddTrigger, Clock, DeleteTrigger, ListTriggers, Query as AsksQuery, Subscribe, Unsubscribe}
+use Rattle.wq_ask.specs.declared.ask.RootAsk.TheVariants.{AddTrigger, DeleteTrigger, Query as AsksQuery, Reads, Subscribe, Unsubscribe}
 use Rattle.wq_ask.specs.declared.refusal.Refusal.TheVariants.{NoMemory}
 use Rattle.wq_clock.specs.Run.{RunData}
 use Rattle.wq_code.specs.declared.raw.Raw.{Raw}
@@ -45,11 +45,10 @@ query_asked : (root : List ℕ) (crawl : Bool) (d : Data) (ask : Ask) → IsQuer
     → (q : Value) × (ask ≡ OfRoot root crawl (AsksQuery q)) × (data_of q ≡ d)
 query_asked root crawl d (OfRoot r c (AsksQuery q)) (same, first, is) =
     (q, ap (λ x. OfRoot x c (AsksQuery q)) same ∙ ap (λ x. OfRoot root x (AsksQuery q)) first, is)
-query_asked root crawl d (OfRoot r c Clock) other = absurd other
+query_asked root crawl d (OfRoot r c (Reads what)) other = absurd other
 query_asked root crawl d (OfRoot r c (Subscribe name q)) other = absurd other
 query_asked root crawl d (OfRoot r c (Unsubscribe name)) other = absurd other
 query_asked root crawl d (OfRoot r c (AddTrigger t)) other = absurd other
-query_asked root crawl d (OfRoot r c ListTriggers) other = absurd other
 query_asked root crawl d (OfRoot r c (DeleteTrigger name)) other = absurd other
 query_asked root crawl d (Watch r) other = absurd other
 query_asked root crawl d (Unwatch r) other = absurd other

@@ -14,10 +14,10 @@ use Rattle.wq_replay.specs.Playing.{Runs, sent_to}
 use Rattle.wq_replay.specs.World.{WorldData, HappeningData, SentData, crawl, watching, asked, idle}
 use Rattle.wq_crawl.specs.Basis.{Basis}
 use Rattle.wq_crawl.specs.Ready.{KnownData}
-use Rattle.wq_serve.specs.Serving.{GoesOn, PlaceData, Serves, lines_for, written_for}
+use Rattle.wq_session.specs.Serving.{GoesOn, PlaceData, Serves, lines_for, written_for}
 use Rattle.wq_crawl.specs.Need.{NeedData, none, look, crawl as crawl_of, watch as watch_of, unwatch}
 use Rattle.wq_ask.specs.Need.{need_of}
-use Rattle.wq_ask.specs.Out.{OutData}
+use Rattle.wq_session.specs.Out.{OutData}
 use Rattle.wq_ask.specs.Reading.{Asks}
 use Rattle.wq_ask.specs.declared.ask.Ask.{Ask}
 use Rattle.wq_session.specs.Answer.{answer, giving}

@@ -7,7 +7,7 @@ use mathlib.Core.List.{IsPrefix}
 use mathlib.Core.Logic.{inl, inr}
 use Rattle.serde_json.specs.Data.{Data}
 use Rattle.wq_ask.specs.Argument.{queries}
-use Rattle.wq_ask.specs.Out.{MayRefuse, OutData, refuses, replies, runs_out, silence}
+use Rattle.wq_session.specs.Out.{MayRefuse, OutData, refuses, replies, runs_out, silence}
 use Rattle.wq_ask.specs.Reading.{Asks, requested}
 use Rattle.wq_ask.specs.declared.ask.Ask.{Ask}
 use Rattle.wq_ask.specs.declared.refusal.Refusal.{Refusal}
@@ -21,18 +21,18 @@ use Rattle.wq_live.specs.Event.{number_of, passes_over}
 use Rattle.wq_live.specs.declared.event.RootEvent.{RootEvent}
 use Rattle.wq_query.specs.Query.{QueryData}
 use Rattle.wq_query.specs.Reading.{asks as query_of}
-use Rattle.wq_query.specs.Reply.{reply_of}
+use Rattle.wq_reply.specs.Reply.{reply_of}
 use Rattle.wq_crawl.specs.Meets.{refused_fault}
 use Rattle.wq_replay.specs.Playing.{Happens, Runs, sent_to}
 use Rattle.wq_replay.specs.Valid.{AreAsksOfEvents}
 use Rattle.wq_replay.specs.World.{HappeningData, SentData, WorldData, asked, new_world}
 use Rattle.wq_crawl.specs.Basis.{Basis}
 use Rattle.wq_crawl.specs.Ready.{Hears, KnownData}
-use Rattle.wq_serve.specs.Serving.{EndData, GoesOn, IsServed, PlaceData}
+use Rattle.wq_session.specs.Serving.{EndData, GoesOn, IsServed, PlaceData}
 use Rattle.wq_crawl.specs.At.{AtData}
 use Rattle.wq_session.specs.At.{ShelfNow, watched}
 use Rattle.wq_session.specs.Crawl.{crawl_refusal}
-use Rattle.wq_session.specs.Query.{plan_at, program_for, try_query}
+use Rattle.wq_session.specs.Query.{plan_at, program_for, begun_query}
 use Rattle.wq_session.specs.Reached.{IsReached}
 use Rattle.wq_stream.specs.declared.event.Event.{Event}
 use Rattle.wq_stream.specs.declared.event.Event.TheVariants.{Line, Idle}
@@ -66,7 +66,7 @@ pub record ListsExactly (at : AtData) (shelf : ShelfNow) (d : Data) (out : OutDa
 -- a query is refused, for the first reason that there is at this root and this shelf
 abbrev pub IsRefused : List ℕ → Data → Option AtData → ShelfNow → OutData → Type 0
 IsRefused root d at shelf out = (refusal : Refusal)
-    × (or_fault NotWatched (watched root at shelf) (λ at. try_query d at shelf) ≡ Err refusal)
+    × (or_fault NotWatched (watched root at shelf) (λ at. begun_query d at shelf) ≡ Err refusal)
     × (out ≡ refuses refusal)
 
 -- the reply to a query of a root, at what is looked at there and a shelf: a list, a refusal, or

@@ -6,8 +6,8 @@ use Rattle.serde_json.specs.Find.{get, get_item}
 use Rattle.wq_clock.specs.Instance.{InstanceData}
 use Rattle.wq_compile.specs.Cost.{most_steps_of}
 use Rattle.wq_eval.specs.Cost.{steps_of}
-use Rattle.wq_query.specs.declared.query.Plan.{Plan}
-use Rattle.wq_query.specs.Query.{planned, program_in}
+use Rattle.wq_reply.specs.declared.plan.Plan.{Plan}
+use Rattle.wq_reply.specs.Plan.{planned, program_in}
 use Rattle.wq_query.specs.Reading.{expression_of}
 use Rattle.wq_ask.specs.Reading.{WordsData, value_of, words_of}
 use Rattle.wq_term.specs.Expr.{ExprData}

@@ -15,7 +15,8 @@ use Rattle.wq_follow.specs.Round.{FiredData, Fires, TriggerData, failed, started
 use Rattle.wq_follow.specs.Start.{OrderData, StartData, start_of}
 use Rattle.wq_live.specs.Event.{number_of, passes_over}
 use Rattle.wq_live.specs.declared.event.RootEvent.{RootEvent}
-use Rattle.wq_query.specs.Query.{PlanData, QueryData}
+use Rattle.wq_query.specs.Query.{QueryData}
+use Rattle.wq_reply.specs.Plan.{PlanData}
 use Rattle.wq_query.specs.Reading.{asks as query_of}
 use Rattle.wq_registry.specs.ByName.{ByName}
 use Rattle.wq_registry.specs.Shelf.{triggers_of}

@@ -3,7 +3,7 @@ ghost use Rattle.wq_headline.specs.LineCost.{AnswersAreWithinLines, ExpressionsA
 ghost use Rattle.wq_headline.specs.LineCost.{LinesAreWithin};
 ghost use Rattle.wq_headline.specs.TextBytes.{TextsAreWithin};
 
-use wq_query::plans_keep_measures;
+use wq_reply::plans_keep_measures;
 use wq_term::values_say_what_they_write;
 
 /// The texts of a value take no more bytes than the text that says it.

@@ -12,8 +12,7 @@ use wq_follow::{intervals_adjoin, nothing_is_missed, views_are_reached};
 use wq_live::Named;
 use wq_query::subscriptions_are_plain;
 use wq_replay::programs_are_valid;
-use wq_serve::reached_programs_are_valid;
-use wq_session::answers_are_calls;
+use wq_session::{answers_are_calls, reached_programs_are_valid};
 use wq_verify::{runs_begin_well, steps_go_well};
 
 /// A program that may run, whoever wrote it, gives one answer on each file, within its budget, and

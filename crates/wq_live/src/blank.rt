@@ -3,8 +3,8 @@ ghost use Rattle.std.specs.Prelude.{◌≡◌, ◌<◌, ◌^◌, [], IfOk};
 
 use crate::log::{Head, Log};
 use crate::named::Named;
+use crate::publication::{ShownWriter, show};
 use crate::publisher::Publisher;
-use crate::publishing::{ShownWriter, show};
 use crate::shown::Shown;
 use crate::table::RootTable;
 use left_right::writer::Writer;

@@ -1,6 +1,6 @@
 //! The name of a list of events. It exists in proofs alone. It keeps values of different lists apart.
 
-use crate::refusing::Refused;
+use crate::refused::Refused;
 use crate::shown::Published;
 use std::marker::Brand;
 

@@ -16,7 +16,7 @@ use crate::kept::Note;
 use crate::log::Head;
 use crate::named::Named;
 use crate::patched_pass::PatchedPass;
-use crate::publishing::{ShownWriter, show};
+use crate::publication::{ShownWriter, show};
 use crate::seat::{Look, Seat, Told};
 use crate::shown::Next;
 use crate::table::{RootTable, StartFault};

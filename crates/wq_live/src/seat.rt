@@ -10,7 +10,7 @@ ghost use Rattle.wq_live.specs.Table.{IsTableOf};
 
 use crate::log::Log;
 use crate::named::Named;
-use crate::refusing::{SeatReader, SeatReading, enter};
+use crate::refused::{SeatReader, SeatReading, enter};
 use crate::shown::Shown;
 use crate::table::RootTable;
 use std::alloc::AllocError;

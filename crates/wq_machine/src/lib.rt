@@ -8,13 +8,13 @@
 
 mod ahead;
 mod execute;
-mod finding;
 mod load;
 mod machine;
 mod operand;
 mod slot;
 mod stack;
 mod text;
+mod text_test;
 
 pub use machine::{Verdict, run, run_in};
 pub use slot::Stack;

@@ -1,6 +1,6 @@
 -- A value asks exactly the query that the grammar has written by it.
 use Rattle.std.proofs.Common.{◌≡◌, ℕ, ℤ, Bool, true, false, not, ◌&&◌, ◌||◌, List, [], ◌∷◌, codes, Option}
-use Rattle.std.specs.Prelude.{◌⊎◌}
+use Rattle.std.specs.Prelude.{◌⊎◌, if◌then◌else◌}
 use Rattle.std.proofs.Common.{Some, None, option_map, Result, Ok, Err, refl, sym, ap, subst, ◌∙◌, inl, inr}
 use Rattle.std.specs.Option.{MatchOption, is_some, option_and_then}
 use Rattle.std.specs.Result.{result_ok}
@@ -8,7 +8,7 @@ use Rattle.std.specs.List.{AllByRecursion}
 use Rattle.std.proofs.lemmas.Option.{same_Some}
 use Rattle.serde_json.specs.Data.{Data, boolean, string, array, Items, no_items, item}
 use Rattle.serde_json.specs.Find.{get, as_bool}
-use Rattle.wq_base.specs.Fault.{is_true, or_fault, or_its_fault, or_own_fault, unless_fault}
+use Rattle.wq_base.specs.Fault.{is_true}
 use Rattle.wq_base.proofs.Fault.{or_fault-ok, or_its_fault-ok, or_own_fault-ok, unless_fault-ok, with_first-some}
 use Rattle.wq_base.proofs.Named.{named-name}
 use Rattle.wq_clock.specs.Instance.{InstanceData}
@@ -17,26 +17,24 @@ use Rattle.wq_clock.specs.Spelling.{IsClockSpelling}
 use Rattle.wq_clock.specs.Law.{TextsSayWhatTheySpell}
 use Rattle.wq_clock.specs.declared.bound.Bound.{Bound}
 use Rattle.wq_clock.specs.declared.bound.Bound.TheVariants.{Fresh}
-use Rattle.wq_gen.specs.declared.generators.PathGen.{PathGen}
-use Rattle.wq_glob.specs.Pattern.{PatternData}
+use Rattle.wq_term.specs.declared.generators.PathGen.{PathGen}
 use Rattle.wq_term.specs.Argument.{bound_in, texts_of, whole_number_of}
 use Rattle.wq_term.proofs.ArgumentGrammar.{mapped, texts-found, texts-reads}
 use Rattle.wq_term.specs.Expr.{ExprData, always}
 use Rattle.wq_term.specs.Law.{BoundsSayWhatTheyWrite, NumbersSayWhatTheyWrite}
 use Rattle.wq_term.specs.Law.{ValuesSayWhatTheyWrite}
 use Rattle.wq_term.specs.ArgumentGrammar.{IsWhole}
-use Rattle.wq_query.specs.declared.fault.QueryFault.{QueryFault}
-use Rattle.wq_query.specs.declared.fault.QueryFault.TheVariants.{LeftOutKey, ExpressionAndProgram, Expression}
-use Rattle.wq_query.specs.declared.fault.QueryFault.TheVariants.{UnknownField, BadGenerator}
-use Rattle.wq_query.specs.declared.fault.QueryFault.TheVariants.{BadClockSpec, WrongValue}
 use Rattle.wq_query.specs.declared.field.Field.{Field}
-use Rattle.wq_query.specs.declared.field.Field.TheVariants.{Name, Exists, New, Size, Kind, Cclock}
-use Rattle.wq_query.specs.declared.field.Field.TheVariants.{Oclock, Mtime, MtimeMs}
+use Rattle.wq_query.specs.declared.field.Field.TheVariants.{Name}
 use Rattle.wq_query.specs.Field.{field_name, field_named, fields, default_fields}
 use Rattle.wq_query.specs.Query.{QueryData, SinceData, at_bound, at_cursor}
 use Rattle.wq_query.specs.Reading.{asks, left_out_keys, has_key_of, has_left_out_key, is_plain_case}
 use Rattle.wq_query.specs.Reading.{expression_of, field_of, fields_in, fields_of, since_of, flag_of}
-use Rattle.wq_query.specs.Reading.{is_flag_or_absent, is_whole_or_absent, has_both, cursor_in, spec_cursor, since_from, program_name}
+use Rattle.wq_query.specs.declared.fault.QueryFault.TheVariants.{LeftOutKey, ExpressionAndProgram, Expression}
+use Rattle.wq_query.specs.declared.fault.QueryFault.TheVariants.{UnknownField, BadGenerator}
+use Rattle.wq_query.specs.declared.fault.QueryFault.TheVariants.{BadClockSpec, WrongValue}
+use Rattle.wq_query.specs.declared.options.Options.{Options}
+use Rattle.wq_query.specs.Reading.{is_flag_or_absent, is_whole_or_absent, options_of, with_flag, has_both, cursor_in, spec_cursor, since_from, program_name}
 use Rattle.wq_query.specs.Generator.{suffixes_of, paths_in, paths_of}
 use Rattle.wq_query.specs.Glob.{glob_flags, globs_of}
 use Rattle.wq_query.specs.Grammar.{IsExpression, AreNamed, AreFields, AreSuffixes, ArePaths, IsCursor}
@@ -119,14 +117,7 @@ field-found _ field e = cc
 pub field-reads : (field : Field) → field_of (string (field_name field)) ≡ Some field
 unfolding field_named
 field-reads Name = refl
-field-reads Exists = refl
-field-reads New = refl
-field-reads Size = refl
-field-reads Kind = refl
-field-reads Cclock = refl
-field-reads Oclock = refl
-field-reads Mtime = refl
-field-reads MtimeMs = refl
+field-reads _ = refl
 
 -- the fields of a list
 named-found : (ds : Items) (fs : List Field) → fields_in ds ≡ Some fs → AreNamed fs ds
@@ -298,102 +289,41 @@ whole-reads : NumbersSayWhatTheyWrite → (o : Option Data)
 whole-reads law None h = refl
 whole-reads law (Some d) h = ap is_some ((law h.0 d).1 h.1)
 
--- the query whose keys say this
-abbrev pub with_keys : ExprData → List Field → Option (List (List ℕ)) → Option (List PathGen)
-    → Option (List PatternData) → SinceData → Option (List ℕ) → Bool → QueryData
-with_keys t fs suffix path glob since program flag = record {
-  expression = t;
-  program = program;
-  fields = fs;
-  since = since;
-  suffix = suffix;
-  path = path;
-  glob = glob;
-  empty_on_fresh_instance = flag;
-}
-
--- the chain of faults from `sync_timeout` on
-abbrev pub from_whole : Data → QueryData → Result QueryData QueryFault
-from_whole d query = unless_fault WrongValue (is_whole_or_absent (get (codes "sync_timeout") d)) (Ok query)
-
--- from `glob_includedotfiles` on
-abbrev pub from_dotfiles : Data → QueryData → Result QueryData QueryFault
-from_dotfiles d query =
-    unless_fault WrongValue (is_flag_or_absent (get (codes "glob_includedotfiles") d)) (from_whole d query)
-
--- from `empty_on_fresh_instance` on
-abbrev pub from_flag : Data → ExprData → List Field → Option (List (List ℕ))
-    → Option (List PathGen) → Option (List PatternData) → SinceData → Option (List ℕ) → Result QueryData QueryFault
-from_flag d t fs suffix path glob since program =
-    or_fault WrongValue (flag_of (get (codes "empty_on_fresh_instance") d)) (λ flag.
-    from_dotfiles d (with_keys t fs suffix path glob since program flag))
-
--- from `program` on
-abbrev pub from_program : Data → ExprData → List Field → Option (List (List ℕ))
-    → Option (List PathGen) → Option (List PatternData) → SinceData → Result QueryData QueryFault
-from_program d t fs suffix path glob since =
-    or_fault WrongValue (program_name (get (codes "program") d)) (λ program.
-    from_flag d t fs suffix path glob since program)
-
--- from `since` on
-abbrev pub from_since : InstanceData → Data → ExprData → List Field → Option (List (List ℕ))
-    → Option (List PathGen) → Option (List PatternData) → Result QueryData QueryFault
-from_since instance d t fs suffix path glob =
-    or_fault BadClockSpec (since_of instance (get (codes "since") d)) (λ since.
-    from_program d t fs suffix path glob since)
-
--- from `glob` on
-abbrev pub after_paths : InstanceData → Data → ExprData → List Field → Option (List (List ℕ))
-    → Option (List PathGen) → Result QueryData QueryFault
-after_paths instance d t fs suffix path =
-    or_own_fault (globs_of (glob_flags (get (codes "glob_includedotfiles") d)) (get (codes "glob") d)) (λ glob.
-    from_since instance d t fs suffix path glob)
-
--- from `path` on
-abbrev pub from_path : InstanceData → Data → ExprData → List Field → Option (List (List ℕ))
-    → Result QueryData QueryFault
-from_path instance d t fs suffix =
-    or_fault BadGenerator (paths_of (get (codes "path") d)) (λ path. after_paths instance d t fs suffix path)
-
--- from `suffix` on
-abbrev pub from_suffix : InstanceData → Data → ExprData → List Field → Result QueryData QueryFault
-from_suffix instance d t fs =
-    or_fault BadGenerator (suffixes_of (get (codes "suffix") d)) (λ suffix. from_path instance d t fs suffix)
-
--- from `fields` on
-abbrev pub from_fields : InstanceData → Data → ExprData → Result QueryData QueryFault
-from_fields instance d t =
-    or_fault UnknownField (fields_of (get (codes "fields") d)) (λ fs. from_suffix instance d t fs)
-
--- from `expression` on
-abbrev pub from_expression : InstanceData → Data → Result QueryData QueryFault
-from_expression instance d =
-    or_its_fault Expression (expression_of instance (get (codes "expression") d)) (λ t. from_fields instance d t)
-
--- from the two keys that exclude each other on
-abbrev pub from_both : InstanceData → Data → Result QueryData QueryFault
-from_both instance d = unless_fault ExpressionAndProgram (not (has_both d)) (from_expression instance d)
+-- options that are read, by the values of their keys
+options-found : {P : Type 0} (d : Data) (options : Options) → options_of d ≡ Some options
+    → ((flag : Bool) → flag_of (get (codes "empty_on_fresh_instance") d) ≡ Some flag
+    → is_flag_or_absent (get (codes "glob_includedotfiles") d) ≡ true
+    → is_whole_or_absent (get (codes "sync_timeout") d) ≡ true → flag ≡ options.empty_on_fresh_instance → P) → P
+options-found {P} d options e goal =
+    by (is_flag_or_absent (get (codes "glob_includedotfiles") d)) (is_whole_or_absent (get (codes "sync_timeout") d))
+    (flag_of (get (codes "empty_on_fresh_instance") d)) refl refl refl e
+  where
+    by : (dotted whole : Bool) (on : Option Bool) → is_flag_or_absent (get (codes "glob_includedotfiles") d) ≡ dotted
+        → is_whole_or_absent (get (codes "sync_timeout") d) ≡ whole
+        → flag_of (get (codes "empty_on_fresh_instance") d) ≡ on
+        → (if dotted && whole then option_map with_flag on else None) ≡ Some options → P
+    by true true (Some flag) dots times on h =
+        goal flag on dots times (ap (λ o. o.empty_on_fresh_instance) (same_Some (with_flag flag) options h))
+    by true true None dots times on h = absurd (none_or_some options h)
+    by true false on dots times said h = absurd (none_or_some options h)
+    by false whole on dots times said h = absurd (none_or_some options h)
 
 -- a query that is asked is written
 found : ValuesSayWhatTheyWrite → BoundsSayWhatTheyWrite → TextsSayWhatTheySpell → NumbersSayWhatTheyWrite
     → (instance : InstanceData) (query : QueryData) (d : Data) → asks instance d ≡ Ok query
     → IsWrittenBy instance query d
 found values bounds texts numbers instance query d e =
-    unless_fault-ok LeftOutKey (not (has_left_out_key d)) (from_both instance d) query e (λ none e0.
-    unless_fault-ok ExpressionAndProgram (not (has_both d)) (from_expression instance d) query e0 (λ one e1.
-    or_its_fault-ok Expression (expression_of instance (get (codes "expression") d)) (λ t. from_fields instance d t) query e1 (λ t said e2.
-    or_fault-ok UnknownField (fields_of (get (codes "fields") d)) (λ fs. from_suffix instance d t fs) query e2 (λ fs named e3.
-    or_fault-ok BadGenerator (suffixes_of (get (codes "suffix") d)) (λ suffix. from_path instance d t fs suffix) query e3 (λ suffix ends e4.
-    or_fault-ok BadGenerator (paths_of (get (codes "path") d)) (λ path. after_paths instance d t fs suffix path) query e4 (λ path stands e5.
-    or_own_fault-ok (globs_of (glob_flags (get (codes "glob_includedotfiles") d)) (get (codes "glob") d)) (λ glob. from_since instance d t fs suffix path glob) query e5 (λ glob fits e6.
-    or_fault-ok BadClockSpec (since_of instance (get (codes "since") d)) (λ since. from_program d t fs suffix path glob since) query e6 (λ since sets e7.
-    or_fault-ok WrongValue (program_name (get (codes "program") d)) (λ program. from_flag d t fs suffix path glob since program) query e7 (λ program called e8.
-    or_fault-ok WrongValue (flag_of (get (codes "empty_on_fresh_instance") d)) (λ flag.
-    from_dotfiles d (with_keys t fs suffix path glob since program flag)) query e8 (λ flag on e9.
-    unless_fault-ok WrongValue (is_flag_or_absent (get (codes "glob_includedotfiles") d))
-    (from_whole d (with_keys t fs suffix path glob since program flag)) query e9 (λ dotted e10.
-    unless_fault-ok WrongValue (is_whole_or_absent (get (codes "sync_timeout") d))
-    (Ok (with_keys t fs suffix path glob since program flag)) query e10 (λ whole is.
+    unless_fault-ok _ _ _ query e (λ none e0.
+    unless_fault-ok _ _ _ query e0 (λ one e1.
+    or_its_fault-ok _ _ _ query e1 (λ t said e2.
+    or_fault-ok _ _ _ query e2 (λ fs named e3.
+    or_fault-ok _ _ _ query e3 (λ suffix ends e4.
+    or_fault-ok _ _ _ query e4 (λ path stands e5.
+    or_own_fault-ok _ _ query e5 (λ glob fits e6.
+    or_fault-ok _ _ _ query e6 (λ since sets e7.
+    or_fault-ok _ _ _ query e7 (λ program called e8.
+    or_fault-ok _ _ _ query e8 (λ options wishes is.
+    options-found d options wishes (λ flag on dotted whole same.
     let parts = neither (has_key_of left_out_keys d) (is_plain_case (get (codes "case_sensitive") d)) none in
     subst (λ q. IsWrittenBy instance q d) (same_Ok _ query is) (record {
       none_left_out = none-found left_out_keys d parts.0;
@@ -406,10 +336,26 @@ found values bounds texts numbers instance query d e =
       path = path-found (get (codes "path") d) path stands;
       glob = glob-found (glob_flags (get (codes "glob_includedotfiles") d)) (get (codes "glob") d) glob fits;
       since = since-found bounds texts instance (get (codes "since") d) since sets;
-      empty_on_fresh_instance = flag-found (get (codes "empty_on_fresh_instance") d) flag on;
+      empty_on_fresh_instance = flag-found (get (codes "empty_on_fresh_instance") d) options.empty_on_fresh_instance (on ∙ ap Some same);
       glob_includedotfiles = dotfiles-found (get (codes "glob_includedotfiles") d) dotted;
       sync_timeout = whole-found numbers (get (codes "sync_timeout") d) whole;
-    })))))))))))))
+    }))))))))))))
+
+-- a query has the expression that its object says
+pub expression_asked : (instance : InstanceData) (d : Data) (query : QueryData) → asks instance d ≡ Ok query
+    → expression_of instance (get (codes "expression") d) ≡ Ok query.expression
+expression_asked instance d query e =
+    unless_fault-ok LeftOutKey (not (has_left_out_key d)) _ query e (λ none e0.
+    unless_fault-ok ExpressionAndProgram (not (has_both d)) _ query e0 (λ one e1.
+    or_its_fault-ok Expression (expression_of instance (get (codes "expression") d)) _ query e1 (λ t said e2.
+    or_fault-ok UnknownField (fields_of (get (codes "fields") d)) _ query e2 (λ fs named e3.
+    or_fault-ok BadGenerator (suffixes_of (get (codes "suffix") d)) _ query e3 (λ suffix ends e4.
+    or_fault-ok BadGenerator (paths_of (get (codes "path") d)) _ query e4 (λ path stands e5.
+    or_own_fault-ok (globs_of (glob_flags (get (codes "glob_includedotfiles") d)) (get (codes "glob") d)) _ query e5 (λ glob fits e6.
+    or_fault-ok BadClockSpec (since_of instance (get (codes "since") d)) _ query e6 (λ since sets e7.
+    or_fault-ok WrongValue (program_name (get (codes "program") d)) _ query e7 (λ program called e8.
+    or_fault-ok WrongValue (options_of d) _ query e8 (λ options wishes is.
+    said ∙ ap (λ q. Ok q.expression) (same_Ok _ query is)))))))))))
 
 -- a query that is written is asked
 reads : ValuesSayWhatTheyWrite → BoundsSayWhatTheyWrite → TextsSayWhatTheySpell → NumbersSayWhatTheyWrite
@@ -426,7 +372,7 @@ reads values bounds texts numbers instance query d h =
     let stands = path-reads (get (codes "path") d) query.path h.path in
     let fits = glob-reads (glob_flags (get (codes "glob_includedotfiles") d)) (get (codes "glob") d) query.glob h.glob in
     let sets = since-reads bounds texts instance (get (codes "since") d) query.since h.since in
-    let on = flag-reads (get (codes "empty_on_fresh_instance") d) query.empty_on_fresh_instance h.empty_on_fresh_instance in
+    let on = flag-reads (get (codes "empty_on_fresh_instance") d) (query.options).empty_on_fresh_instance h.empty_on_fresh_instance in
     let dotted = dotfiles-reads (get (codes "glob_includedotfiles") d) h.glob_includedotfiles in
     let whole = whole-reads numbers (get (codes "sync_timeout") d) h.sync_timeout in
     let allowed : has_left_out_key d ≡ false =

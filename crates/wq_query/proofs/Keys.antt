@@ -1,7 +1,6 @@
 -- The query that is asked, from the values of its keys.
-use Rattle.std.proofs.Common.{◌≡◌, ℕ, Bool, true, false, ◌==◌, List, [], ◌∷◌, length, codes}
-use Rattle.std.proofs.Common.{Option, Some, None, is_some, Result, Ok, Err, Vec, refl, sym, ap, subst, ◌∙◌}
-use Rattle.std.specs.Prelude.{◌&&◌, if◌then◌else◌}
+use Rattle.std.proofs.Common.{◌≡◌, ℕ, true, false, ◌==◌, List, [], ◌∷◌, length, codes}
+use Rattle.std.proofs.Common.{Option, Some, None, Result, Ok, Err, Vec, refl, sym, ap, subst}
 use mathlib.Core.Bool.{false≢true}
 use Rattle.std.specs.declared.alloc.Global.{Global}
 use Rattle.serde_json.specs.Data.{Data, null, boolean, number, string, array, object, Items}
@@ -9,11 +8,11 @@ use Rattle.serde_json.specs.Find.{get, as_array}
 use Rattle.std.proofs.lemmas.Option.{same_Some}
 use Rattle.serde_json.specs.View.{items_view}
 use Rattle.serde_json.specs.declared.value.Value.{Value}
-use Rattle.wq_base.specs.Fault.{unless_fault}
 use Rattle.wq_clock.specs.Instance.{InstanceData}
-use Rattle.wq_gen.specs.declared.generators.PathGen.{PathGen}
+use Rattle.wq_term.specs.declared.generators.PathGen.{PathGen}
 use Rattle.wq_glob.specs.Pattern.{PatternData}
-use Rattle.wq_term.specs.Expr.{ExprData}
+use Rattle.wq_term.specs.Expr.{ExprData, always}
+use Rattle.wq_term.specs.Fits.{expr_fits}
 use Rattle.wq_query.specs.declared.fault.QueryFault.{QueryFault}
 use Rattle.wq_query.specs.declared.fault.QueryFault.TheVariants.{LeftOutKey, ExpressionAndProgram}
 use Rattle.wq_query.specs.declared.fault.QueryFault.TheVariants.{Expression, UnknownField}
@@ -21,11 +20,17 @@ use Rattle.wq_query.specs.declared.fault.QueryFault.TheVariants.{BadGenerator, P
 use Rattle.wq_query.specs.declared.fault.QueryFault.TheVariants.{WrongValue, NoMemory}
 use Rattle.wq_query.specs.Query.{SinceData}
 use Rattle.wq_query.specs.declared.field.Field.{Field}
+use Rattle.wq_query.specs.declared.options.Options.{Options}
 use Rattle.wq_query.specs.Generator.{suffixes_of, paths_of}
 use Rattle.wq_query.specs.Glob.{glob_flags, globs_of}
 use Rattle.wq_query.specs.Outcome.{GivesQuery, GivesFields, GivesGlobs, GivesProgram, GivesSince}
 use Rattle.wq_query.specs.Reading.{asks, has_both, has_left_out_key, expression_of, fields_in}
-use Rattle.wq_query.specs.Reading.{fields_of, since_of, program_name, flag_of, is_flag_or_absent, is_whole_or_absent, last_of}
+use Rattle.wq_query.specs.Reading.{fields_of, since_of, program_name, options_of}
+
+-- the expression of a query that has none keeps the limits
+pub always_fits : expr_fits always ≡ true
+unfolding expr_fits
+always_fits = refl
 
 module _ (instance : InstanceData) (d : Data) (t : ExprData) (fields : List Field) (suffix : Option (List (List ℕ)))
     (path : Option (List PathGen)) (none : has_left_out_key d ≡ false) (one : has_both d ≡ false)
@@ -77,43 +82,12 @@ module _ (instance : InstanceData) (d : Data) (t : ExprData) (fields : List Fiel
       asks_unnamed BadClockSpec is = absurd is
 
       module _ (program : Option (List ℕ)) (name : program_name (get (codes "program") d) ≡ Some program) where
-        -- a query whose last values are wrong
-        asks_unflagged : flag_of (get (codes "empty_on_fresh_instance") d) ≡ None → asks instance d ≡ Err WrongValue
-        asks_unflagged said = rw (none, one, expression, named, ends, at, fits, from, name, said) refl
-
-        asks_undotted : (flag : Bool) → flag_of (get (codes "empty_on_fresh_instance") d) ≡ Some flag
-            → is_flag_or_absent (get (codes "glob_includedotfiles") d) ≡ false → asks instance d ≡ Err WrongValue
-        asks_undotted flag said dots = rw (none, one, expression, named, ends, at, fits, from, name, said, dots) refl
-
-        asks_timed : (flag whole : Bool) → flag_of (get (codes "empty_on_fresh_instance") d) ≡ Some flag
-            → is_flag_or_absent (get (codes "glob_includedotfiles") d) ≡ true
-            → is_whole_or_absent (get (codes "sync_timeout") d) ≡ whole
-            → asks instance d ≡ unless_fault WrongValue whole (Ok (record {
-              expression = t;
-              program = program;
-              fields = fields;
-              since = since;
-              suffix = suffix;
-              path = path;
-              glob = glob;
-              empty_on_fresh_instance = flag;
-            }))
-        asks_timed flag whole said dots is = rw (none, one, expression, named, ends, at, fits, from, name, said, dots, is) refl
-
-        pub asks_wrong : last_of d ≡ None → asks instance d ≡ Err WrongValue
-        asks_wrong = by (flag_of (get (codes "empty_on_fresh_instance") d)) (is_flag_or_absent (get (codes "glob_includedotfiles") d)) (is_whole_or_absent (get (codes "sync_timeout") d)) refl refl refl
-          where
-            by : (flag : Option Bool) (dotted whole : Bool) → flag_of (get (codes "empty_on_fresh_instance") d) ≡ flag
-                → is_flag_or_absent (get (codes "glob_includedotfiles") d) ≡ dotted
-                → is_whole_or_absent (get (codes "sync_timeout") d) ≡ whole
-                → (if dotted && whole then flag else None) ≡ None → asks instance d ≡ Err WrongValue
-            by None dotted whole said dots is h = asks_unflagged said
-            by (Some flag) false whole said dots is h = asks_undotted flag said dots
-            by (Some flag) true false said dots is h = asks_timed flag false said dots is
-            by (Some flag) true true said dots is h = absurd (false≢true (sym (ap is_some h)))
+        -- a query whose options are wrong
+        pub asks_wrong : options_of d ≡ None → asks instance d ≡ Err WrongValue
+        asks_wrong said = rw (none, one, expression, named, ends, at, fits, from, name, said) refl
 
         -- a query whose keys say this
-        pub asks_at : (flag : Bool) → last_of d ≡ Some flag
+        pub asks_at : (options : Options) → options_of d ≡ Some options
             → asks instance d ≡ Ok (record {
               expression = t;
               program = program;
@@ -122,27 +96,9 @@ module _ (instance : InstanceData) (d : Data) (t : ExprData) (fields : List Fiel
               suffix = suffix;
               path = path;
               glob = glob;
-              empty_on_fresh_instance = flag;
+              options = options;
             })
-        asks_at flag = by (flag_of (get (codes "empty_on_fresh_instance") d)) (is_flag_or_absent (get (codes "glob_includedotfiles") d)) (is_whole_or_absent (get (codes "sync_timeout") d)) refl refl refl
-          where
-            by : (said : Option Bool) (dotted whole : Bool) → flag_of (get (codes "empty_on_fresh_instance") d) ≡ said
-                → is_flag_or_absent (get (codes "glob_includedotfiles") d) ≡ dotted
-                → is_whole_or_absent (get (codes "sync_timeout") d) ≡ whole
-                → (if dotted && whole then said else None) ≡ Some flag
-                → asks instance d ≡ Ok (record {
-                  expression = t;
-                  program = program;
-                  fields = fields;
-                  since = since;
-                  suffix = suffix;
-                  path = path;
-                  glob = glob;
-                  empty_on_fresh_instance = flag;
-                })
-            by said false whole said_is dots is h = absurd (false≢true (ap is_some h))
-            by said true false said_is dots is h = absurd (false≢true (ap is_some h))
-            by said true true said_is dots is h = asks_timed flag true (said_is ∙ h) dots is
+        asks_at options said = rw (none, one, expression, named, ends, at, fits, from, name, said) refl
 
 -- a value that has items is their array
 array_from : (d : Data) (ds : Items) → Some ds ≡ as_array d → d ≡ array ds

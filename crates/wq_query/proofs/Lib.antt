@@ -2,11 +2,5 @@ pub mod Names
 mod Keys
 mod Paths
 mod Globs
-mod Grammar
-mod Order
-mod Tokens
-mod RowTexts
-mod Places
+pub mod Grammar
 mod Subscribed
-mod Longs
-mod WrittenRows

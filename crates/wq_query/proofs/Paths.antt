@@ -9,7 +9,7 @@ use Rattle.serde_json.specs.Data.{Items, no_items, item}
 use Rattle.serde_json.specs.Find.{get}
 use Rattle.wq_base.specs.Limit.{max_number}
 use Rattle.wq_base.proofs.Fault.{with_first-some}
-use Rattle.wq_gen.specs.declared.generators.PathGen.{PathGen}
+use Rattle.wq_term.specs.declared.generators.PathGen.{PathGen}
 use Rattle.wq_term.specs.Argument.{text_of}
 use Rattle.wq_term.specs.ArgumentGrammar.{IsBetween, IsDirectory}
 use Rattle.wq_term.specs.Text.{without_end_slashes}

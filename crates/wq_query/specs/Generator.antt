@@ -7,7 +7,7 @@ use Rattle.serde_json.specs.Data.{Data, string, array, Items, no_items, item}
 use Rattle.serde_json.specs.Find.{get}
 use Rattle.wq_base.specs.Fault.{with_first}
 use Rattle.wq_base.specs.Limit.{max_number}
-use Rattle.wq_gen.specs.declared.generators.PathGen.{PathGen}
+use Rattle.wq_term.specs.declared.generators.PathGen.{PathGen}
 use Rattle.wq_term.specs.Argument.{integer_between, text_of, texts_of}
 use Rattle.wq_term.specs.Text.{without_end_slashes}
 

@@ -12,7 +12,7 @@ use Rattle.wq_clock.specs.Instance.{InstanceData}
 use Rattle.wq_clock.specs.ClockSpec.{named_cursor}
 use Rattle.wq_clock.specs.Spelling.{IsClockSpelling}
 use Rattle.wq_clock.specs.declared.bound.Bound.TheVariants.{Fresh}
-use Rattle.wq_gen.specs.declared.generators.PathGen.{PathGen}
+use Rattle.wq_term.specs.declared.generators.PathGen.{PathGen}
 use Rattle.wq_glob.specs.Limit.{max_pattern_length}
 use Rattle.wq_glob.specs.Pattern.{PatternData}
 use Rattle.wq_glob.specs.declared.flag.Flags.{Flags}
@@ -128,8 +128,8 @@ pub record IsWrittenBy (instance : InstanceData) (query : QueryData) (d : Data) 
       (query.since ≡ at_bound Fresh) (IsSinceKey instance query.since)
   -- a fresh list has all files, or is empty
   pub empty_on_fresh_instance : MatchOption (get (codes "empty_on_fresh_instance") d)
-      (query.empty_on_fresh_instance ≡ false)
-      (λ value. value ≡ boolean query.empty_on_fresh_instance)
+      ((query.options).empty_on_fresh_instance ≡ false)
+      (λ value. value ≡ boolean (query.options).empty_on_fresh_instance)
   -- patterns take dots at the front of names, or do not
   pub glob_includedotfiles : MatchOption (get (codes "glob_includedotfiles") d)
       (Unit {0}) (λ value. (b : Bool) × (value ≡ boolean b))

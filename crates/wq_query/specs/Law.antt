@@ -1,11 +1,8 @@
--- Laws about reading queries and their grammar, and of the cost of plans. No public document
--- defines them.
-use Rattle.std.specs.Prelude.{◌≡◌, ◌↔◌, None, Ok}
+-- The law about reading queries and their grammar. No public document defines it.
+use Rattle.std.specs.Prelude.{◌≡◌, ◌↔◌, Ok}
 use Rattle.serde_json.specs.Data.{Data}
 use Rattle.wq_clock.specs.Instance.{InstanceData}
-use Rattle.wq_query.specs.declared.query.Plan.{Plan}
-use Rattle.wq_query.specs.Meaning.{KeepsMeasure}
-use Rattle.wq_query.specs.Query.{QueryData, planned, program_in}
+use Rattle.wq_query.specs.Query.{QueryData}
 use Rattle.wq_query.specs.Reading.{asks}
 use Rattle.wq_query.specs.Grammar.{IsWrittenBy}
 
@@ -13,9 +10,3 @@ use Rattle.wq_query.specs.Grammar.{IsWrittenBy}
 abbrev pub ValuesAskWhatTheyWrite : Type 0
 ValuesAskWhatTheyWrite = (instance : InstanceData) (query : QueryData) (d : Data)
     → (asks instance d ≡ Ok query) ↔ IsWrittenBy instance query d
-
--- on each record that a view can have, the program of a plan takes no more steps than the measure
--- of its query's expression, unless the query names a program
-abbrev pub PlansKeepMeasures : Type 0
-PlansKeepMeasures = (plan : Plan) → ((planned plan).query).program ≡ None
-    → KeepsMeasure (program_in plan) ((planned plan).query).expression

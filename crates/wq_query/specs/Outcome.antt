@@ -12,7 +12,7 @@ use Rattle.wq_query.specs.declared.fault.QueryFault.TheVariants.{BadClockSpec, W
 use Rattle.wq_query.specs.declared.fault.QueryFault.TheVariants.{PatternTooLong}
 use Rattle.wq_query.specs.declared.field.Field.{Field}
 use Rattle.wq_query.specs.declared.query.Query.{Query}
-use Rattle.wq_query.specs.declared.query.Since.{Since}
+use Rattle.wq_query.specs.declared.query.QuerySince.{QuerySince}
 use Rattle.wq_query.specs.Query.{QueryData, SinceData, asked_of, since_data}
 
 -- the result of the code is this answer, or the memory ran out
@@ -57,7 +57,7 @@ GivesGlobs (Err NoMemory) answer = Unit {0}
 GivesGlobs (Err fault) answer = answer ≡ Err fault
 
 -- the same of the point from which changes are asked for
-abbrev pub GivesSince : Result Since QueryFault → Option SinceData → Type 0
+abbrev pub GivesSince : Result QuerySince QueryFault → Option SinceData → Type 0
 GivesSince (Ok since) answer = answer ≡ Some (since_data since)
 GivesSince (Err BadClockSpec) answer = answer ≡ None
 GivesSince (Err NoMemory) answer = Unit {0}

@@ -24,6 +24,7 @@ use Rattle.wq_query.specs.declared.fault.QueryFault.TheVariants.{Expression}
 use Rattle.wq_query.specs.declared.fault.QueryFault.TheVariants.{UnknownField, BadGenerator}
 use Rattle.wq_query.specs.declared.fault.QueryFault.TheVariants.{BadClockSpec, WrongValue}
 use Rattle.wq_query.specs.declared.field.Field.{Field}
+use Rattle.wq_query.specs.declared.options.Options.{Options}
 use Rattle.wq_query.specs.Field.{field_named, default_fields}
 use Rattle.wq_query.specs.Generator.{suffixes_of, paths_of}
 use Rattle.wq_query.specs.Glob.{glob_flags, globs_of}
@@ -114,13 +115,16 @@ abbrev pub is_whole_or_absent : Option Data → Bool
 is_whole_or_absent None = true
 is_whole_or_absent (Some d) = is_some (whole_number_of d)
 
--- the value of `empty_on_fresh_instance`, if it is right and the values that are tested after it
--- are
-abbrev pub last_of : Data → Option Bool
-last_of d =
+-- the options with this value of `empty_on_fresh_instance`
+abbrev pub with_flag : Bool → Options
+with_flag flag = record { empty_on_fresh_instance = flag }
+
+-- the options, if their keys are right and the keys that are tested with them
+abbrev pub options_of : Data → Option Options
+options_of d =
     if is_flag_or_absent (get (codes "glob_includedotfiles") d)
     && is_whole_or_absent (get (codes "sync_timeout") d)
-    then flag_of (get (codes "empty_on_fresh_instance") d)
+    then option_map with_flag (flag_of (get (codes "empty_on_fresh_instance") d))
     else None
 
 -- the query that an object asks at an instance: its faults are looked for in this order
@@ -136,9 +140,7 @@ asks instance d =
     (get (codes "glob") d)) (λ glob.
     or_fault BadClockSpec (since_of instance (get (codes "since") d)) (λ since.
     or_fault WrongValue (program_name (get (codes "program") d)) (λ program.
-    or_fault WrongValue (flag_of (get (codes "empty_on_fresh_instance") d)) (λ flag.
-    unless_fault WrongValue (is_flag_or_absent (get (codes "glob_includedotfiles") d)) (
-    unless_fault WrongValue (is_whole_or_absent (get (codes "sync_timeout") d)) (
+    or_fault WrongValue (options_of d) (λ options.
     Ok (record {
       expression = expression;
       program = program;
@@ -147,5 +149,5 @@ asks instance d =
       suffix = suffix;
       path = path;
       glob = glob;
-      empty_on_fresh_instance = flag;
-    })))))))))))))
+      options = options;
+    })))))))))))

@@ -1,6 +1,6 @@
 //! Laws about queries, each a function whose contract is the law. A proof of another crate gets a
 //! law by a call, which costs nothing.
-ghost use Rattle.wq_query.specs.Law.{PlansKeepMeasures, ValuesAskWhatTheyWrite};
+ghost use Rattle.wq_query.specs.Law.{ValuesAskWhatTheyWrite};
 ghost use Rattle.wq_query.specs.Subscribed.{SubscriptionsArePlain};
 
 use wq_clock::texts_say_what_they_spell;
@@ -26,9 +26,3 @@ pub fn subscriptions_are_plain()
     texts_say_what_they_spell();
     values_ask_what_they_write();
 }
-
-/// On each file that a view can have, the program of a plan takes no more steps than the measure of
-/// its query's expression, unless the query names a program.
-pub fn plans_keep_measures()
-    ensures { PlansKeepMeasures }
-{}

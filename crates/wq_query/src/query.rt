@@ -1,80 +1,65 @@
-//! A query, read of a JSON object or of that of a subscription, and the plan of its answer.
-ghost use Rattle.std.specs.Prelude.{◌≡◌, IsTrue, Some, None};
+//! A query, read of a JSON object or of that of a subscription.
+ghost use Rattle.std.specs.Prelude.{IsTrue};
 ghost use Rattle.wq_term.specs.Expr.{term_of};
 ghost use Rattle.wq_term.specs.Fits.{expr_fits};
-ghost use Rattle.wq_query.specs.Meaning.{KeepsMeasure, SaysMeaning};
 
-use crate::ahead::Ahead;
-use crate::crew::Alone;
 use crate::fault::QueryFault;
 use crate::field::Field;
-use crate::listing::listed;
-use crate::{generating, globbing, reading, subscription};
+use crate::options::Options;
+use crate::{generator, glob, key, subscription};
 use serde_json::Value;
-use std::alloc::{AllocError, Global};
-use std::snapshot::Snapshot;
-use std::sync::Arc;
+use std::alloc::Global;
 use wq_base::Text;
 use wq_clock::{Bound, Instance};
-use wq_eval::{answers_are_said, answers_are_within};
-use wq_gen::Generators;
-use wq_term::Expr;
-use wq_verify::StoredProgram;
-use wq_view::View;
+use wq_term::{Expr, Generators};
 
 /// The point from which a query asks for changes.
 #[derive(Drop)]
-pub(crate) enum Since {
+pub enum QuerySince {
     /// From a bound.
     Bound(Bound),
     /// From the tick of a cursor: its name, of 1 to 255 bytes.
     Cursor(Text),
 }
 
-/// A client's question to a view: which files it wants, which fields of each, and whether it wants
-/// any if nothing is known to it.
+/// A client's question to a view: which files it wants, which fields of each, and what it wants of
+/// the list.
 #[derive(Drop)]
 pub struct Query {
     pub(crate) expr: Expr,
     /// The name of the program that says which files match, in place of the expression.
     pub(crate) program: Option<Text>,
     pub(crate) fields: Vec<Field>,
-    pub(crate) since: Since,
-    /// Its suffixes, paths and patterns. Their bound is the one of the plan, once there is one.
+    pub(crate) since: QuerySince,
+    /// Its suffixes, paths and patterns, without a bound.
     pub(crate) generators: Generators,
-    pub(crate) empty_on_fresh_instance: bool,
+    pub(crate) options: Options,
     ghost limits: { IsTrue (expr_fits (term_of expr)) },
 }
 
-/// A query with the bound from which its files are candidates, and the program that says which of
-/// them match. That is the one of the query's name, or one that answers the meaning of its
-/// expression within the steps of its measure.
+/// The parts of a query.
 #[derive(Drop)]
-pub struct Plan {
-    /// The query's expression, as contracts see it. A snapshot takes no memory.
-    pub(crate) expr: Snapshot<Expr>,
-    /// The name that the query has for a program, as contracts see it.
-    pub(crate) program_name: Snapshot<Option<Text>>,
-    /// The point from which the query asked for changes, as contracts see it.
-    pub(crate) since: Snapshot<Since>,
-    pub(crate) fields: Vec<Field>,
-    /// The query's suffixes, paths and patterns, and the plan's bound.
-    pub(crate) generators: Generators,
-    pub(crate) empty_on_fresh_instance: bool,
-    pub(crate) bound: Bound,
-    pub(crate) program: Arc<StoredProgram>,
-    ghost from: { generators.since ≡ Some bound },
-    ghost meaning: { program_name.value ≡ None → SaysMeaning program.value (term_of expr.value) },
-    ghost cost: { program_name.value ≡ None → KeepsMeasure program.value (term_of expr.value) },
+pub struct QueryParts {
+    /// The expression that the files match.
+    pub expr: Expr,
+    /// The name of the program that says which files match, in place of the expression.
+    pub program: Option<Text>,
+    /// The fields that are told of each file.
+    pub fields: Vec<Field>,
+    /// The point from which the query asks for changes.
+    pub since: QuerySince,
+    /// Its suffixes, paths and patterns, without a bound.
+    pub generators: Generators,
+    /// Its options, by the keys that are tested last.
+    pub options: Options,
 }
 
 impl Query {
-    ghost use Rattle.std.specs.Prelude.{option_map};
+    ghost use Rattle.std.specs.Prelude.{◌≡◌, option_map};
     ghost use Rattle.serde_json.specs.View.{view as data_of};
     ghost use Rattle.wq_clock.specs.Instance.{instance_data};
-    ghost use Rattle.wq_query.specs.Meaning.{AnswersWithin};
     ghost use Rattle.wq_query.specs.Outcome.{GivesQuery};
-    ghost use Rattle.wq_query.specs.Query.{asked_of, since_bound, since_cursor, planned};
+    ghost use Rattle.wq_query.specs.Query.{asked_of, data_of_parts, since_bound, since_cursor};
     ghost use Rattle.wq_query.specs.Reading.{asks};
     ghost use Rattle.wq_query.specs.Subscribed.{subscribes};
 
@@ -87,21 +72,21 @@ impl Query {
     pub fn read(alloc: Global, value: &Value, instance: &Instance) -> Result<Query, QueryFault>
         ensures { GivesQuery result (asks (instance_data instance.now) (data_of value.now)) }
     {
-        if reading::has_left_out_key(value) {
+        if key::has_left_out_key(value) {
             return Err(QueryFault::LeftOutKey);
         }
-        if reading::has_both(value) {
+        if key::has_both(value) {
             return Err(QueryFault::ExpressionAndProgram);
         }
-        let expr = reading::expression(alloc, value.get("expression"), instance)?;
-        let fields = reading::fields(alloc, value.get("fields"))?;
-        let suffix = generating::suffixes(alloc, value.get("suffix"))?;
-        let path = generating::paths(alloc, value.get("path"))?;
-        let flags = globbing::glob_flags(value.get("glob_includedotfiles"));
-        let glob = globbing::globs(alloc, value.get("glob"), flags)?;
-        let since = reading::since(alloc, value.get("since"), instance)?;
-        let program = reading::program(alloc, value.get("program"))?;
-        let Some(empty_on_fresh_instance) = reading::last_values(value) else {
+        let expr = key::expression(alloc, value.get("expression"), instance)?;
+        let fields = key::fields(alloc, value.get("fields"))?;
+        let suffix = generator::suffixes(alloc, value.get("suffix"))?;
+        let path = generator::paths(alloc, value.get("path"))?;
+        let flags = glob::glob_flags(value.get("glob_includedotfiles"));
+        let glob = glob::globs(alloc, value.get("glob"), flags)?;
+        let since = key::since(alloc, value.get("since"), instance)?;
+        let program = key::program(alloc, value.get("program"))?;
+        let Some(options) = Options::read(value) else {
             return Err(QueryFault::WrongValue);
         };
         Ok(Query {
@@ -115,7 +100,7 @@ impl Query {
                 path,
                 glob,
             },
-            empty_on_fresh_instance,
+            options,
         })
     }
 
@@ -159,8 +144,8 @@ impl Query {
         ensures { result ≡ since_bound (asked_of self.now).since }
     {
         match &self.since {
-            Since::Bound(bound) => Some(*bound),
-            Since::Cursor(_) => None,
+            QuerySince::Bound(bound) => Some(*bound),
+            QuerySince::Cursor(_) => None,
         }
     }
 
@@ -169,94 +154,30 @@ impl Query {
         ensures { option_map (λ name. name.now) result ≡ since_cursor (asked_of self.now).since }
     {
         match &self.since {
-            Since::Bound(_) => None,
-            Since::Cursor(name) => Some(name.as_str()),
+            QuerySince::Bound(_) => None,
+            QuerySince::Cursor(name) => Some(name.as_str()),
         }
     }
 
-    /// The plan of answering the query with this bound, whichever the query sets. It lets the expression go, which the
-    /// program replaces from now on.
-    ///
-    /// The program is the one that is kept under the name that the query has for one. Without a
-    /// name, it answers the meaning of the query's expression on every record, and its budget is no
-    /// more than the expression's measure.
-    pub fn plan(self, bound: Bound, program: Arc<StoredProgram>) -> Plan
-        requires { (asked_of self).program ≡ None
-            → AnswersWithin program.value (asked_of self).expression }
-        ensures { planned result ≡ record {
-          query = asked_of self;
-          bound = bound;
-          program = option_map (λ _. program.value) (asked_of self).program;
-        } }
+    /// The parts of the query.
+    pub fn into_parts(self) -> QueryParts
+        ensures { data_of_parts result ≡ asked_of self }
     {
-        answers_are_said();
-        answers_are_within();
-        program.may_run();
         let Query {
             expr,
-            program: program_name,
+            program,
             fields,
             since,
-            mut generators,
-            empty_on_fresh_instance,
-        } = self;
-        generators.since = Some(bound);
-        Plan {
-            expr: Snapshot::of(&expr),
-            program_name: Snapshot::of(&program_name),
-            since: Snapshot::of(&since),
-            fields,
             generators,
-            empty_on_fresh_instance,
-            bound,
+            options,
+        } = self;
+        QueryParts {
+            expr,
             program,
+            fields,
+            since,
+            generators,
+            options,
         }
-    }
-}
-
-impl Plan {
-    ghost use Rattle.std.specs.Prelude.{IfOk, IfSome};
-    ghost use Rattle.wq_clock.specs.declared.bound.Bound.TheVariants.{Tick};
-    ghost use Rattle.wq_view.specs.Position.{records_at};
-    ghost use Rattle.wq_query.specs.Ahead.{IsAheadAt};
-    ghost use Rattle.wq_query.specs.Following.{with_bound};
-    ghost use Rattle.wq_query.specs.Listing.{AreWithin, files_of};
-    ghost use Rattle.wq_query.specs.Query.{planned};
-
-    /// The bound from which the plan tells changes.
-    pub fn bound(&self) -> Bound
-        ensures { result ≡ (planned self.now).bound }
-    {
-        self.bound
-    }
-
-    /// From now on the plan tells the changes after this tick. It takes no memory.
-    pub fn tell_from(&mut self, tick: u64)
-        ensures { planned self.new ≡ with_bound (Tick tick) (planned self.old) }
-    {
-        let bound = Bound::Tick(tick);
-        self.generators.since = Some(bound);
-        self.bound = bound;
-    }
-
-    /// The places of the files that the plan lists, in the view's order. What was found ahead is taken if it is of the
-    /// plan's program and candidates.
-    pub fn files_ahead(
-        &self,
-        alloc: Global,
-        view: &View,
-        ahead: Option<&Ahead>,
-    ) -> Result<Vec<u32>, AllocError>
-        requires { IfSome ahead (λ ahead. IsAheadAt view.now.records ahead.now) }
-        ensures within { IfOk result (λ places. AreWithin view.now.records places.items) }
-        ensures files { IfOk result (λ places. records_at view.now.records places.items
-            ≡ files_of (planned self.now) view.now.records) }
-    {
-        listed(&Alone {}, alloc, self, view, ahead)
-    }
-
-    /// Another share of the plan's program.
-    pub fn shared_program(&self) -> Result<Arc<StoredProgram>, AllocError> {
-        self.program.clone()
     }
 }

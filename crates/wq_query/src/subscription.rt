@@ -7,8 +7,8 @@ ghost use Rattle.wq_query.specs.Subscribed.{comes_first, has_cursor, has_generat
 ghost use Rattle.wq_query.specs.Subscribed.{without_generators};
 
 use crate::fault::QueryFault;
+use crate::key::cursor;
 use crate::query::Query;
-use crate::reading::cursor;
 use serde_json::Value;
 
 /// The query of an object, unless that has a generator or a cursor.

@@ -12,7 +12,7 @@ ghost use Rattle.wq_registry.specs.CacheKey.{Says};
 ghost use Rattle.wq_registry.specs.Kept.{StandsFor, instance_at};
 
 use crate::key::{CacheKey, Key, look_up, put};
-use crate::sharing::share;
+use crate::shared_program::share;
 use lru::LruCache;
 use std::alloc::{AllocError, Global};
 use std::marker::Model;

@@ -13,7 +13,7 @@ mod law;
 mod named;
 mod root;
 mod roots;
-mod sharing;
+mod shared_program;
 mod shelf;
 
 pub use cache::{
@@ -26,5 +26,5 @@ pub use law::{
     programs_are_made, programs_were_added, the_greatest_tick_counts, triggers_are_made,
 };
 pub use root::{MAX_CURSORS, MAX_TRIGGERS, Root};
-pub use sharing::kept_form;
+pub use shared_program::kept_form;
 pub use shelf::{MAX_PROGRAMS, Shelf};

@@ -20,7 +20,7 @@ use crate::fault::ShelfFault;
 use crate::named::ByName;
 use crate::root::Root;
 use crate::roots;
-use crate::sharing::share;
+use crate::shared_program::share;
 use indexmap::map::Keys;
 use std::alloc::{AllocError, Global};
 use std::marker::Model;

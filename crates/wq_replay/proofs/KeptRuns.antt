@@ -17,13 +17,13 @@ use Rattle.wq_registry.specs.ByName.{under}
 use Rattle.wq_registry.specs.Change.{Change, last_said, later, putting, removing, says_of}
 use Rattle.wq_registry.specs.History.{adds_program, removes_program, adds_root, removes_root, uses_cursor, unsets_cursor, adds_trigger, removes_trigger, after as after_call, after_all, is_interrupted, since_added, stays_on, trigger_change}
 use Rattle.wq_registry.specs.Shelf.{blank}
-use Rattle.wq_ask.specs.Out.{OutData}
+use Rattle.wq_session.specs.Out.{OutData}
 use Rattle.wq_ask.specs.declared.ask.Ask.{Ask}
 use Rattle.wq_ask.specs.declared.ask.Ask.TheVariants.{Alone, OfRoot, OfShelf, Unwatch, Watch}
 use Rattle.wq_ask.specs.declared.ask.RootAsk.{RootAsk}
-use Rattle.wq_ask.specs.declared.ask.RootAsk.TheVariants.{AddTrigger, Clock, DeleteTrigger, ListTriggers, Query, Subscribe, Unsubscribe}
-use Rattle.wq_ask.specs.declared.ask.ShelfAsk.TheVariants.{AddProgram, DeleteProgram, ListPrograms, ListRoots, SocketName}
-use Rattle.wq_ask.specs.declared.cursor.Cursor.{Cursor}
+use Rattle.wq_ask.specs.declared.ask.RootAsk.TheVariants.{AddTrigger, DeleteTrigger, Query, Reads as ReadsRoot, Subscribe, Unsubscribe}
+use Rattle.wq_ask.specs.declared.ask.ShelfAsk.TheVariants.{AddProgram, DeleteProgram, Reads as ReadsShelf}
+use Rattle.wq_session.specs.declared.cursor.Cursor.{Cursor}
 use Rattle.wq_ask.specs.declared.refusal.Refusal.{Refusal}
 use Rattle.wq_session.specs.Accepted.{Accepts, CallNow, calls_of, cursor_calls, definition_calls, made_calls, query_calls, shown_calls, there_calls, unset_calls}
 use Rattle.wq_crawl.specs.At.{AtData}
@@ -207,11 +207,10 @@ there_kept (Query q) root at shelf = by at.view
     by : (view : Option ViewData) → OneKept (shown_calls at.instance view (data_of q)) shelf
     by None = tt
     by (Some view) = query_kept (at.instance).root view.tick shelf (queries at.instance (data_of q))
-there_kept Clock root at shelf = tt
+there_kept (ReadsRoot what) root at shelf = tt
 there_kept (Subscribe name q) root at shelf = tt
 there_kept (Unsubscribe name) root at shelf = tt
 there_kept (AddTrigger t) root at shelf = definition_kept root (at.instance).root shelf (defined_by at.instance (data_of t))
-there_kept ListTriggers root at shelf = tt
 there_kept (DeleteTrigger name) root at shelf = tt
 
 -- and those of any ask
@@ -224,9 +223,7 @@ ask_kept (OfRoot root crawl what) None shelf = tt
 ask_kept (OfRoot root crawl what) (Some at) shelf = there_kept what root at shelf
 ask_kept (OfShelf (AddProgram name program)) at shelf = tt
 ask_kept (OfShelf (DeleteProgram name)) at shelf = tt
-ask_kept (OfShelf ListRoots) at shelf = tt
-ask_kept (OfShelf SocketName) at shelf = tt
-ask_kept (OfShelf ListPrograms) at shelf = tt
+ask_kept (OfShelf (ReadsShelf what)) at shelf = tt
 ask_kept (Alone what) None shelf = tt
 ask_kept (Alone what) (Some at) shelf = tt
 

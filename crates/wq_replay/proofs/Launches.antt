@@ -4,7 +4,7 @@ use Rattle.std.specs.declared.alloc.AllocError.{AllocError}
 use Rattle.wq_follow.specs.Launcher.{LauncherData, StartsRun, TriedData, later_answers, next_answer, with_run}
 use Rattle.wq_follow.specs.Start.{StartData}
 use Rattle.wq_follow.specs.Started.{start_data}
-use Rattle.wq_follow.specs.declared.starting.Start.{Start}
+use Rattle.wq_follow.specs.declared.start.Start.{Start}
 use Rattle.wq_replay.specs.Launched.{all_tried, launcher_data, launcher_shown, runs_data, shown_unless, tried_data, with_tried}
 use Rattle.wq_replay.specs.declared.launcher.MemoryLauncher.{MemoryLauncher}
 use Rattle.wq_replay.specs.declared.launcher.Tried.{Tried}

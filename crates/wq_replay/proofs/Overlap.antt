@@ -13,7 +13,7 @@ use Rattle.wq_registry.specs.Change.{later}
 use Rattle.wq_registry.specs.History.{adds_root, after_all}
 use Rattle.wq_registry.specs.Shelf.{blank, triggers_of}
 use Rattle.wq_ask.specs.Need.{need_of}
-use Rattle.wq_ask.specs.Out.{OutData}
+use Rattle.wq_session.specs.Out.{OutData}
 use Rattle.wq_ask.specs.declared.ask.Ask.{Ask}
 use Rattle.wq_session.specs.Accepted.{AnswersAreCalls, CallNow}
 use Rattle.wq_session.specs.Round.{RoundsAreCalls, after_turns, turn_calls}

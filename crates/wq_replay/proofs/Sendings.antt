@@ -5,9 +5,9 @@ use Rattle.std.proofs.Common.{◌≡◌, ℕ, suc, ◌+◌, ◌<◌, length, map
 use Rattle.std.proofs.lemmas.List.{append-nil, append_assoc}
 use Rattle.std.specs.Io.KnownBytes.{Appends}
 use Rattle.std.proofs.lemmas.Option.{same_Some}
-use Rattle.wq_ask.specs.Said.{line_in}
-use Rattle.wq_ask.specs.declared.outcome.ReplyLine.{ReplyLine}
-use Rattle.wq_ask.specs.declared.outcome.ReplyLine.TheVariants.{None as NoLine, Whole, Long as LongLine}
+use Rattle.wq_session.specs.Said.{line_in}
+use Rattle.wq_session.specs.declared.outcome.ReplyLine.{ReplyLine}
+use Rattle.wq_session.specs.declared.outcome.ReplyLine.TheVariants.{None as NoLine, Whole, Long as LongLine}
 use Rattle.wq_base.specs.Writing.{WritesFront}
 use Rattle.wq_replay.specs.Replay.{sent_line, sent_lines, shuts}
 use Rattle.wq_replay.specs.Sending.{Sends, SendsAll, line_bytes}

@@ -9,7 +9,7 @@ use Rattle.wq_crawl.specs.declared.place.Place.{Place}
 use Rattle.wq_crawl.specs.declared.place.Place.TheVariants.{Shown, Full, Free}
 use Rattle.wq_registry.specs.History.{adds_root, after_all}
 use Rattle.wq_registry.specs.Shelf.{blank}
-use Rattle.wq_ask.specs.Out.{MayRefuse}
+use Rattle.wq_session.specs.Out.{MayRefuse}
 use Rattle.wq_session.specs.Accepted.{Accepts, CallNow, AnswersAreCalls}
 use Rattle.wq_session.specs.Crawl.{crawl_refusal}
 use Rattle.wq_session.specs.Desk.{StandData, stand}
@@ -19,7 +19,7 @@ use Rattle.wq_session.proofs.Held.{shown_answer}
 use Rattle.wq_live.specs.declared.event.RootEvent.{RootEvent}
 use Rattle.wq_crawl.specs.declared.fault.CrawlFault.TheVariants.{NoMemory}
 use Rattle.wq_ask.specs.Need.{need_of}
-use Rattle.wq_ask.specs.Out.{OutData}
+use Rattle.wq_session.specs.Out.{OutData}
 use Rattle.wq_ask.specs.declared.ask.Ask.{Ask}
 use Rattle.wq_session.specs.Round.{IsRound, RoundsAreCalls, turn_calls}
 use Rattle.wq_crawl.specs.At.{AtData}

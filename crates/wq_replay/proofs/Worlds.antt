@@ -6,7 +6,7 @@ use Rattle.wq_follow.specs.Subscription.{SubscriptionData}
 use Rattle.wq_live.specs.Event.{number_of}
 use Rattle.wq_live.specs.Table.{TableData, IsTableOf}
 use Rattle.wq_ask.specs.Need.{need_of}
-use Rattle.wq_ask.specs.Out.{OutData}
+use Rattle.wq_session.specs.Out.{OutData}
 use Rattle.wq_session.specs.Moment.{Idles}
 use Rattle.wq_session.specs.Desk.{stand}
 use Rattle.wq_crawl.specs.At.{AtData}

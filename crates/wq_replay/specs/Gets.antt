@@ -8,7 +8,7 @@ use Rattle.wq_follow.specs.Subscription.{SubscriptionData}
 use Rattle.wq_live.specs.Table.{TableData, IsTableOf}
 use Rattle.wq_live.specs.declared.event.RootEvent.{RootEvent}
 use Rattle.wq_ask.specs.Need.{need_of}
-use Rattle.wq_ask.specs.Out.{OutData}
+use Rattle.wq_session.specs.Out.{OutData}
 use Rattle.wq_ask.specs.declared.ask.Ask.{Ask}
 use Rattle.wq_session.specs.At.{ShelfNow}
 use Rattle.wq_session.specs.Desk.{stand}

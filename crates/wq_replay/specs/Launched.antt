@@ -3,7 +3,7 @@
 use Rattle.std.specs.Prelude.{ℕ, Bool, true, false, List, [], ◌∷◌, ◌++◌, map, Option, Some, None}
 use Rattle.wq_follow.specs.Launcher.{LauncherData, TriedData}
 use Rattle.wq_follow.specs.Started.{start_data}
-use Rattle.wq_follow.specs.declared.starting.Start.{Start}
+use Rattle.wq_follow.specs.declared.start.Start.{Start}
 use Rattle.wq_replay.specs.declared.launcher.MemoryLauncher.{MemoryLauncher}
 use Rattle.wq_replay.specs.declared.launcher.Tried.{Tried}
 use Rattle.wq_replay.specs.declared.runs.RunSet.{RunSet}

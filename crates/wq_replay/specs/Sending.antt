@@ -2,8 +2,8 @@
 -- It is this server's own.
 use Rattle.std.specs.Prelude.{◌≡◌, not, ℕ, Bool, List, [], ◌++◌, Option, Result, Ok, Err, codes}
 use Rattle.std.specs.Io.KnownBytes.{Appends}
-use Rattle.wq_ask.specs.declared.outcome.ReplyLine.{ReplyLine}
-use Rattle.wq_ask.specs.declared.outcome.ReplyLine.TheVariants.{None, Whole, Long}
+use Rattle.wq_session.specs.declared.outcome.ReplyLine.{ReplyLine}
+use Rattle.wq_session.specs.declared.outcome.ReplyLine.TheVariants.{None, Whole, Long}
 use Rattle.wq_base.specs.Writing.{WritesFront}
 use Rattle.wq_replay.specs.Replay.{sent_lines, shuts}
 use Rattle.wq_replay.specs.World.{SentData}

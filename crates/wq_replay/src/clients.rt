@@ -18,12 +18,12 @@ ghost use Rattle.wq_replay.specs.Gets.{kept};
 
 use crate::client::Client;
 use std::alloc::{AllocError, Global};
-use wq_ask::{Ask, Out};
+use wq_ask::Ask;
 use wq_crawl::{At, Views};
 use wq_follow::{Subscription, Trigger};
-use wq_query::Alone;
 use wq_registry::Shelf;
-use wq_session::Session;
+use wq_reply::Alone;
+use wq_session::{Out, Session};
 
 /// The reply to the ask of a client, and the views after it. If there is no room to keep the client, nothing changes.
 pub(crate) fn answer<V: Views + Drop>(

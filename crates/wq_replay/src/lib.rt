@@ -7,20 +7,19 @@ mod client;
 mod clients;
 mod fault;
 mod happening;
-mod hearing;
+mod happenings;
 mod launcher;
-mod launching;
 mod law;
+mod line_reader;
+mod line_writer;
 mod numbers;
 mod player;
 mod runs;
 mod script;
-mod sending;
 mod sent;
 mod stage;
 mod start_line;
 mod step;
-mod taking;
 mod world;
 
 pub use fault::ReplayFault;
@@ -28,7 +27,7 @@ pub use happening::Happening;
 pub use law::{
     programs_are_valid, runs_do_not_overlap, runs_go_on, scripts_are_runs, shelves_are_calls,
 };
+pub use line_reader::MAX_SCRIPT_LINE;
 pub use player::{MAX_SCRIPT, replay};
 pub use sent::{Sent, SentLines};
-pub use taking::MAX_SCRIPT_LINE;
 pub use world::World;

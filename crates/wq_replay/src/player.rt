@@ -5,9 +5,9 @@ ghost use Rattle.wq_replay.specs.Stage.{start};
 ghost use Rattle.wq_replay.specs.Step.{IsAt};
 
 use crate::fault::ReplayFault;
+use crate::line_reader::next_line;
 use crate::stage::Stage;
 use crate::step::step;
-use crate::taking::next_line;
 use std::alloc::Global;
 use std::io::{BufRead, Write};
 

@@ -1,8 +1,8 @@
 //! The lines that the server sends.
 ghost use Rattle.std.specs.Prelude.{◌≡◌};
 
-use wq_ask::Out;
 use wq_base::Table;
+use wq_session::Out;
 
 /// The lines that the server sends for one happening.
 #[derive(Drop)]

@@ -6,7 +6,7 @@ ghost use Rattle.serde_json.specs.Data.{object};
 ghost use Rattle.serde_json.specs.Written.{outline};
 ghost use Rattle.wq_follow.specs.Start.{var, var_if, vars_of};
 ghost use Rattle.wq_follow.specs.Started.{env_data, start_data};
-ghost use Rattle.wq_query.specs.Printing.{Appends, Prints};
+ghost use Rattle.wq_reply.specs.Printing.{Appends, Prints};
 ghost use Rattle.wq_replay.specs.Launched.{all_tried, tried_data};
 ghost use Rattle.wq_replay.specs.StartLine.{failed_text, start_object, started_text, texts_data};
 ghost use Rattle.wq_replay.specs.StartLine.{tried_text, var_tokens, vars_members};

@@ -14,12 +14,12 @@ ghost use Rattle.wq_replay.specs.World.{WorldData};
 
 use crate::fault::StepFault;
 use crate::happening::Happening;
-use crate::hearing::{end_if, happenings, moments, rounds};
+use crate::happenings::{end_if, happenings, moments, rounds};
+use crate::line_reader::MAX_SCRIPT_LINE;
+use crate::line_writer::send;
 use crate::numbers::{answers_from, numbers_for};
 use crate::script::{Line, RowLine, read_line};
-use crate::sending::send;
 use crate::stage::{OpenListing, Stage};
-use crate::taking::MAX_SCRIPT_LINE;
 use crate::world::{ROOT, World};
 use std::alloc::{AllocError, Global};
 use std::io::Write;

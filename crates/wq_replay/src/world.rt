@@ -25,14 +25,14 @@ use crate::sent::{Sent, SentLines};
 use crate::start_line::lines_about;
 use std::alloc::{AllocError, Global};
 use std::mem;
-use wq_ask::{Ask, Out};
+use wq_ask::Ask;
 use wq_base::{Table, Text};
 use wq_clock::Run;
 use wq_crawl::{CrawlFault, Place, Refused, TableViews, place_for};
 use wq_follow::Trigger;
 use wq_live::RootTable;
 use wq_registry::{Cache, Shelf};
-use wq_session::round;
+use wq_session::{Out, round};
 use wq_view::{Pass, ViewFault};
 
 /// A world in which clients ask about roots.

@@ -8,7 +8,7 @@ use std::alloc::{AllocError, Global};
 use std::collections::VecDeque;
 use std::sync::{Condvar, Mutex, Wait};
 use std::time::{Clock, Duration};
-use wq_stream::{Event, Waiting};
+use wq_stream::{Backlog, Event};
 
 /// A queue that threads share.
 #[derive(Drop)]
@@ -24,7 +24,7 @@ pub(crate) struct Queue {
 #[derive(Drop)]
 struct Coming {
     /// The events of the client.
-    waiting: Waiting,
+    waiting: Backlog,
     /// The numbers of the roots of which an idle moment is due, each once.
     due: VecDeque<u64>,
     /// Whether an idle moment came last.
@@ -72,7 +72,7 @@ impl Queue {
     pub(crate) fn new(alloc: Global) -> Result<Queue, AllocError> {
         Ok(Queue {
             coming: Mutex::new(Coming {
-                waiting: Waiting::new(alloc)?,
+                waiting: Backlog::new(alloc)?,
                 due: VecDeque::new(alloc),
                 was_moment: false,
             }),

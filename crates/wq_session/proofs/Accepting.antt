@@ -6,7 +6,8 @@ use Rattle.wq_clock.specs.Instance.{InstanceData}
 use Rattle.wq_view.specs.View.{ViewData}
 use Rattle.wq_base.specs.Fault.{or_fault, or_its_fault, or_own_fault, unless_fault}
 use Rattle.wq_code.specs.declared.raw.Raw.{Raw}
-use Rattle.wq_query.specs.Query.{QueryData, PlanData, SinceData, at_bound, at_cursor}
+use Rattle.wq_query.specs.Query.{QueryData, SinceData, at_bound, at_cursor}
+use Rattle.wq_reply.specs.Plan.{PlanData}
 use Rattle.wq_follow.specs.Definition.{DefinitionData}
 use Rattle.wq_follow.specs.Subscription.{SubscriptionData, subscribed}
 use Rattle.wq_query.specs.Reading.{asks as queries}
@@ -17,28 +18,27 @@ use Rattle.wq_registry.specs.ByName.{has_no_place}
 use Rattle.wq_registry.specs.Shelf.{root_has_no_place}
 use Rattle.wq_registry.specs.History.{adds_trigger, after_all, removes_trigger}
 use Rattle.wq_ask.specs.Program.{is_name}
-use Rattle.wq_ask.specs.Clock.{clock_data}
-use Rattle.wq_ask.specs.Out.{OutData, replies, runs_out}
+use Rattle.wq_session.specs.Out.{OutData, runs_out}
 use Rattle.wq_ask.specs.declared.ask.Ask.{Ask}
 use Rattle.wq_ask.specs.declared.ask.Ask.TheVariants.{Alone, OfRoot, OfShelf, Unwatch, Watch}
 use Rattle.wq_ask.specs.declared.ask.LoneAsk.{LoneAsk}
 use Rattle.wq_ask.specs.declared.ask.LoneAsk.TheVariants.{Leave, Nothing, Refused, ShutDown, Version}
 use Rattle.wq_ask.specs.declared.ask.RootAsk.{RootAsk}
-use Rattle.wq_ask.specs.declared.ask.RootAsk.TheVariants.{AddTrigger, Clock, DeleteTrigger, ListTriggers, Query as AsksQuery, Subscribe, Unsubscribe}
+use Rattle.wq_ask.specs.declared.ask.RootAsk.TheVariants.{AddTrigger, DeleteTrigger, Query as AsksQuery, Reads as ReadsRoot, Subscribe, Unsubscribe}
 use Rattle.wq_ask.specs.declared.ask.ShelfAsk.{ShelfAsk}
-use Rattle.wq_ask.specs.declared.ask.ShelfAsk.TheVariants.{AddProgram, DeleteProgram, ListPrograms, ListRoots, SocketName}
-use Rattle.wq_ask.specs.declared.cursor.Cursor.{Cursor}
+use Rattle.wq_ask.specs.declared.ask.ShelfAsk.TheVariants.{AddProgram, DeleteProgram, Reads as ReadsShelf}
+use Rattle.wq_session.specs.declared.cursor.Cursor.{Cursor}
 use Rattle.wq_ask.specs.declared.refusal.Refusal.{Refusal}
 use Rattle.wq_ask.specs.declared.refusal.Refusal.TheVariants.{NotWatched, Query as BadQuery, ShelfFull, TooManyRoots, BadName, TooManyTriggers}
 use Rattle.wq_session.specs.Accepted.{CallNow, Accepts, AnswersAreCalls, calls_of, cursor_calls, definition_calls, made_calls, query_calls, shelf_calls, shown_calls, there_calls, unset_calls}
-use Rattle.wq_session.specs.Trigger.{begun_trigger, defined_by, defined_name, has_no_trigger_place, put_trigger, trigger_in}
+use Rattle.wq_session.specs.Trigger.{begun_read_trigger, defined_by, defined_name, has_no_trigger_place, put_trigger, trigger_in}
 use Rattle.wq_session.specs.Answer.{AnswerData, finished, without_cursor}
-use Rattle.wq_session.specs.Subscribe.{begun_subscription, first_plan}
+use Rattle.wq_session.specs.Subscribe.{begun_read_subscribe, first_plan}
 use Rattle.wq_crawl.specs.At.{AtData}
 use Rattle.wq_session.specs.At.{ShelfNow, is_watched}
-use Rattle.wq_session.specs.Begun.{or_refused, tried, tried_alone, tried_on, tried_there}
-use Rattle.wq_session.specs.Query.{begun_query, has_place, moved_cursor, plan_at, program_for, used_at}
-use Rattle.wq_session.specs.Work.{BegunData, begins, evaluates, saying}
+use Rattle.wq_session.specs.Begun.{begun_ask, begun_alone, begun_on_shelf, begun_there, or_refused, reply_at, reply_on}
+use Rattle.wq_session.specs.Query.{begun_read_query, has_place, moved_cursor, plan_at, program_for, used_at}
+use Rattle.wq_session.specs.Work.{BegunData, begins, evaluates, replying}
 
 -- begun work leaves the shelf that these calls lead to
 abbrev Leads : List CallNow → ShelfNow → Result BegunData Refusal → Type 0
@@ -68,26 +68,25 @@ module _ (shelf : ShelfNow) where
       unless ShelfFull (has_place root q.since shelf) (cursor_calls root q.since tick) shelf _ (used root q.since tick shelf)
 
   with_query : (root tick : ℕ) (q : Result QueryData QueryFault)
-      → Leads (query_calls root tick q) shelf (or_its_fault BadQuery q (λ q. begun_query root tick q shelf))
+      → Leads (query_calls root tick q) shelf (or_its_fault BadQuery q (λ q. begun_read_query root tick q shelf))
   with_query root tick (Err fault) = tt
   with_query root tick (Ok q) = with_program root tick q (program_for q shelf)
 
   with_view : (instance : InstanceData) (d : Data) (view : Option ViewData)
       → Leads (shown_calls instance view d) shelf (or_fault NotWatched view (λ view.
-      or_its_fault BadQuery (queries instance d) (λ q. begun_query instance.root view.tick q shelf)))
+      or_its_fault BadQuery (queries instance d) (λ q. begun_read_query instance.root view.tick q shelf)))
   with_view instance d None = tt
   with_view instance d (Some view) = with_query instance.root view.tick (queries instance d)
 
-  -- output of a view leaves the shelf
-  of_view : (view : Option ViewData) (out : ViewData → OutData)
-      → Leads [] shelf (or_fault NotWatched view (λ view. Ok (saying (out view) shelf)))
-  of_view None out = tt
-  of_view (Some view) out = refl
+  -- an ask that reads leaves the shelf
+  reads : (reply : Result Data Refusal) → Leads [] shelf (replying reply shelf)
+  reads (Err refusal) = tt
+  reads (Ok d) = refl
 
   -- the beginning of `subscribe` leaves the shelf
   with_subscription : (root name : List ℕ) (instance : InstanceData) (d : Data) (view : Option ViewData)
       → Leads [] shelf (or_fault NotWatched view (λ view. unless_fault BadName (is_name name) (
-      or_its_fault BadQuery (subscription_of instance d) (λ q. begun_subscription root name instance.root q shelf))))
+      or_its_fault BadQuery (subscription_of instance d) (λ q. begun_read_subscribe root name instance.root q shelf))))
   with_subscription root name instance d None = tt
   with_subscription root name instance d (Some view) = by (is_name name) (subscription_of instance d)
     where
@@ -97,7 +96,7 @@ module _ (shelf : ShelfNow) where
       found q (Ok program) = refl
 
       by : (test : Bool) (q : Result QueryData QueryFault) → Leads [] shelf (unless_fault BadName test (
-          or_its_fault BadQuery q (λ q. begun_subscription root name instance.root q shelf)))
+          or_its_fault BadQuery q (λ q. begun_read_subscribe root name instance.root q shelf)))
       by false q = tt
       by true (Err fault) = tt
       by true (Ok q) = found q (program_for q shelf)
@@ -105,7 +104,7 @@ module _ (shelf : ShelfNow) where
   -- the beginning of `trigger` leads to the shelf with the trigger
   with_definition : (root : List ℕ) (number : ℕ) (d : Result DefinitionData Refusal) (view : Option ViewData)
       → Leads (definition_calls root number d shelf) shelf (or_fault NotWatched view (λ view.
-      or_own_fault d (λ definition. begun_trigger root number definition shelf)))
+      or_own_fault d (λ definition. begun_read_trigger root number definition shelf)))
   with_definition root number d None = tt
   with_definition root number (Err refusal) (Some view) = tt
   with_definition root number (Ok d) (Some view) = found (program_for d.query shelf)
@@ -124,26 +123,23 @@ module _ (shelf : ShelfNow) where
   where_watched at true calls next so = so
 
   -- an ask of the root that is looked at
-  there : (what : RootAsk) (root : List ℕ) (at : AtData) → Leads (there_calls what root at shelf) shelf (tried_there what root at shelf)
+  there : (what : RootAsk) (root : List ℕ) (at : AtData) → Leads (there_calls what root at shelf) shelf (begun_there what root at shelf)
+  there (ReadsRoot what) root at = reads (reply_at what at shelf)
   there (AsksQuery q) root at = with_view at.instance (data_of q) at.view
-  there Clock root at = of_view at.view (λ view. replies (clock_data at.instance view))
   there (Subscribe name q) root at = with_subscription root name at.instance (data_of q) at.view
   there (Unsubscribe name) root at = unless BadName (is_name name) [] shelf _ refl
   there (AddTrigger t) root at = with_definition root (at.instance).root (defined_by at.instance (data_of t)) at.view
-  there ListTriggers root at = refl
   there (DeleteTrigger name) root at = unless BadName (is_name name) (removes_trigger (at.instance).root name ∷ []) shelf _ refl
 
   -- an ask of the shelf
-  on_shelf : (what : ShelfAsk) → Leads (shelf_calls what) shelf (tried_on what shelf)
-  on_shelf ListRoots = refl
-  on_shelf SocketName = refl
+  on_shelf : (what : ShelfAsk) → Leads (shelf_calls what) shelf (begun_on_shelf what shelf)
+  on_shelf (ReadsShelf what) = reads (Ok (reply_on what shelf))
   on_shelf (AddProgram name program) =
       unless ShelfFull (not (has_no_place max_programs name shelf.programs)) (shelf_calls (AddProgram name program)) shelf _ refl
-  on_shelf ListPrograms = refl
   on_shelf (DeleteProgram name) = refl
 
   -- an ask whose answer is always the same
-  alone : (what : LoneAsk) → Leads [] shelf (tried_alone what shelf)
+  alone : (what : LoneAsk) → Leads [] shelf (begun_alone what shelf)
   alone (Refused refusal) = tt
   alone Version = refl
   alone ShutDown = refl
@@ -151,7 +147,7 @@ module _ (shelf : ShelfNow) where
   alone Nothing = refl
 
 -- an ask that is not refused leaves the shelf that its calls lead to
-leads : (ask : Ask) (at : Option AtData) (shelf : ShelfNow) → Leads (calls_of ask at shelf) shelf (tried ask at shelf)
+leads : (ask : Ask) (at : Option AtData) (shelf : ShelfNow) → Leads (calls_of ask at shelf) shelf (begun_ask ask at shelf)
 leads (Watch root) None shelf = tt
 leads (Watch root) (Some at) shelf =
     unless TooManyRoots (not (root_has_no_place root (at.instance).root shelf))
@@ -175,14 +171,14 @@ one_more (c ∷ cs) cursor shelf = one_more cs cursor _
 
 module _ (ask : Ask) (at : Option AtData) (shelf : ShelfNow) (follows : List SubscriptionData) where
   -- the answer, by the result of the ask
-  whole : (r : Result BegunData Refusal) → tried ask at shelf ≡ r → Leads (calls_of ask at shelf) shelf r
+  whole : (r : Result BegunData Refusal) → begun_ask ask at shelf ≡ r → Leads (calls_of ask at shelf) shelf r
       → (calls : List CallNow) × Accepts ask at shelf follows (finished (or_refused r shelf).work at follows).out calls
       × ((or_refused r shelf).shelf ≡ after_all calls shelf)
   whole (Ok b) is so = (calls_of ask at shelf, inl (b, is, refl, refl), so)
   whole (Err refusal) is so = ([], inr (inl (refusal, is, refl, refl)), refl)
 
   -- memory that ran out over the files
-  unfinished : (r : Result BegunData Refusal) → tried ask at shelf ≡ r → Leads (calls_of ask at shelf) shelf r
+  unfinished : (r : Result BegunData Refusal) → begun_ask ask at shelf ≡ r → Leads (calls_of ask at shelf) shelf r
       → (plan : PlanData) (cursor : Option Cursor) → (or_refused r shelf).work ≡ evaluates plan cursor
       → (calls : List CallNow) × Accepts ask at shelf follows (runs_out None) calls
       × (without_cursor cursor (or_refused r shelf).shelf ≡ after_all calls shelf)
@@ -196,10 +192,10 @@ module _ (ask : Ask) (at : Option AtData) (shelf : ShelfNow) (follows : List Sub
 -- the law
 pub answers_are_calls : AnswersAreCalls
 answers_are_calls ask at shelf follows out after left (inl is) =
-    let it = whole ask at shelf follows (tried ask at shelf) refl (leads ask at shelf) in
+    let it = whole ask at shelf follows (begun_ask ask at shelf) refl (leads ask at shelf) in
     subst (λ (a : AnswerData). (calls : List CallNow) × Accepts ask at shelf follows (a.done).out calls × (a.shelf ≡ after_all calls shelf)) is it
 answers_are_calls ask at shelf follows out after left (inr (inl (takes, short, same, stay))) =
     ([], inr (inr (inl (takes, short, refl))), same)
 answers_are_calls ask at shelf follows out after left (inr (inr (plan, cursor, work, short, same, stay))) =
-    let it = unfinished ask at shelf follows (tried ask at shelf) refl (leads ask at shelf) plan cursor work in
+    let it = unfinished ask at shelf follows (begun_ask ask at shelf) refl (leads ask at shelf) plan cursor work in
     (it.0, subst (λ o. Accepts ask at shelf follows o it.0) (sym short) it.1, same ∙ it.2)

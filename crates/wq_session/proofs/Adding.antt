@@ -13,9 +13,9 @@ use Rattle.wq_registry.specs.History.{AddsOne}
 use Rattle.wq_ask.specs.declared.ask.Ask.{Ask}
 use Rattle.wq_ask.specs.declared.ask.Ask.TheVariants.{Alone, OfRoot, OfShelf, Unwatch, Watch}
 use Rattle.wq_ask.specs.declared.ask.RootAsk.{RootAsk}
-use Rattle.wq_ask.specs.declared.ask.RootAsk.TheVariants.{AddTrigger, Clock, DeleteTrigger, ListTriggers, Query as AsksQuery, Subscribe, Unsubscribe}
-use Rattle.wq_ask.specs.declared.ask.ShelfAsk.TheVariants.{AddProgram, DeleteProgram, ListPrograms, ListRoots, SocketName}
-use Rattle.wq_ask.specs.declared.cursor.Cursor.{Cursor}
+use Rattle.wq_ask.specs.declared.ask.RootAsk.TheVariants.{AddTrigger, DeleteTrigger, Query as AsksQuery, Reads as ReadsRoot, Subscribe, Unsubscribe}
+use Rattle.wq_ask.specs.declared.ask.ShelfAsk.TheVariants.{AddProgram, DeleteProgram, Reads as ReadsShelf}
+use Rattle.wq_session.specs.declared.cursor.Cursor.{Cursor}
 use Rattle.wq_ask.specs.declared.refusal.Refusal.{Refusal}
 use Rattle.wq_session.specs.Accepted.{CallNow, AddedAreAsked, calls_of, cursor_calls, definition_calls, made_calls, query_calls, shown_calls, there_calls, unset_calls}
 use Rattle.wq_session.specs.Trigger.{defined_by}
@@ -73,12 +73,11 @@ turns_none raw root (turn ∷ turns) (inr one) = turns_none raw root turns one
 
 -- the calls of an ask of a root add none
 there_none : (raw : Raw) (what : RootAsk) (root : List ℕ) (at : AtData) (shelf : ShelfNow) → AddsOne raw (there_calls what root at shelf) → ⊥
+there_none raw (ReadsRoot what) root at shelf one = one
 there_none raw (AsksQuery q) root at shelf one = shown_none raw at.instance at.view (data_of q) one
-there_none raw Clock root at shelf one = one
 there_none raw (Subscribe name q) root at shelf one = one
 there_none raw (Unsubscribe name) root at shelf one = one
 there_none raw (AddTrigger t) root at shelf one = definition_none raw root (at.instance).root (defined_by at.instance (data_of t)) shelf one
-there_none raw ListTriggers root at shelf one = one
 there_none raw (DeleteTrigger name) root at shelf one = neither one
 
 -- a program that the calls of an ask add is the one that the ask hands in
@@ -87,9 +86,7 @@ asked : (raw : Raw) (ask : Ask) (at : Option AtData) (shelf : ShelfNow) → Adds
 asked raw (OfShelf (AddProgram name program)) at shelf (inl same) = (name, ap (λ p. OfShelf (AddProgram name p)) same)
 asked raw (OfShelf (AddProgram name program)) at shelf (inr one) = absurd one
 asked raw (OfShelf (DeleteProgram name)) at shelf one = absurd (neither one)
-asked raw (OfShelf ListRoots) at shelf one = absurd one
-asked raw (OfShelf SocketName) at shelf one = absurd one
-asked raw (OfShelf ListPrograms) at shelf one = absurd one
+asked raw (OfShelf (ReadsShelf what)) at shelf one = absurd one
 asked raw (Watch root) None shelf one = absurd one
 asked raw (Watch root) (Some at) shelf one = absurd (neither one)
 asked raw (Unwatch root) None shelf one = absurd one

@@ -5,24 +5,18 @@ use Rattle.serde_json.specs.Data.{Data, null}
 use Rattle.serde_json.specs.Find.{get}
 use Rattle.wq_base.specs.Fault.{or_fault, or_its_fault, or_own_fault, unless_fault}
 use Rattle.wq_clock.specs.Instance.{InstanceData}
-use Rattle.wq_query.specs.Generator.{suffixes_of, paths_of}
-use Rattle.wq_query.specs.Glob.{glob_flags, globs_of}
 use Rattle.wq_query.specs.Outcome.{GivesQuery}
 use Rattle.wq_query.specs.Query.{QueryData, asked_of}
 use Rattle.wq_query.specs.declared.query.Query.{Query}
-use Rattle.wq_query.specs.Reading.{asks as queries, expression_of, fields_of, flag_of, has_both, has_left_out_key}
-use Rattle.wq_query.specs.Reading.{is_flag_or_absent, is_whole_or_absent, program_name, since_of}
+use Rattle.wq_query.specs.Reading.{asks as queries}
 use Rattle.wq_query.specs.Subscribed.{comes_first, has_cursor, has_generator, subscribes, without_generators}
 use Rattle.wq_query.specs.declared.fault.QueryFault.{QueryFault}
-use Rattle.wq_query.specs.declared.fault.QueryFault.TheVariants.{LeftOutKey, ExpressionAndProgram, Expression, UnknownField}
-use Rattle.wq_query.specs.declared.fault.QueryFault.TheVariants.{BadGenerator, BadClockSpec, WrongValue}
+use Rattle.wq_query.specs.declared.fault.QueryFault.TheVariants.{BadGenerator, BadClockSpec}
 use Rattle.wq_follow.specs.Defined.{definition_data}
 use Rattle.wq_follow.specs.declared.definition.Definition.{Definition}
 use Rattle.wq_follow.specs.Definition.{DefinitionData, ShapeData, defines, has_bad_length, known_part, shape_of}
 use Rattle.wq_follow.specs.declared.fault.TriggerFault.{TriggerFault}
 use Rattle.wq_follow.specs.declared.fault.TriggerFault.TheVariants.{BadName as BadTriggerName, Query as BadTriggerQuery}
-use Rattle.wq_term.specs.Expr.{ExprData, always}
-use Rattle.wq_term.specs.declared.fault.TermFault.{TermFault}
 use Rattle.wq_view.specs.View.{ViewData}
 use Rattle.wq_ask.specs.Program.{is_name}
 use Rattle.wq_ask.specs.declared.refusal.Refusal.{Refusal}
@@ -34,12 +28,12 @@ use Rattle.wq_ask.specs.declared.refusal.Refusal.TheVariants.{ProgramTooLarge, T
 use Rattle.wq_ask.specs.declared.refusal.Refusal.TheVariants.{WrongFile, WrongProgram}
 use Rattle.wq_crawl.specs.At.{AtData}
 use Rattle.wq_session.specs.At.{ShelfNow, is_watched, watched}
-use Rattle.wq_session.specs.Moment.{Shown, shown_in}
+use Rattle.wq_session.specs.Moment.{Shown}
 use Rattle.wq_session.specs.Prepared.{GivesDefined, GivesRead, IsReadAt, IsReadShown}
 use Rattle.wq_session.specs.Prepared.{IsReadThere, ObjectData}
-use Rattle.wq_session.specs.Trigger.{begun_trigger, defined_by, try_trigger}
-use Rattle.wq_session.specs.Query.{begun_query, try_query}
-use Rattle.wq_session.specs.Subscribe.{begun_subscription, try_subscribe}
+use Rattle.wq_session.specs.Trigger.{begun_read_trigger, defined_by, begun_trigger}
+use Rattle.wq_session.specs.Query.{begun_read_query, begun_query}
+use Rattle.wq_session.specs.Subscribe.{begun_read_subscribe, begun_subscribe}
 use Rattle.wq_session.specs.Work.{BegunData, Begins}
 use Rattle.wq_session.specs.declared.read_object.ReadObject.{ReadObject}
 use Rattle.wq_session.specs.declared.work.Rest.{Rest}
@@ -62,22 +56,22 @@ object_there object a view shown read said =
 
 module _ (d : Data) (shelf : ShelfNow) (a : AtData) (view : ViewData) (shown : a.view ≡ Some view) where
   -- the query of an object at a root that is shown
-  pub at_view : try_query d a shelf ≡ or_its_fault BadQuery (queries a.instance d) (λ q. begun_query (a.instance).root view.tick q shelf)
+  pub at_view : begun_query d a shelf ≡ or_its_fault BadQuery (queries a.instance d) (λ q. begun_read_query (a.instance).root view.tick q shelf)
   at_view =
       ap (λ v. or_fault NotWatched v (λ (view : ViewData).
-      or_its_fault BadQuery (queries a.instance d) (λ q. begun_query (a.instance).root view.tick q shelf))) shown
+      or_its_fault BadQuery (queries a.instance d) (λ q. begun_read_query (a.instance).root view.tick q shelf))) shown
 
   -- so the query that was read begins as `query` does
   pub begins_read : (query : Query) → GivesRead (Ok query) (queries a.instance d)
       → (tick : ℕ) → tick ≡ view.tick → (result : Result Rest Refusal) (after : ShelfNow)
-      → Begins (begun_query (a.instance).root tick (asked_of query) shelf) shelf result after
-      → Begins (try_query d a shelf) shelf result after
+      → Begins (begun_read_query (a.instance).root tick (asked_of query) shelf) shelf result after
+      → Begins (begun_query d a shelf) shelf result after
   begins_read query said tick told result after begins =
       subst (λ b. Begins b shelf result after)
       (sym (at_view
-      ∙ ap (λ r. or_its_fault BadQuery r (λ q. begun_query (a.instance).root view.tick q shelf))
+      ∙ ap (λ r. or_its_fault BadQuery r (λ q. begun_read_query (a.instance).root view.tick q shelf))
       said
-      ∙ ap (λ t. begun_query (a.instance).root t (asked_of query) shelf) (sym told)))
+      ∙ ap (λ t. begun_read_query (a.instance).root t (asked_of query) shelf) (sym told)))
       begins
 
 -- the fault of an object that was read is the reason to refuse a line
@@ -111,38 +105,38 @@ refused_for asked next shelf (WrongProgram fault place) said = elim said [ ]
 
 -- so the fault of a query that was read is the reason to refuse `query`
 pub refuses_read : (d : Data) (shelf : ShelfNow) (a : AtData) (view : ViewData) → a.view ≡ Some view → (refusal : Refusal)
-    → GivesRead (Err refusal) (queries a.instance d) → Begins (try_query d a shelf) shelf (Err refusal) shelf
+    → GivesRead (Err refusal) (queries a.instance d) → Begins (begun_query d a shelf) shelf (Err refusal) shelf
 refuses_read d shelf a view shown refusal said =
     subst (λ b. Begins b shelf (Err refusal) shelf) (sym (at_view d shelf a view shown))
-    (refused_for (queries a.instance d) (λ q. begun_query (a.instance).root view.tick q shelf) shelf refusal said)
+    (refused_for (queries a.instance d) (λ q. begun_read_query (a.instance).root view.tick q shelf) shelf refusal said)
 
 module _ (root name : List ℕ) (d : Data) (shelf : ShelfNow) (a : AtData) (view : ViewData) (shown : a.view ≡ Some view)
     (named : is_name name ≡ true) where
   -- the beginning of `subscribe` at a root that is shown
-  subscribed_at : try_subscribe root name d a shelf
-      ≡ or_its_fault BadQuery (subscribes a.instance d) (λ q. begun_subscription root name (a.instance).root q shelf)
+  subscribed_at : begun_subscribe root name d a shelf
+      ≡ or_its_fault BadQuery (subscribes a.instance d) (λ q. begun_read_subscribe root name (a.instance).root q shelf)
   subscribed_at =
       ap (λ v. or_fault NotWatched v (λ (view : ViewData). unless_fault BadName (is_name name) (
-      or_its_fault BadQuery (subscribes a.instance d) (λ q. begun_subscription root name (a.instance).root q shelf)))) shown
+      or_its_fault BadQuery (subscribes a.instance d) (λ q. begun_read_subscribe root name (a.instance).root q shelf)))) shown
       ∙ ap (λ t. unless_fault BadName t (
-      or_its_fault BadQuery (subscribes a.instance d) (λ q. begun_subscription root name (a.instance).root q shelf))) named
+      or_its_fault BadQuery (subscribes a.instance d) (λ q. begun_read_subscribe root name (a.instance).root q shelf))) named
 
   -- the query of a subscription that was read begins as `subscribe` does
   pub begins_subscribed : (query : Query) → GivesRead (Ok query) (subscribes a.instance d) → (result : Result Rest Refusal)
-      → Begins (begun_subscription root name (a.instance).root (asked_of query) shelf) shelf result shelf
-      → Begins (try_subscribe root name d a shelf) shelf result shelf
+      → Begins (begun_read_subscribe root name (a.instance).root (asked_of query) shelf) shelf result shelf
+      → Begins (begun_subscribe root name d a shelf) shelf result shelf
   begins_subscribed query said result begins =
       subst (λ b. Begins b shelf result shelf)
       (sym (subscribed_at
-      ∙ ap (λ r. or_its_fault BadQuery r (λ q. begun_subscription root name (a.instance).root q shelf)) said))
+      ∙ ap (λ r. or_its_fault BadQuery r (λ q. begun_read_subscribe root name (a.instance).root q shelf)) said))
       begins
 
   -- and its fault is the reason to refuse `subscribe`
   pub refuses_subscribed : (refusal : Refusal) → GivesRead (Err refusal) (subscribes a.instance d)
-      → Begins (try_subscribe root name d a shelf) shelf (Err refusal) shelf
+      → Begins (begun_subscribe root name d a shelf) shelf (Err refusal) shelf
   refuses_subscribed refusal said =
       subst (λ b. Begins b shelf (Err refusal) shelf) (sym subscribed_at)
-      (refused_for (subscribes a.instance d) (λ q. begun_subscription root name (a.instance).root q shelf) shelf refusal said)
+      (refused_for (subscribes a.instance d) (λ q. begun_read_subscribe root name (a.instance).root q shelf) shelf refusal said)
 
 -- the fault of a trigger that was read is the reason to refuse a line
 refused_defined : (said : Result DefinitionData Refusal) (next : DefinitionData → Result BegunData Refusal) (shelf : ShelfNow) (refusal : Refusal)
@@ -175,29 +169,29 @@ refused_defined said next shelf (WrongProgram fault place) is = (ap (λ r. or_ow
 
 module _ (root : List ℕ) (d : Data) (shelf : ShelfNow) (a : AtData) (view : ViewData) (shown : a.view ≡ Some view) where
   -- the beginning of `trigger` at a root that is shown
-  triggered_at : try_trigger root d a shelf
-      ≡ or_own_fault (defined_by a.instance d) (λ definition. begun_trigger root (a.instance).root definition shelf)
+  triggered_at : begun_trigger root d a shelf
+      ≡ or_own_fault (defined_by a.instance d) (λ definition. begun_read_trigger root (a.instance).root definition shelf)
   triggered_at =
       ap (λ v. or_fault NotWatched v (λ (view : ViewData).
-      or_own_fault (defined_by a.instance d) (λ definition. begun_trigger root (a.instance).root definition shelf))) shown
+      or_own_fault (defined_by a.instance d) (λ definition. begun_read_trigger root (a.instance).root definition shelf))) shown
 
   -- the trigger that was read begins as `trigger` does
   pub begins_defined : (definition : Definition) → GivesDefined (Ok definition) (defined_by a.instance d)
       → (result : Result Rest Refusal) (after : ShelfNow)
-      → Begins (begun_trigger root (a.instance).root (definition_data definition) shelf) shelf result after
-      → Begins (try_trigger root d a shelf) shelf result after
+      → Begins (begun_read_trigger root (a.instance).root (definition_data definition) shelf) shelf result after
+      → Begins (begun_trigger root d a shelf) shelf result after
   begins_defined definition said result after begins =
       subst (λ b. Begins b shelf result after)
       (sym (triggered_at
-      ∙ ap (λ r. or_own_fault r (λ definition. begun_trigger root (a.instance).root definition shelf)) said))
+      ∙ ap (λ r. or_own_fault r (λ definition. begun_read_trigger root (a.instance).root definition shelf)) said))
       begins
 
   -- and its fault is the reason to refuse `trigger`
   pub refuses_defined : (refusal : Refusal) → GivesDefined (Err refusal) (defined_by a.instance d)
-      → Begins (try_trigger root d a shelf) shelf (Err refusal) shelf
+      → Begins (begun_trigger root d a shelf) shelf (Err refusal) shelf
   refuses_defined refusal said =
       subst (λ b. Begins b shelf (Err refusal) shelf) (sym triggered_at)
-      (refused_defined (defined_by a.instance d) (λ definition. begun_trigger root (a.instance).root definition shelf) shelf refusal said)
+      (refused_defined (defined_by a.instance d) (λ definition. begun_read_trigger root (a.instance).root definition shelf) shelf refusal said)
 
 -- the object of a definition, and its query
 abbrev object_in : Result DefinitionData TriggerFault → Data
@@ -247,56 +241,3 @@ pub plain_read : (instance : InstanceData) (d : Data) (query : Result Query Quer
     → IfOk query (λ query. queries instance d ≡ Ok (asked_of query))
 plain_read instance d (Ok query) is = asked_plain instance d (asked_of query) is
 plain_read instance d (Err fault) is = tt
-
--- the expression of a query that was read
-expression_in : Result QueryData QueryFault → Result ExprData TermFault
-expression_in (Ok q) = Ok q.expression
-expression_in (Err fault) = Ok always
-
--- all tests hold of a query that was read, and its parts are there
-has_expression : {F S P G C N B : Type 0} (one other dotted last : Bool) (e : Result ExprData TermFault) (fields : Option F) (suffix : Option S)
-    (path : Option P) (glob : Result G QueryFault) (since : Option C) (program : Option N) (flag : Option B)
-    (made : ExprData → F → S → P → G → C → N → B → QueryData)
-    → ((e : ExprData) (f : F) (s : S) (p : P) (g : G) (c : C) (n : N) (b : B) → (made e f s p g c n b).expression ≡ e) → (q : QueryData)
-    → unless_fault LeftOutKey one (unless_fault ExpressionAndProgram other (or_its_fault Expression e (λ e.
-    or_fault UnknownField fields (λ fields. or_fault BadGenerator suffix (λ suffix. or_fault BadGenerator path (λ path.
-    or_own_fault glob (λ glob.
-    or_fault BadClockSpec since (λ since. or_fault WrongValue program (λ program. or_fault WrongValue flag (λ flag.
-    unless_fault WrongValue dotted (unless_fault WrongValue last (Ok (made e fields suffix path glob since program flag))))))))))))) ≡ Ok q
-    → e ≡ Ok q.expression
-unfolding expression_in
-has_expression true true true true (Ok e) (Some fields) (Some suffix) (Some path) (Ok glob) (Some since) (Some program) (Some flag) made kept q is =
-    ap Ok (sym (kept e fields suffix path glob since program flag)) ∙ ap expression_in is
-has_expression false other dotted last e fields suffix path glob since program flag made kept q is = absurd cc
-has_expression true false dotted last e fields suffix path glob since program flag made kept q is = absurd cc
-has_expression true true dotted last (Err fault) fields suffix path glob since program flag made kept q is = absurd cc
-has_expression true true dotted last (Ok e) None suffix path glob since program flag made kept q is = absurd cc
-has_expression true true dotted last (Ok e) (Some fields) None path glob since program flag made kept q is = absurd cc
-has_expression true true dotted last (Ok e) (Some fields) (Some suffix) None glob since program flag made kept q is = absurd cc
-has_expression true true dotted last (Ok e) (Some fields) (Some suffix) (Some path) (Err fault) since program flag made kept q is = absurd cc
-has_expression true true dotted last (Ok e) (Some fields) (Some suffix) (Some path) (Ok glob) None program flag made kept q is = absurd cc
-has_expression true true dotted last (Ok e) (Some fields) (Some suffix) (Some path) (Ok glob) (Some since) None flag made kept q is = absurd cc
-has_expression true true dotted last (Ok e) (Some fields) (Some suffix) (Some path) (Ok glob) (Some since) (Some program) None made kept q is = absurd cc
-has_expression true true false last (Ok e) (Some fields) (Some suffix) (Some path) (Ok glob) (Some since) (Some program) (Some flag) made kept q is = absurd cc
-has_expression true true true false (Ok e) (Some fields) (Some suffix) (Some path) (Ok glob) (Some since) (Some program) (Some flag) made kept q is = absurd cc
-
--- so it has the expression that its object says
-pub expression_asked : (instance : InstanceData) (d : Data) (q : QueryData) → queries instance d ≡ Ok q
-    → expression_of instance (get (codes "expression") d) ≡ Ok q.expression
-expression_asked instance d q is =
-    has_expression (not (has_left_out_key d)) (not (has_both d)) (is_flag_or_absent (get (codes "glob_includedotfiles") d))
-    (is_whole_or_absent (get (codes "sync_timeout") d))
-    (expression_of instance (get (codes "expression") d)) (fields_of (get (codes "fields") d)) (suffixes_of (get (codes "suffix") d))
-    (paths_of (get (codes "path") d)) (globs_of (glob_flags (get (codes "glob_includedotfiles") d)) (get (codes "glob") d))
-    (since_of instance (get (codes "since") d)) (program_name (get (codes "program") d))
-    (flag_of (get (codes "empty_on_fresh_instance") d))
-    (λ e fields suffix path glob since program flag. record {
-      expression = e;
-      program = program;
-      fields = fields;
-      since = since;
-      suffix = suffix;
-      path = path;
-      glob = glob;
-      empty_on_fresh_instance = flag;
-    }) (λ e fields suffix path glob since program flag. refl) q is

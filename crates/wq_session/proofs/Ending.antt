@@ -1,22 +1,22 @@
 -- Taking and then finishing gives the answer.
 use Rattle.std.proofs.Common.{◌≡◌, inl, inr, Bool, true, false, if◌then◌else◌, List, Option, Some, None, refl, sym, ap, subst, ◌∙◌}
 use Rattle.std.specs.Option.{option_map_or}
-use Rattle.wq_query.specs.Query.{PlanData}
-use Rattle.wq_query.specs.Reply.{reply_of}
+use Rattle.wq_reply.specs.Plan.{PlanData}
+use Rattle.wq_reply.specs.Reply.{reply_of}
 use Rattle.wq_view.specs.View.{ViewData}
 use Rattle.wq_registry.specs.Shelf.{cursor_unset}
 use Rattle.wq_follow.specs.Subscription.{SubscriptionData}
 use Rattle.wq_clock.specs.Instance.{InstanceData}
-use Rattle.wq_ask.specs.Out.{settled, OutData, refuses, replies, runs_out, silence}
+use Rattle.wq_session.specs.Out.{settled, OutData, refuses, replies, runs_out, silence}
 use Rattle.wq_ask.specs.declared.refusal.Refusal.TheVariants.{TooManySubscriptions}
 use Rattle.wq_ask.specs.declared.ask.Ask.{Ask}
-use Rattle.wq_ask.specs.declared.cursor.Cursor.{Cursor}
+use Rattle.wq_session.specs.declared.cursor.Cursor.{Cursor}
 use Rattle.wq_session.proofs.Follows.{followed_stays, is_followed}
 use Rattle.wq_session.specs.Answer.{AnswersAsk, Finishes, TakesAsk, AnswerData, DoneData, subscribing_at, subscribing_by, finished, following, giving, listed, unmade, without_cursor}
 use Rattle.wq_session.specs.Followed.{has_no_room}
 use Rattle.wq_crawl.specs.At.{AtData}
 use Rattle.wq_session.specs.At.{ShelfNow}
-use Rattle.wq_session.specs.Begun.{begun, takes_memory}
+use Rattle.wq_session.specs.Begun.{taken_ask, takes_memory}
 use Rattle.wq_session.specs.Work.{BegunData, WorkData, says, prints, evaluates, begins, drops}
 
 -- the output of a listing names no cursor
@@ -64,7 +64,7 @@ all_given out none =
 module _ (ask : Ask) (at : Option AtData) (shelf : ShelfNow) (follows : List SubscriptionData) where
   -- the whole of an answer
   whole : (work : WorkData) (after : ShelfNow) (out : OutData) (left : List SubscriptionData)
-      → begun ask at shelf ≡ record { work = work; shelf = after } → finished work at follows ≡ giving out left
+      → taken_ask ask at shelf ≡ record { work = work; shelf = after } → finished work at follows ≡ giving out left
       → AnswersAsk ask at shelf follows (settled out) (without_cursor out.unset after) left
   whole work after out left is done =
       let none : out.unset ≡ None = ap (λ (d : DoneData). d.out.unset) (sym done) ∙ none_named work at follows in
@@ -79,7 +79,7 @@ module _ (ask : Ask) (at : Option AtData) (shelf : ShelfNow) (follows : List Sub
 
   -- memory ran out when files were listed
   unlisted : (plan : PlanData) (cursor : Option Cursor) (after : ShelfNow)
-      → begun ask at shelf ≡ record { work = evaluates plan cursor; shelf = after }
+      → taken_ask ask at shelf ≡ record { work = evaluates plan cursor; shelf = after }
       → AnswersAsk ask at shelf follows (runs_out None) (without_cursor cursor after) follows
   unlisted plan cursor after is = inr (inr (
     plan,
@@ -92,14 +92,14 @@ module _ (ask : Ask) (at : Option AtData) (shelf : ShelfNow) (follows : List Sub
 
   -- or when a reply was printed, or a subscription began or ended, for which the shelf stays
   unkept : (work : WorkData) (after : ShelfNow) → is_followed work ≡ true
-      → begun ask at shelf ≡ record { work = work; shelf = after }
+      → taken_ask ask at shelf ≡ record { work = work; shelf = after }
       → AnswersAsk ask at shelf follows (runs_out None) after follows
   unkept work after kind is =
       let it = followed_stays ask at shelf (subst (λ (b : BegunData). is_followed b.work ≡ true) (sym is) kind) in
       inr (inl (it.0, refl, ap (λ (b : BegunData). b.shelf) (sym is) ∙ it.1, refl))
 
   -- or was told before
-  unmade_work : (work : WorkData) (after : ShelfNow) → begun ask at shelf ≡ record { work = work; shelf = after }
+  unmade_work : (work : WorkData) (after : ShelfNow) → taken_ask ask at shelf ≡ record { work = work; shelf = after }
       → AnswersAsk ask at shelf follows (settled (unmade work)) (without_cursor (unmade work).unset after) follows
   unmade_work (says out) after is = whole (says out) after (settled out) follows is refl
   unmade_work (prints d) after is = unkept (prints d) after refl is

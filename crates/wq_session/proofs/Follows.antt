@@ -16,26 +16,25 @@ use Rattle.wq_registry.specs.Limit.{max_programs}
 use Rattle.wq_registry.specs.ByName.{has_no_place}
 use Rattle.wq_registry.specs.Shelf.{root_has_no_place}
 use Rattle.wq_view.specs.View.{ViewData}
-use Rattle.wq_ask.specs.Clock.{clock_data}
-use Rattle.wq_ask.specs.Out.{OutData, replies}
+use Rattle.wq_session.specs.Out.{OutData}
 use Rattle.wq_ask.specs.Program.{is_name}
 use Rattle.wq_ask.specs.declared.ask.Ask.{Ask}
 use Rattle.wq_ask.specs.declared.ask.Ask.TheVariants.{Alone, OfRoot, OfShelf, Unwatch, Watch}
 use Rattle.wq_ask.specs.declared.ask.LoneAsk.{LoneAsk}
 use Rattle.wq_ask.specs.declared.ask.LoneAsk.TheVariants.{Leave, Nothing, Refused, ShutDown, Version}
 use Rattle.wq_ask.specs.declared.ask.RootAsk.{RootAsk}
-use Rattle.wq_ask.specs.declared.ask.RootAsk.TheVariants.{AddTrigger, Clock, DeleteTrigger, ListTriggers, Query as AsksQuery, Subscribe, Unsubscribe}
+use Rattle.wq_ask.specs.declared.ask.RootAsk.TheVariants.{AddTrigger, DeleteTrigger, Query as AsksQuery, Reads as ReadsRoot, Subscribe, Unsubscribe}
 use Rattle.wq_ask.specs.declared.ask.ShelfAsk.{ShelfAsk}
-use Rattle.wq_ask.specs.declared.ask.ShelfAsk.TheVariants.{AddProgram, DeleteProgram, ListPrograms, ListRoots, SocketName}
+use Rattle.wq_ask.specs.declared.ask.ShelfAsk.TheVariants.{AddProgram, DeleteProgram, Reads as ReadsShelf}
 use Rattle.wq_ask.specs.declared.refusal.Refusal.{Refusal}
 use Rattle.wq_ask.specs.declared.refusal.Refusal.TheVariants.{NotWatched, Query as BadQuery, ShelfFull, TooManyRoots, BadName, TooManyTriggers}
 use Rattle.wq_crawl.specs.At.{AtData}
 use Rattle.wq_session.specs.At.{ShelfNow, is_watched}
-use Rattle.wq_session.specs.Begun.{begun, or_refused, takes_memory, tried, tried_alone, tried_on, tried_there}
-use Rattle.wq_session.specs.Trigger.{begun_trigger, defined_by, defined_name, has_no_trigger_place, put_trigger}
-use Rattle.wq_session.specs.Query.{begun_query, has_place, moved_cursor, plan_at, program_for, used_at}
-use Rattle.wq_session.specs.Subscribe.{begun_subscription, first_plan}
-use Rattle.wq_session.specs.Work.{BegunData, WorkData, begins, drops, evaluates, prints, says, saying}
+use Rattle.wq_session.specs.Begun.{begun_ask, begun_alone, begun_on_shelf, begun_there, or_refused, reply_at, reply_on, taken_ask, takes_memory}
+use Rattle.wq_session.specs.Trigger.{begun_read_trigger, defined_by, defined_name, has_no_trigger_place, put_trigger}
+use Rattle.wq_session.specs.Query.{begun_read_query, has_place, moved_cursor, plan_at, program_for, used_at}
+use Rattle.wq_session.specs.Subscribe.{begun_read_subscribe, first_plan}
+use Rattle.wq_session.specs.Work.{BegunData, WorkData, begins, drops, evaluates, prints, replying, says}
 
 -- whether work prints a reply, or begins or ends a subscription
 abbrev pub is_followed : WorkData → Bool
@@ -66,12 +65,6 @@ module _ (ask : Ask) (shelf : ShelfNow) where
   if_watched at false next so = tt
   if_watched at true next so = so
 
-  -- the output of a view
-  of_view : (view : Option ViewData) (out : ViewData → OutData)
-      → Stays ask shelf (or_fault NotWatched view (λ view. Ok (saying (out view) shelf)))
-  of_view None out = tt
-  of_view (Some view) out = said (out view) shelf
-
   with_place : (root tick : ℕ) (q : QueryData) (program : Option Raw) (test : Bool)
       → Stays ask shelf (unless_fault ShelfFull test (Ok (record {
         work = evaluates (plan_at root q program shelf) (moved_cursor root q.since);
@@ -91,20 +84,20 @@ module _ (ask : Ask) (shelf : ShelfNow) where
   with_program root tick q (Ok program) = with_place root tick q program (has_place root q.since shelf)
 
   with_query : (root tick : ℕ) (q : Result QueryData QueryFault)
-      → Stays ask shelf (or_its_fault BadQuery q (λ q. begun_query root tick q shelf))
+      → Stays ask shelf (or_its_fault BadQuery q (λ q. begun_read_query root tick q shelf))
   with_query root tick (Err fault) = tt
   with_query root tick (Ok q) = with_program root tick q (program_for q shelf)
 
   with_view : (instance : InstanceData) (d : Data) (view : Option ViewData)
       → Stays ask shelf (or_fault NotWatched view (λ view.
-      or_its_fault BadQuery (queries instance d) (λ q. begun_query instance.root view.tick q shelf)))
+      or_its_fault BadQuery (queries instance d) (λ q. begun_read_query instance.root view.tick q shelf)))
   with_view instance d None = tt
   with_view instance d (Some view) = with_query instance.root view.tick (queries instance d)
 
   -- the beginning of `trigger`
   with_definition : (root : List ℕ) (number : ℕ) (d : Result DefinitionData Refusal) (view : Option ViewData)
       → Stays ask shelf (or_fault NotWatched view (λ view.
-      or_own_fault d (λ definition. begun_trigger root number definition shelf)))
+      or_own_fault d (λ definition. begun_read_trigger root number definition shelf)))
   with_definition root number d None = tt
   with_definition root number (Err refusal) (Some view) = tt
   with_definition root number (Ok d) (Some view) = put (program_for d.query shelf)
@@ -115,6 +108,11 @@ module _ (ask : Ask) (shelf : ShelfNow) where
       put (Ok program) = unless_said TooManyTriggers (not (has_no_trigger_place number (defined_name d) shelf)) _ _
 
   module _ (takes : takes_memory ask ≡ true) where
+    -- an ask that reads
+    reads : (reply : Result Data Refusal) → Stays ask shelf (replying reply shelf)
+    reads (Err refusal) = tt
+    reads (Ok d) = λ is. (takes, refl)
+
     -- the beginning of `subscribe`
     found : (root name : List ℕ) (number : ℕ) (q : QueryData) (program : Result (Option Raw) Refusal)
         → Stays ask shelf (or_own_fault program (λ program.
@@ -124,14 +122,14 @@ module _ (ask : Ask) (shelf : ShelfNow) where
 
     subscribed_as : (root name : List ℕ) (number : ℕ) (test : Bool) (q : Result QueryData QueryFault)
         → Stays ask shelf (unless_fault BadName test (
-        or_its_fault BadQuery q (λ q. begun_subscription root name number q shelf)))
+        or_its_fault BadQuery q (λ q. begun_read_subscribe root name number q shelf)))
     subscribed_as root name number false q = tt
     subscribed_as root name number true (Err fault) = tt
     subscribed_as root name number true (Ok q) = found root name number q (program_for q shelf)
 
     with_subscription : (root name : List ℕ) (instance : InstanceData) (d : Data) (view : Option ViewData)
         → Stays ask shelf (or_fault NotWatched view (λ view. unless_fault BadName (is_name name) (
-        or_its_fault BadQuery (subscription_of instance d) (λ q. begun_subscription root name instance.root q shelf))))
+        or_its_fault BadQuery (subscription_of instance d) (λ q. begun_read_subscribe root name instance.root q shelf))))
     with_subscription root name instance d None = tt
     with_subscription root name instance d (Some view) =
         subscribed_as root name instance.root (is_name name) (subscription_of instance d)
@@ -143,25 +141,22 @@ module _ (ask : Ask) (shelf : ShelfNow) where
     with_name number name true = λ is. (takes, refl)
 
     -- an ask of the root that is looked at
-    there : (what : RootAsk) (root : List ℕ) (at : AtData) → Stays ask shelf (tried_there what root at shelf)
+    there : (what : RootAsk) (root : List ℕ) (at : AtData) → Stays ask shelf (begun_there what root at shelf)
+    there (ReadsRoot what) root at = reads (reply_at what at shelf)
     there (AsksQuery q) root at = with_view at.instance (data_of q) at.view
-    there Clock root at = of_view at.view (λ view. replies (clock_data at.instance view))
     there (Subscribe name q) root at = with_subscription root name at.instance (data_of q) at.view
     there (Unsubscribe name) root at = with_name (at.instance).root name (is_name name)
     there (AddTrigger t) root at = with_definition root (at.instance).root (defined_by at.instance (data_of t)) at.view
-    there ListTriggers root at = λ is. (takes, refl)
     there (DeleteTrigger name) root at = unless_said BadName (is_name name) _ _
 
     -- an ask of the shelf
-    on_shelf : (what : ShelfAsk) → Stays ask shelf (tried_on what shelf)
-    on_shelf ListRoots = λ is. (takes, refl)
-    on_shelf SocketName = λ is. absurd (false≢true is)
+    on_shelf : (what : ShelfAsk) → Stays ask shelf (begun_on_shelf what shelf)
+    on_shelf (ReadsShelf what) = reads (Ok (reply_on what shelf))
     on_shelf (AddProgram name program) = unless_said ShelfFull (not (has_no_place max_programs name shelf.programs)) _ _
-    on_shelf ListPrograms = λ is. (takes, refl)
     on_shelf (DeleteProgram name) = λ is. absurd (false≢true is)
 
   -- an ask whose answer is always the same
-  alone : (what : LoneAsk) → Stays ask shelf (tried_alone what shelf)
+  alone : (what : LoneAsk) → Stays ask shelf (begun_alone what shelf)
   alone (Refused refusal) = tt
   alone Version = λ is. absurd (false≢true is)
   alone ShutDown = λ is. absurd (false≢true is)
@@ -169,7 +164,7 @@ module _ (ask : Ask) (shelf : ShelfNow) where
   alone Nothing = λ is. absurd (false≢true is)
 
 -- the beginning of an ask
-stays : (ask : Ask) (at : Option AtData) (shelf : ShelfNow) → Stays ask shelf (tried ask at shelf)
+stays : (ask : Ask) (at : Option AtData) (shelf : ShelfNow) → Stays ask shelf (begun_ask ask at shelf)
 stays (Watch root) None shelf = tt
 stays (Watch root) (Some at) shelf =
     unless_said (Watch root) shelf TooManyRoots (not (root_has_no_place root (at.instance).root shelf)) _ _
@@ -183,9 +178,9 @@ stays (OfShelf what) at shelf = on_shelf (OfShelf what) shelf refl what
 stays (Alone what) at shelf = alone (Alone what) shelf what
 
 -- so if such work was begun
-pub followed_stays : (ask : Ask) (at : Option AtData) (shelf : ShelfNow) → is_followed (begun ask at shelf).work ≡ true
-    → (takes_memory ask ≡ true) × ((begun ask at shelf).shelf ≡ shelf)
-followed_stays ask at shelf is = by (tried ask at shelf) (stays ask at shelf) is
+pub followed_stays : (ask : Ask) (at : Option AtData) (shelf : ShelfNow) → is_followed (taken_ask ask at shelf).work ≡ true
+    → (takes_memory ask ≡ true) × ((taken_ask ask at shelf).shelf ≡ shelf)
+followed_stays ask at shelf is = by (begun_ask ask at shelf) (stays ask at shelf) is
   where
     by : (r : Result BegunData Refusal) → Stays ask shelf r → is_followed (or_refused r shelf).work ≡ true
         → (takes_memory ask ≡ true) × ((or_refused r shelf).shelf ≡ shelf)

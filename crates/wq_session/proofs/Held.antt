@@ -2,9 +2,9 @@
 use Rattle.std.proofs.Common.{◌≡◌, List, Option, Some, None, option_map, refl, sym, ap, subst, ◌∙◌}
 use Rattle.wq_follow.specs.Subscription.{SubscriptionData}
 use Rattle.wq_registry.specs.Shelf.{cursor_unset}
-use Rattle.wq_ask.specs.Out.{settled, OutData}
+use Rattle.wq_session.specs.Out.{settled, OutData}
 use Rattle.wq_ask.specs.declared.ask.Ask.{Ask}
-use Rattle.wq_ask.specs.declared.cursor.Cursor.{Cursor}
+use Rattle.wq_session.specs.declared.cursor.Cursor.{Cursor}
 use Rattle.wq_session.specs.Answer.{AnswersAsk, CanFinish, Finishes, TakesAsk, without_cursor}
 use Rattle.wq_session.specs.Work.{WorkData}
 use Rattle.wq_crawl.specs.At.{AtData}
@@ -57,3 +57,10 @@ pub held_finish : (old mid : Option ShelfNow) (ask : Ask) (at : Option AtData) (
     → CanFinish work at
 held_finish (Some shelf) mid ask at work (next, takes, shown) = can_finish ask at shelf work next takes
 held_finish None mid ask at work (shelf, next, reached, takes, shown) = can_finish ask at shelf work next takes
+
+-- an ask that was prepared was taken
+pub held_as : (old mid after : Option ShelfNow) (ask made : Ask) (at seen : Option AtData) (work : WorkData) → mid ≡ old → made ≡ ask
+    → seen ≡ at → HoldsShelf mid made seen work after → HoldsShelf old ask at work after
+held_as old mid after ask made at seen work same is there holds =
+    subst (λ (s : Option ShelfNow). HoldsShelf s ask at work after) same
+    (subst (λ (a : Ask). HoldsShelf mid a at work after) is (subst (λ (r : Option AtData). HoldsShelf mid made r work after) there holds))

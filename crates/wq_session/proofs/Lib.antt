@@ -1,4 +1,6 @@
 mod Counted
+mod Newlines
+mod FixedOutputs
 mod Rooted
 pub mod Shelves
 mod Strings
@@ -19,3 +21,7 @@ mod Polled
 mod Moments
 pub mod Rounds
 mod Listing
+pub mod Reaching
+mod Staying
+mod Going
+mod Lines

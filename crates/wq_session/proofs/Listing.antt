@@ -4,11 +4,11 @@ use Rattle.std.specs.Prelude.{IfOk}
 use Rattle.serde_json.specs.Written.{compact_text}
 use Rattle.wq_clock.specs.Instance.{InstanceData}
 use Rattle.wq_follow.specs.Subscription.{SubscriptionData}
-use Rattle.wq_query.specs.Query.{PlanData}
-use Rattle.wq_query.specs.Reply.{reply_of}
+use Rattle.wq_reply.specs.Plan.{PlanData}
+use Rattle.wq_reply.specs.Reply.{reply_of}
 use Rattle.wq_view.specs.View.{ViewData}
-use Rattle.wq_ask.specs.Out.{OutData, runs_out, saying_text}
-use Rattle.wq_ask.specs.declared.cursor.Cursor.{Cursor}
+use Rattle.wq_session.specs.Out.{OutData, runs_out, saying_text}
+use Rattle.wq_session.specs.declared.cursor.Cursor.{Cursor}
 use Rattle.wq_session.specs.Answer.{Finishes, giving}
 use Rattle.wq_session.specs.Work.{evaluates}
 

@@ -11,7 +11,7 @@ use Rattle.std.specs.declared.alloc.AllocError.{AllocError}
 use Rattle.wq_follow.specs.Followed.{subscription_data}
 use Rattle.wq_follow.specs.Subscription.{SubscriptionData}
 use Rattle.wq_follow.specs.declared.subscription.Subscription.{Subscription}
-use Rattle.wq_ask.specs.Out.{OutData, tells_lists}
+use Rattle.wq_session.specs.Out.{OutData, tells_lists}
 use Rattle.wq_crawl.specs.At.{AtData}
 use Rattle.wq_session.specs.Moment.{Idles, MayRunOut, Shown, TellsOne, left_of, shown_in, told_list_at, told_lists_of, told_of}
 use Rattle.wq_session.proofs.Called.{removed_between, set_between, set_made}

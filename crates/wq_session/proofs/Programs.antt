@@ -3,7 +3,7 @@ use Rattle.std.proofs.Common.{◌≡◌, Option, Some, None, IfSome, sym, subst}
 use Rattle.std.specs.declared.alloc.Global.{Global}
 use Rattle.std.specs.declared.sync.Arc.{Arc}
 use Rattle.wq_code.specs.declared.raw.Raw.{Raw}
-use Rattle.wq_query.specs.Meaning.{AnswersWithin}
+use Rattle.wq_reply.specs.Meaning.{AnswersWithin}
 use Rattle.wq_registry.proofs.Keeping.{stood_for}
 use Rattle.wq_registry.specs.CacheKey.{CacheKeyData, Says}
 use Rattle.wq_term.specs.Expr.{ExprData}

@@ -3,7 +3,7 @@ use Rattle.std.proofs.Common.{◌≡◌, ℕ, true, [], List, Option, Some, None
 use Rattle.wq_crawl.specs.declared.fault.CrawlFault.{CrawlFault}
 use Rattle.wq_follow.specs.Subscription.{SubscriptionData}
 use Rattle.wq_registry.specs.Shelf.{blank}
-use Rattle.wq_ask.specs.Out.{MayRefuse, OutData, runs_out}
+use Rattle.wq_session.specs.Out.{MayRefuse, OutData, runs_out}
 use Rattle.wq_crawl.specs.Need.{NeedData}
 use Rattle.wq_ask.specs.Need.{need_of}
 use Rattle.wq_ask.specs.declared.ask.Ask.{Ask}

@@ -22,7 +22,7 @@ use Rattle.wq_code.specs.declared.raw.Raw.{Raw}
 use Rattle.wq_follow.specs.Definition.{DefinitionData}
 use Rattle.wq_follow.specs.Round.{TriggerData}
 use Rattle.wq_registry.specs.Shelf.{trigger_added}
-use Rattle.wq_ask.specs.Out.{replies}
+use Rattle.wq_session.specs.Out.{replies}
 use Rattle.wq_ask.specs.Trigger.{trigger_reply, triggers_reply}
 use Rattle.wq_ask.specs.declared.refusal.Refusal.TheVariants.{TooManyTriggers}
 use Rattle.wq_session.specs.At.{ShelfNow}

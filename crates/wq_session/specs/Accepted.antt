@@ -8,14 +8,15 @@ use Rattle.wq_code.specs.declared.raw.Raw.{Raw}
 use Rattle.wq_follow.specs.Definition.{DefinitionData}
 use Rattle.wq_follow.specs.Round.{TriggerData}
 use Rattle.wq_follow.specs.Subscription.{SubscriptionData}
-use Rattle.wq_query.specs.Query.{QueryData, PlanData, SinceData, at_bound, at_cursor}
+use Rattle.wq_query.specs.Query.{QueryData, SinceData, at_bound, at_cursor}
+use Rattle.wq_reply.specs.Plan.{PlanData}
 use Rattle.wq_query.specs.Reading.{asks as queries}
 use Rattle.wq_query.specs.declared.fault.QueryFault.{QueryFault}
 use Rattle.wq_registry.specs.History.{Call, adds_program, removes_program, adds_root, removes_root}
 use Rattle.wq_registry.specs.History.{uses_cursor, unsets_cursor, adds_trigger, removes_trigger}
 use Rattle.wq_registry.specs.History.{AddsOne, after_all}
 use Rattle.wq_view.specs.View.{ViewData}
-use Rattle.wq_ask.specs.Out.{OutData, refuses, runs_out}
+use Rattle.wq_session.specs.Out.{OutData, refuses, runs_out}
 use Rattle.wq_ask.specs.declared.ask.Ask.{Ask}
 use Rattle.wq_ask.specs.declared.ask.Ask.TheVariants.{OfRoot, OfShelf, Unwatch, Watch}
 use Rattle.wq_ask.specs.declared.ask.RootAsk.{RootAsk}
@@ -23,12 +24,12 @@ use Rattle.wq_ask.specs.declared.ask.RootAsk.TheVariants.{AddTrigger, DeleteTrig
 use Rattle.wq_ask.specs.declared.ask.RootAsk.TheVariants.{Query as AsksQuery}
 use Rattle.wq_ask.specs.declared.ask.ShelfAsk.{ShelfAsk}
 use Rattle.wq_ask.specs.declared.ask.ShelfAsk.TheVariants.{AddProgram, DeleteProgram}
-use Rattle.wq_ask.specs.declared.cursor.Cursor.{Cursor}
+use Rattle.wq_session.specs.declared.cursor.Cursor.{Cursor}
 use Rattle.wq_ask.specs.declared.refusal.Refusal.{Refusal}
 use Rattle.wq_session.specs.Answer.{AnswersAsk, finished}
 use Rattle.wq_crawl.specs.At.{AtData}
 use Rattle.wq_session.specs.At.{ShelfNow}
-use Rattle.wq_session.specs.Begun.{takes_memory, tried}
+use Rattle.wq_session.specs.Begun.{takes_memory, begun_ask}
 use Rattle.wq_session.specs.Query.{program_for}
 use Rattle.wq_session.specs.Trigger.{defined_by, defined_name, trigger_in}
 use Rattle.wq_session.specs.Work.{BegunData, evaluates}
@@ -107,14 +108,14 @@ unset_calls (Some cursor) = unsets_cursor cursor.root cursor.name ∷ []
 abbrev pub Accepts : Ask → Option AtData → ShelfNow → List SubscriptionData → OutData → List CallNow
     → Type 0
 Accepts ask at shelf follows out calls =
-    ((begun : BegunData) × (tried ask at shelf ≡ Ok begun)
-    × (out ≡ (finished begun.work at follows).out)
+    ((b : BegunData) × (begun_ask ask at shelf ≡ Ok b)
+    × (out ≡ (finished b.work at follows).out)
     × (calls ≡ calls_of ask at shelf))
-    ⊎ ((refusal : Refusal) × (tried ask at shelf ≡ Err refusal) × (out ≡ refuses refusal)
+    ⊎ ((refusal : Refusal) × (begun_ask ask at shelf ≡ Err refusal) × (out ≡ refuses refusal)
     × (calls ≡ []))
     ⊎ ((takes_memory ask ≡ true) × (out ≡ runs_out None) × (calls ≡ []))
-    ⊎ ((begun : BegunData) × (plan : PlanData) × (cursor : Option Cursor)
-    × (tried ask at shelf ≡ Ok begun) × (begun.work ≡ evaluates plan cursor)
+    ⊎ ((b : BegunData) × (plan : PlanData) × (cursor : Option Cursor)
+    × (begun_ask ask at shelf ≡ Ok b) × (b.work ≡ evaluates plan cursor)
     × (out ≡ runs_out None) × (calls ≡ calls_of ask at shelf ++ unset_calls cursor))
 
 -- an answer leaves the shelf that results from the calls that were accepted of the ask

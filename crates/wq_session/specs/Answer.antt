@@ -6,18 +6,18 @@ use Rattle.std.specs.Prelude.{if◌then◌else◌}
 use Rattle.std.specs.Option.{option_map_or}
 use Rattle.wq_clock.specs.Instance.{InstanceData}
 use Rattle.wq_follow.specs.Subscription.{SubscriptionData, caught_up, list_of}
-use Rattle.wq_query.specs.Query.{PlanData}
-use Rattle.wq_query.specs.Reply.{reply_of}
+use Rattle.wq_reply.specs.Plan.{PlanData}
+use Rattle.wq_reply.specs.Reply.{reply_of}
 use Rattle.wq_registry.specs.Shelf.{cursor_unset}
 use Rattle.wq_view.specs.View.{ViewData}
-use Rattle.wq_ask.specs.Out.{OutData, refuses, replies, replies_with, runs_out, silence, settled}
+use Rattle.wq_session.specs.Out.{OutData, refuses, replies, replies_with, runs_out, silence, settled}
 use Rattle.wq_ask.specs.Subscribe.{subscribe_data, unsubscribe_data}
 use Rattle.wq_ask.specs.declared.ask.Ask.{Ask}
-use Rattle.wq_ask.specs.declared.cursor.Cursor.{Cursor}
+use Rattle.wq_session.specs.declared.cursor.Cursor.{Cursor}
 use Rattle.wq_ask.specs.declared.refusal.Refusal.TheVariants.{TooManySubscriptions}
 use Rattle.wq_crawl.specs.At.{AtData}
 use Rattle.wq_session.specs.At.{ShelfNow}
-use Rattle.wq_session.specs.Begun.{begun, takes_memory}
+use Rattle.wq_session.specs.Begun.{taken_ask, takes_memory}
 use Rattle.wq_session.specs.Followed.{has_called, has_no_room, with_subscription, without_called}
 use Rattle.wq_session.specs.Work.{WorkData, says, prints, evaluates, begins, drops}
 
@@ -81,15 +81,15 @@ pub record AnswerData : Type 0 where
 -- the answer to an ask, for the root that is looked at, a shelf and the subscriptions of a session
 abbrev pub answer : Ask → Option AtData → ShelfNow → List SubscriptionData → AnswerData
 answer ask at shelf follows = record {
-  done = finished (begun ask at shelf).work at follows;
-  shelf = (begun ask at shelf).shelf;
+  done = finished (taken_ask ask at shelf).work at follows;
+  shelf = (taken_ask ask at shelf).shelf;
 }
 
 -- the beginning of an ask: the work and the shelf are those of the answer; or memory ran out, and
 -- nothing changed
 abbrev pub TakesAsk : Ask → Option AtData → ShelfNow → WorkData → ShelfNow → Type 0
 TakesAsk ask at shelf work after =
-    (begun ask at shelf ≡ record { work = work; shelf = after })
+    (taken_ask ask at shelf ≡ record { work = work; shelf = after })
     ⊎ ((takes_memory ask ≡ true) × (work ≡ says (runs_out None)) × (after ≡ shelf))
 
 -- the result of work if memory runs out
@@ -133,7 +133,7 @@ AnswersAsk ask at shelf follows out after left =
     (answer ask at shelf follows ≡ record { done = giving out left; shelf = after })
     ⊎ ((takes_memory ask ≡ true) × (out ≡ runs_out None) × (after ≡ shelf) × (left ≡ follows))
     ⊎ ((plan : PlanData) × (cursor : Option Cursor)
-    × ((begun ask at shelf).work ≡ evaluates plan cursor)
+    × ((taken_ask ask at shelf).work ≡ evaluates plan cursor)
     × (out ≡ runs_out None)
-    × (after ≡ without_cursor cursor (begun ask at shelf).shelf)
+    × (after ≡ without_cursor cursor (taken_ask ask at shelf).shelf)
     × (left ≡ follows))

@@ -3,9 +3,9 @@
 use Rattle.std.specs.Prelude.{◌≡◌, List, Option, Some, None, option_map, Ok, Err}
 use Rattle.wq_follow.specs.Subscription.{SubscriptionData}
 use Rattle.wq_registry.specs.Shelf.{cursor_unset}
-use Rattle.wq_ask.specs.Out.{MayRefuse, OutData}
+use Rattle.wq_session.specs.Out.{MayRefuse, OutData}
 use Rattle.wq_ask.specs.declared.ask.Ask.{Ask}
-use Rattle.wq_ask.specs.declared.cursor.Cursor.{Cursor}
+use Rattle.wq_session.specs.declared.cursor.Cursor.{Cursor}
 use Rattle.wq_session.specs.Answer.{AnswersAsk, TakesAsk}
 use Rattle.wq_session.specs.Work.{WorkData}
 use Rattle.wq_crawl.specs.At.{AtData}

@@ -1,4 +1,7 @@
 pub mod Limit
+pub mod Out
+pub mod Line
+pub mod Said
 pub mod Crawl
 pub mod At
 pub mod Shelved
@@ -22,3 +25,6 @@ pub mod Accepted
 pub mod Prepared
 pub mod Reached
 pub mod Desk
+pub mod Idling
+pub mod Serving
+pub mod Stays

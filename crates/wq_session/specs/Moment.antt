@@ -12,7 +12,7 @@ use Rattle.wq_clock.specs.declared.instance.Instance.{Instance}
 use Rattle.wq_follow.specs.Batch.{is_told}
 use Rattle.wq_follow.specs.Subscription.{SubscriptionData, canceled_data, caught_up, next_list}
 use Rattle.wq_view.specs.View.{ViewData}
-use Rattle.wq_ask.specs.Out.{OutData, tells_lists}
+use Rattle.wq_session.specs.Out.{OutData, tells_lists}
 use Rattle.wq_crawl.specs.At.{AtData}
 
 -- a root that is shown: its place, and its view

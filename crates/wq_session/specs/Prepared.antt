@@ -11,7 +11,7 @@ use Rattle.wq_compile.specs.Large.{is_too_large}
 use Rattle.wq_follow.specs.Defined.{definition_data}
 use Rattle.wq_follow.specs.Definition.{DefinitionData}
 use Rattle.wq_follow.specs.declared.definition.Definition.{Definition}
-use Rattle.wq_query.specs.Meaning.{AnswersWithin}
+use Rattle.wq_reply.specs.Meaning.{AnswersWithin}
 use Rattle.wq_query.specs.Query.{QueryData, asked_of}
 use Rattle.wq_query.specs.Reading.{asks as queries}
 use Rattle.wq_query.specs.Subscribed.{subscribes}

@@ -9,12 +9,13 @@ use Rattle.wq_clock.specs.declared.bound.Bound.{Bound}
 use Rattle.wq_clock.specs.declared.bound.Bound.TheVariants.{Fresh, Tick}
 use Rattle.wq_code.specs.declared.raw.Raw.{Raw}
 use Rattle.wq_compile.specs.Large.{is_too_large}
-use Rattle.wq_query.specs.Query.{QueryData, PlanData, SinceData, at_bound, at_cursor}
+use Rattle.wq_query.specs.Query.{QueryData, SinceData, at_bound, at_cursor}
+use Rattle.wq_reply.specs.Plan.{PlanData}
 use Rattle.wq_query.specs.Reading.{asks as query_of}
 use Rattle.wq_registry.specs.Limit.{max_cursors}
 use Rattle.wq_registry.specs.ByName.{has_no_place, under}
 use Rattle.wq_registry.specs.Shelf.{cursor_used, cursors_of}
-use Rattle.wq_ask.specs.declared.cursor.Cursor.{Cursor}
+use Rattle.wq_session.specs.declared.cursor.Cursor.{Cursor}
 use Rattle.wq_ask.specs.declared.refusal.Refusal.{Refusal}
 use Rattle.wq_ask.specs.declared.refusal.Refusal.TheVariants.{NotWatched, Query}
 use Rattle.wq_ask.specs.declared.refusal.Refusal.TheVariants.{NoSuchProgram, ProgramTooLarge, ShelfFull}
@@ -64,8 +65,8 @@ plan_at root q program shelf =
     record { query = q; bound = bound_at root q.since shelf; program = program }
 
 -- the files of a query that was read, of a root at a tick
-abbrev pub begun_query : ℕ → ℕ → QueryData → ShelfNow → Result BegunData Refusal
-begun_query root tick q shelf =
+abbrev pub begun_read_query : ℕ → ℕ → QueryData → ShelfNow → Result BegunData Refusal
+begun_read_query root tick q shelf =
     or_own_fault (program_for q shelf) (λ program.
     unless_fault ShelfFull (has_place root q.since shelf) (
     Ok (record {
@@ -74,8 +75,8 @@ begun_query root tick q shelf =
     })))
 
 -- the beginning of `query` at its root
-abbrev pub try_query : Data → AtData → ShelfNow → Result BegunData Refusal
-try_query d at shelf =
+abbrev pub begun_query : Data → AtData → ShelfNow → Result BegunData Refusal
+begun_query d at shelf =
     or_fault NotWatched at.view (λ view.
     or_its_fault Query (query_of at.instance d) (λ q.
-    begun_query (at.instance).root view.tick q shelf))
+    begun_read_query (at.instance).root view.tick q shelf))

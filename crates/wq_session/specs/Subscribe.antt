@@ -7,7 +7,8 @@ use Rattle.wq_clock.specs.declared.bound.Bound.{Bound}
 use Rattle.wq_clock.specs.declared.bound.Bound.TheVariants.{Fresh}
 use Rattle.wq_code.specs.declared.raw.Raw.{Raw}
 use Rattle.wq_follow.specs.Subscription.{subscribed}
-use Rattle.wq_query.specs.Query.{QueryData, PlanData, SinceData, at_bound, at_cursor}
+use Rattle.wq_query.specs.Query.{QueryData, SinceData, at_bound, at_cursor}
+use Rattle.wq_reply.specs.Plan.{PlanData}
 use Rattle.wq_query.specs.Subscribed.{subscribes as subscription_of}
 use Rattle.wq_ask.specs.Program.{is_name}
 use Rattle.wq_ask.specs.declared.refusal.Refusal.{Refusal}
@@ -27,9 +28,9 @@ abbrev pub first_plan : QueryData → Option Raw → PlanData
 first_plan q program = record { query = q; bound = first_bound q.since; program = program }
 
 -- a subscription to the files that a query asks for, of a root with this text and number, begins
-abbrev pub begun_subscription : List ℕ → List ℕ → ℕ → QueryData → ShelfNow
+abbrev pub begun_read_subscribe : List ℕ → List ℕ → ℕ → QueryData → ShelfNow
     → Result BegunData Refusal
-begun_subscription root name number q shelf =
+begun_read_subscribe root name number q shelf =
     or_own_fault (program_for q shelf) (λ program.
     Ok (record {
       work = begins (subscribed name root number (first_plan q program));
@@ -37,15 +38,15 @@ begun_subscription root name number q shelf =
     }))
 
 -- the beginning of `subscribe` at its root
-abbrev pub try_subscribe : List ℕ → List ℕ → Data → AtData → ShelfNow → Result BegunData Refusal
-try_subscribe root name d at shelf =
+abbrev pub begun_subscribe : List ℕ → List ℕ → Data → AtData → ShelfNow → Result BegunData Refusal
+begun_subscribe root name d at shelf =
     or_fault NotWatched at.view (λ view.
     unless_fault BadName (is_name name) (
     or_its_fault Query (subscription_of at.instance d) (λ q.
-    begun_subscription root name (at.instance).root q shelf)))
+    begun_read_subscribe root name (at.instance).root q shelf)))
 
 -- the beginning of `unsubscribe` at its root
-abbrev pub try_unsubscribe : List ℕ → AtData → ShelfNow → Result BegunData Refusal
-try_unsubscribe name at shelf =
+abbrev pub begun_unsubscribe : List ℕ → AtData → ShelfNow → Result BegunData Refusal
+begun_unsubscribe name at shelf =
     unless_fault BadName (is_name name) (
     Ok (record { work = drops (at.instance).root name; shelf = shelf }))

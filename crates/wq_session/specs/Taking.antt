@@ -6,7 +6,7 @@ use Rattle.std.specs.declared.sync.Arc.{Arc}
 use Rattle.wq_clock.specs.declared.bound.Bound.{Bound}
 use Rattle.wq_code.specs.declared.raw.Raw.{Raw}
 use Rattle.wq_compile.specs.Large.{is_too_large}
-use Rattle.wq_query.specs.Meaning.{AnswersWithin}
+use Rattle.wq_reply.specs.Meaning.{AnswersWithin}
 use Rattle.wq_query.specs.Query.{QueryData, SinceData}
 use Rattle.wq_registry.specs.ByName.{under}
 use Rattle.wq_ask.specs.declared.refusal.Refusal.{Refusal}

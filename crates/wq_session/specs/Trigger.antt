@@ -1,5 +1,5 @@
--- The beginnings of `trigger`, `trigger-list` and `trigger-del`: the server starts commands for the
--- files of a root, lists them, and no longer starts them.
+-- The beginnings of `trigger` and `trigger-del`, and the reply to `trigger-list`: the server starts
+-- commands for the files of a root, no longer starts them, and lists them.
 -- From Watchman's documentation of these commands; programs and the order of faults are this
 -- server's own.
 use Rattle.std.specs.Prelude.{ℕ, Bool, not, List, map}
@@ -18,7 +18,7 @@ use Rattle.wq_follow.specs.declared.fault.TriggerFault.TheVariants.{Query as Bad
 use Rattle.wq_registry.specs.ByName.{ByName, has_no_place, under, values}
 use Rattle.wq_registry.specs.Limit.{max_triggers}
 use Rattle.wq_registry.specs.Shelf.{trigger_added, trigger_removed, triggers_of}
-use Rattle.wq_ask.specs.Out.{replies}
+use Rattle.wq_session.specs.Out.{replies}
 use Rattle.wq_ask.specs.Program.{is_name}
 use Rattle.wq_ask.specs.declared.refusal.Refusal.{Refusal}
 use Rattle.wq_ask.specs.declared.refusal.Refusal.TheVariants.{NotWatched, BadName}
@@ -27,7 +27,7 @@ use Rattle.wq_ask.specs.Trigger.{trigger_reply, triggers_reply, trigger_deleted_
 use Rattle.wq_crawl.specs.At.{AtData}
 use Rattle.wq_session.specs.At.{ShelfNow}
 use Rattle.wq_session.specs.Query.{program_for}
-use Rattle.wq_session.specs.Work.{BegunData, printing, says}
+use Rattle.wq_session.specs.Work.{BegunData, says}
 
 -- the line is refused for this fault of a trigger's object
 abbrev pub trigger_refusal : TriggerFault → Refusal
@@ -78,25 +78,24 @@ put_trigger root number d program shelf =
     }))
 
 -- the same with the program that its query asks for
-abbrev pub begun_trigger : List ℕ → ℕ → DefinitionData → ShelfNow → Result BegunData Refusal
-begun_trigger root number d shelf =
+abbrev pub begun_read_trigger : List ℕ → ℕ → DefinitionData → ShelfNow → Result BegunData Refusal
+begun_read_trigger root number d shelf =
     or_own_fault (program_for d.query shelf) (λ program. put_trigger root number d program shelf)
 
 -- the beginning of `trigger` at its root
-abbrev pub try_trigger : List ℕ → Data → AtData → ShelfNow → Result BegunData Refusal
-try_trigger root d at shelf =
+abbrev pub begun_trigger : List ℕ → Data → AtData → ShelfNow → Result BegunData Refusal
+begun_trigger root d at shelf =
     or_fault NotWatched at.view (λ view.
     or_own_fault (defined_by at.instance d) (λ definition.
-    begun_trigger root (at.instance).root definition shelf))
+    begun_read_trigger root (at.instance).root definition shelf))
 
--- the beginning of `trigger-list` at its root
-abbrev pub listing_triggers : AtData → ShelfNow → BegunData
-listing_triggers at shelf =
-    printing (triggers_reply (objects_of (triggers_of (at.instance).root shelf))) shelf
+-- the reply to `trigger-list` at its root
+abbrev pub triggers_at : AtData → ShelfNow → Data
+triggers_at at shelf = triggers_reply (objects_of (triggers_of (at.instance).root shelf))
 
 -- the beginning of `trigger-del` at its root
-abbrev pub try_delete_trigger : List ℕ → AtData → ShelfNow → Result BegunData Refusal
-try_delete_trigger name at shelf =
+abbrev pub begun_delete_trigger : List ℕ → AtData → ShelfNow → Result BegunData Refusal
+begun_delete_trigger name at shelf =
     unless_fault BadName (is_name name) (
     Ok (record {
       work = says (replies (trigger_deleted_reply name

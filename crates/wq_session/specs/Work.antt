@@ -6,13 +6,14 @@ use Rattle.std.specs.declared.alloc.Global.{Global}
 use Rattle.std.specs.declared.sync.Arc.{Arc}
 use Rattle.serde_json.specs.Data.{Data}
 use Rattle.serde_json.specs.View.{view as data_of}
+use Rattle.wq_base.specs.Fault.{or_own_fault}
 use Rattle.wq_follow.specs.Followed.{subscription_data}
 use Rattle.wq_follow.specs.Kept.{data_in}
 use Rattle.wq_follow.specs.Subscription.{SubscriptionData}
-use Rattle.wq_query.specs.Query.{PlanData, planned}
-use Rattle.wq_ask.specs.Out.{OutData}
+use Rattle.wq_reply.specs.Plan.{PlanData, planned}
+use Rattle.wq_session.specs.Out.{OutData}
 use Rattle.wq_ask.specs.Trigger.{triggers_reply}
-use Rattle.wq_ask.specs.declared.cursor.Cursor.{Cursor}
+use Rattle.wq_session.specs.declared.cursor.Cursor.{Cursor}
 use Rattle.wq_ask.specs.declared.refusal.Refusal.{Refusal}
 use Rattle.wq_ask.specs.declared.refusal.Refusal.TheVariants.{NoMemory}
 use Rattle.wq_session.specs.At.{ShelfNow}
@@ -46,6 +47,10 @@ saying out shelf = record { work = says out; shelf = shelf }
 -- this reply is printed, and the shelf stays
 abbrev pub printing : Data → ShelfNow → BegunData
 printing d shelf = record { work = prints d; shelf = shelf }
+
+-- the beginning of an ask that reads: its reply is printed, and the shelf stays
+abbrev pub replying : Result Data Refusal → ShelfNow → Result BegunData Refusal
+replying reply shelf = or_own_fault reply (λ d. Ok (printing d shelf))
 
 -- the objects of triggers in their texts
 abbrev pub objects_in : List (Arc (List ℕ) Global) → List Data

@@ -5,11 +5,11 @@ ghost use Rattle.wq_session.specs.Desk.{HoldsShelf, Unsets};
 ghost use Rattle.wq_session.specs.Prepared.{IsPrepared, asked, asked_at};
 ghost use Rattle.wq_session.specs.Work.{work_data};
 
+use crate::cursor::Cursor;
 use crate::prepared::Prepared;
 use crate::unset::Unset;
 use crate::work::Work;
 use std::sync::Arc;
-use wq_ask::Cursor;
 use wq_follow::Trigger;
 use wq_registry::{CacheKey, Compiled, Forgotten, Shelf};
 use wq_verify::StoredProgram;

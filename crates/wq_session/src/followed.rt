@@ -2,7 +2,7 @@
 ghost use Rattle.std.specs.Prelude.{◌≡◌, IfOk, OnErr, OnOk, Option, Some, map, position};
 ghost use Rattle.wq_clock.specs.Instance.{instance_data};
 ghost use Rattle.wq_follow.specs.Followed.{subscription_data};
-ghost use Rattle.wq_ask.specs.Out.{replies};
+ghost use Rattle.wq_session.specs.Out.{replies};
 ghost use Rattle.wq_ask.specs.Subscribe.{unsubscribe_data};
 ghost use Rattle.wq_session.specs.Answer.{Finishes, giving, subscribing_at};
 ghost use Rattle.wq_crawl.specs.At.{AtData};
@@ -10,9 +10,10 @@ ghost use Rattle.wq_session.specs.Followed.{follows_of, has_called, has_no_room,
 ghost use Rattle.wq_session.specs.Followed.{with_subscription, without_called};
 ghost use Rattle.wq_session.specs.Work.{begins, drops};
 
+use crate::outcome::{Out, print};
 use crate::session::Session;
 use std::alloc::{AllocError, Global};
-use wq_ask::{Out, Refusal, print, subscribe_reply, unsubscribe_reply};
+use wq_ask::{Refusal, subscribe_reply, unsubscribe_reply};
 use wq_base::Text;
 use wq_clock::Instance;
 use wq_follow::Subscription;

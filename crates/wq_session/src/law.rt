@@ -1,7 +1,12 @@
 //! Laws of answers, each a function without a body whose contract is the law.
+ghost use Rattle.wq_clock.specs.declared.run.Run.{Run};
+ghost use Rattle.wq_crawl.specs.Basis.{basis_of};
 ghost use Rattle.wq_session.specs.Accepted.{AddedAreAsked, AnswersAreCalls};
 ghost use Rattle.wq_session.specs.Law.{WatchingAgainChangesNothing};
 ghost use Rattle.wq_session.specs.Round.{FailedStartsAreCounted, RoundsAreCalls};
+ghost use Rattle.wq_session.specs.Stays.{AcceptedStays};
+
+use wq_live::Named;
 
 /// Watching a root that is already watched, under the number of the root that is looked at, changes nothing. Its answer
 /// is the same as the first time.
@@ -34,3 +39,11 @@ pub fn rounds_are_calls()
 pub fn failed_starts_are_counted()
     ensures { FailedStartsAreCounted }
 {}
+
+/// At a desk that shows its shelf, all that a session accepted stays when the session ends, however
+/// it ends: of the last event too, if the writer failed within its lines.
+pub fn accepted_stays<N: Named>()
+    ensures { (run : Run) → AcceptedStays (basis_of run (N.published N.book) (N.refused N.book)) }
+{
+    answers_are_calls();
+}

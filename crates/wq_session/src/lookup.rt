@@ -2,14 +2,12 @@
 ghost use Rattle.std.specs.Prelude.{◌≡◌, None, Ok, false, IfSome};
 ghost use Rattle.serde_json.specs.View.{view as data_of};
 ghost use Rattle.wq_clock.specs.Instance.{instance_data};
-ghost use Rattle.wq_query.specs.Meaning.{AnswersWithin};
+ghost use Rattle.wq_reply.specs.Meaning.{AnswersWithin};
 ghost use Rattle.wq_query.specs.Query.{asked_of};
 ghost use Rattle.wq_query.specs.Reading.{asks as queries};
 ghost use Rattle.wq_registry.specs.CacheKey.{Says};
 ghost use Rattle.wq_session.specs.Prepared.{IsFoundFor, IsLookup};
 ghost use Rattle.wq_term.specs.Expr.{ExprData};
-ghost use Rattle.wq_term.specs.Limit.{max_depth};
-ghost use Rattle.wq_term.specs.Reading.{reads_as};
 
 use serde_json::Value;
 use std::alloc::Global;
@@ -159,15 +157,6 @@ fn key_of(alloc: Global, object: &Value, instance: &Instance, query: &Query) -> 
     let Some(value) = object.get("expression") else {
         return None;
     };
-    key_at(alloc, value, instance, query)
-}
-
-/// The key of the expression of a query that was read from this value.
-fn key_at(alloc: Global, value: &Value, instance: &Instance, query: &Query) -> Option<CacheKey>
-    requires { reads_as (instance_data instance.now) max_depth (data_of value.now)
-        ≡ Ok (asked_of query.now).expression }
-    ensures { IfSome result (λ key. Says key (asked_of query.now).expression) }
-{
     let Ok(key) = CacheKey::new(alloc, instance, value) else {
         return None;
     };

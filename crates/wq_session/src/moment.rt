@@ -8,9 +8,10 @@ ghost use Rattle.wq_crawl.specs.At.{at_data};
 ghost use Rattle.wq_session.specs.Followed.{follows_of};
 ghost use Rattle.wq_session.specs.Moment.{Idles, TellsOne, listed_once, shown_data, shown_in};
 
+use crate::line::Line;
+use crate::outcome::Out;
 use crate::session::Session;
 use std::alloc::{AllocError, Global};
-use wq_ask::{Line, Out};
 use wq_clock::Instance;
 use wq_crawl::At;
 use wq_follow::Subscription;

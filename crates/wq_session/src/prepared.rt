@@ -7,13 +7,14 @@ ghost use Rattle.wq_session.specs.Prepared.{IsFoundFor, IsPrepared, asked, asked
 ghost use Rattle.wq_session.specs.Shelved.{shelf_data};
 ghost use Rattle.wq_session.specs.Work.{work_data};
 
-use crate::command::tried;
+use crate::command::begin_ask;
 use crate::lookup::Lookup;
+use crate::outcome::Out;
 use crate::read_object::ReadObject;
 use crate::work::{Rest, Work};
 use std::alloc::Global;
 use std::sync::Arc;
-use wq_ask::{Ask, Out, hands_in_valid};
+use wq_ask::{Ask, hands_in_valid};
 use wq_crawl::At;
 use wq_follow::Trigger;
 use wq_registry::{CacheKey, Compiled, Shelf};
@@ -109,7 +110,7 @@ impl Prepared<'_> {
             mut object,
             lookup,
         } = self;
-        let (begun, ask) = tried(alloc, ask, at, &mut object, &lookup, shelf);
+        let (begun, ask) = begin_ask(alloc, ask, at, &mut object, &lookup, shelf);
         let rest = match begun {
             Ok(rest) => rest,
             Err(refusal) => Rest::Says(Out::refused(alloc, refusal)),

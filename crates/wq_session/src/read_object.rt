@@ -11,7 +11,7 @@ ghost use Rattle.wq_query.specs.declared.fault.QueryFault.{QueryFault};
 ghost use Rattle.wq_ask.specs.declared.refusal.Refusal.{Refusal};
 ghost use Rattle.wq_crawl.specs.At.{at_data};
 ghost use Rattle.wq_session.specs.Prepared.{GivesDefined, GivesDefinedObject, GivesRead, GivesReadObject};
-ghost use Rattle.wq_session.specs.Prepared.{IsKnown, IsLookup, IsReadAt, IsReadThere, object_in, object_query};
+ghost use Rattle.wq_session.specs.Prepared.{IsKnown, IsLookup, IsReadAt, object_in, object_query};
 ghost use Rattle.wq_session.specs.Trigger.{defined_by};
 
 use crate::lookup::Lookup;
@@ -44,35 +44,28 @@ impl ReadObject {
         ensures read { IsReadAt (object_in ask.now) (option_map at_data at.entry) result.0 }
         ensures known { IsKnown result.0 result.1 }
     {
-        match at {
-            Some(
-                At {
-                    instance,
-                    view: Some(_),
-                },
-            ) => ReadObject::read_there(alloc, ask, &instance),
-            _ => (ReadObject::None, Lookup::none()),
-        }
-    }
-
-    /// The object of an ask, if it has one, at this instance of the server, and the knowledge of its program.
-    fn read_there(alloc: Global, ask: &Ask, instance: &Instance) -> (ReadObject, Lookup)
-        ensures read { IsReadThere (object_in ask.now) (instance_data instance.now) result.0 }
-        ensures known { IsKnown result.0 result.1 }
-    {
+        let Some(
+            At {
+                instance,
+                view: Some(_),
+            },
+        ) = at
+        else {
+            return (ReadObject::None, Lookup::none());
+        };
         let Ask::OfRoot { what, .. } = ask else {
             return (ReadObject::None, Lookup::none());
         };
         match what {
             RootAsk::Query(object) => {
-                let query = Query::read(alloc, object, instance);
-                ReadObject::of_query(alloc, object, instance, query, false)
+                let query = Query::read(alloc, object, &instance);
+                ReadObject::of_query(alloc, object, &instance, query, false)
             }
             RootAsk::Subscribe { query: object, .. } => {
-                let query = Query::read_subscription(alloc, object, instance);
-                ReadObject::of_query(alloc, object, instance, query, true)
+                let query = Query::read_subscription(alloc, object, &instance);
+                ReadObject::of_query(alloc, object, &instance, query, true)
             }
-            RootAsk::AddTrigger(object) => ReadObject::of_trigger(alloc, object, instance),
+            RootAsk::AddTrigger(object) => ReadObject::of_trigger(alloc, object, &instance),
             _ => (ReadObject::None, Lookup::none()),
         }
     }

@@ -1,26 +1,15 @@
-//! Replies that are printed as the work of an answer.
-ghost use Rattle.std.specs.Prelude.{◌≡◌, List, Option, false, IfOk};
+//! The printing of a reply as the work of an answer. It is apart from [`Plain`], whose file may name no definition that
+//! leads back to it.
+ghost use Rattle.std.specs.Prelude.{List, Option};
 ghost use Rattle.serde_json.specs.View.{view as data_of};
-ghost use Rattle.serde_json.specs.Written.{has_float};
 ghost use Rattle.wq_follow.specs.Subscription.{SubscriptionData};
-ghost use Rattle.wq_ask.specs.Out.{replies};
 ghost use Rattle.wq_session.specs.Answer.{Finishes};
 ghost use Rattle.wq_crawl.specs.At.{AtData};
-ghost use Rattle.wq_session.specs.Work.{prints, rest_data, says};
+ghost use Rattle.wq_session.specs.Work.{prints};
 
+use crate::outcome::{Out, print};
 use crate::plain::Plain;
-use crate::work::Rest;
-use serde_json::Value;
-use std::alloc::{AllocError, Global};
-use wq_ask::{Out, print};
-
-/// The output of this reply without floats, with no work left.
-pub(crate) fn saying(alloc: Global, reply: &Value) -> Result<Rest, AllocError>
-    ensures { has_float (data_of reply.now) ≡ false
-        → IfOk result (λ rest. rest_data rest ≡ says (replies (data_of reply.now))) }
-{
-    Ok(Rest::Says(print(alloc, reply)?))
-}
+use std::alloc::Global;
 
 /// The output of a reply that is printed when the shelf is no longer held.
 pub(crate) fn printed(alloc: Global, reply: &Plain) -> Out

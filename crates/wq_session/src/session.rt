@@ -2,30 +2,32 @@
 //! with the view and its own state alone, and unsets a cursor if memory ran out then.
 ghost use Rattle.std.specs.Prelude.{◌≡◌, [], Some, map, option_map};
 ghost use Rattle.wq_clock.specs.Instance.{instance_data};
-ghost use Rattle.wq_query.specs.Query.{planned};
+ghost use Rattle.wq_reply.specs.Plan.{planned};
 ghost use Rattle.wq_follow.specs.Followed.{subscription_data};
 ghost use Rattle.wq_ask.specs.Need.{need_of};
 ghost use Rattle.wq_session.specs.Answer.{CanFinish, Finishes};
 ghost use Rattle.wq_crawl.specs.At.{at_data};
-ghost use Rattle.wq_session.specs.Desk.{AnswersAt, AnswersShelf, HoldsShelf, stand};
+ghost use Rattle.wq_session.specs.Desk.{AnswersShelf, Replies, stand};
 ghost use Rattle.wq_session.specs.Followed.{follows_of};
 ghost use Rattle.wq_session.specs.Prepared.{IsPrepared, asked, asked_at};
-ghost use Rattle.wq_crawl.specs.Views.{ReadyData, root_at_data};
-ghost use Rattle.wq_session.specs.Desk.{Replies};
+ghost use Rattle.wq_crawl.specs.Views.{ReadyData};
 ghost use Rattle.wq_session.specs.Work.{evaluates, rest_data, work_data};
 
+use crate::at::at_of;
 use crate::command::{listed, listed_triggers};
 use crate::crawl::crawl_refusal;
+use crate::cursor::Cursor;
 use crate::desk::Desk;
+use crate::outcome::Out;
 use crate::prepared::Prepared;
 use crate::reply::printed;
 use crate::work::{Rest, Work};
 use std::alloc::Global;
-use wq_ask::{Ask, Cursor, Out};
+use wq_ask::Ask;
 use wq_clock::Instance;
-use wq_crawl::{At, RootAt, Views};
+use wq_crawl::{At, Views};
 use wq_follow::Subscription;
-use wq_query::{Crew, Plan};
+use wq_reply::{Crew, Plan};
 use wq_view::View;
 
 /// A server's record of one client: its subscriptions. An ask of a session depends on nothing else that came before.
@@ -144,26 +146,8 @@ impl Session {
     {
         let (views, ready) = views.ready(ask.need());
         match ready {
-            Ok(root) => (views, self.answer_ready(crew, alloc, ask, root, desk)),
+            Ok(root) => (views, self.answer_at(crew, alloc, ask, at_of(&root), desk)),
             Err(fault) => (views, Out::refused(alloc, crawl_refusal(fault))),
-        }
-    }
-
-    /// The answer to an ask at a root with a share of its view, or at none.
-    fn answer_ready<C: Crew, D: Desk>(
-        &mut self,
-        crew: &C,
-        alloc: Global,
-        ask: Ask,
-        root: Option<RootAt>,
-        desk: &mut D,
-    ) -> Out
-        ensures { AnswersAt (stand (D.shelf desk.old) (follows_of self.old)) ask
-            (option_map root_at_data root) result (stand (D.shelf desk.new) (follows_of self.new)) }
-    {
-        match &root {
-            Some(root) => self.answer_at(crew, alloc, ask, Some(root.at()), desk),
-            None => self.answer_at(crew, alloc, ask, None, desk),
         }
     }
 
@@ -183,22 +167,14 @@ impl Session {
         ensures { AnswersShelf (D.shelf desk.old) (follows_of self.old) ask
             (option_map at_data at.entry) result (D.shelf desk.new) (follows_of self.new) }
     {
-        let work = take_at(alloc, ask, at, desk);
+        let prepared = prepare_at(alloc, ask, at, desk);
+        let work = desk.hold(prepared);
         let mut out = self.finish(crew, alloc, work, at);
         if let Some(cursor) = out.settle() {
             desk.unset(cursor);
         }
         out
     }
-}
-
-/// The work of an ask, which is prepared first, and taken at the shelf of a desk.
-fn take_at<D: Desk>(alloc: Global, ask: Ask, at: Option<At<'_>>, desk: &mut D) -> Work
-    ensures { HoldsShelf (D.shelf desk.old) ask (option_map at_data at.entry) (work_data result)
-        (D.shelf desk.new) }
-{
-    let prepared = prepare_at(alloc, ask, at, desk);
-    desk.hold(prepared)
 }
 
 /// An ask with its query read. The program of the query is found at the desk, or compiled and kept

@@ -3,8 +3,8 @@ ghost use Rattle.std.specs.Prelude.{◌≡◌};
 ghost use Rattle.wq_registry.specs.Shelf.{cursor_unset};
 ghost use Rattle.wq_session.specs.Shelved.{shelf_data};
 
+use crate::cursor::Cursor;
 use std::marker::Model;
-use wq_ask::Cursor;
 use wq_follow::Trigger;
 use wq_registry::Shelf;
 
@@ -16,7 +16,7 @@ pub struct Unset {
 }
 
 impl Model for Unset {
-    ghost use Rattle.wq_ask.specs.declared.cursor.Cursor.{Cursor};
+    ghost use Rattle.wq_session.specs.declared.cursor.Cursor.{Cursor};
 
     ghost Value = { Cursor };
 

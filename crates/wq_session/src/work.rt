@@ -1,14 +1,16 @@
 //! The rest of the work of an answer, when the shelf is no longer held.
 ghost use Rattle.std.specs.Prelude.{◌≡◌};
 
+use crate::cursor::Cursor;
 use crate::lookup::Lookup;
+use crate::outcome::Out;
 use crate::plain::Plain;
 use crate::read_object::ReadObject;
 use std::sync::Arc;
-use wq_ask::{Cursor, Out, RootAsk};
+use wq_ask::RootAsk;
 use wq_base::Text;
 use wq_follow::{ObjectText, Subscription};
-use wq_query::Plan;
+use wq_reply::Plan;
 
 /// The rest of the work of an answer, and its ask if that is of a root, with what was read of it. These are freed when
 /// the work is finished, and not while the shelf is held.

@@ -3,7 +3,7 @@ use Rattle.std.proofs.Common.{◌≡◌, ℕ, Bool, true, false, List, [], ◌++
 use Rattle.wq_stream.specs.Stream.{Adds, events_of, kept_of}
 use Rattle.wq_stream.specs.Told.{Tells, kept_as}
 use Rattle.wq_stream.specs.declared.event.Event.{Event}
-use Rattle.wq_stream.specs.declared.telling.Told.{Told}
+use Rattle.wq_stream.specs.declared.piece.Told.{Told}
 use Rattle.wq_stream.proofs.Adding.{adds_none, adds_some}
 
 -- no events, if the stream has ended

@@ -2,7 +2,7 @@
 -- defines it.
 use Rattle.std.specs.Prelude.{◌≡◌, ℕ, Bool, true, false, List, Option, Some, None}
 use Rattle.wq_stream.specs.Stream.{IsRest, events_of, kept_of}
-use Rattle.wq_stream.specs.declared.telling.Told.{Told}
+use Rattle.wq_stream.specs.declared.piece.Told.{Told}
 
 -- a rest is kept if more events may come
 abbrev pub kept_as : Bool → List ℕ → Option (List ℕ)

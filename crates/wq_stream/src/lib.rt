@@ -4,17 +4,17 @@
 //! Other crates read and answer the lines, and have the sockets and threads.
 #![tactic(auto)]
 
+mod backlog;
 mod event;
 mod inbox;
 mod law;
 mod line;
+mod piece;
 mod splitter;
-mod telling;
-mod waiting;
 
+pub use backlog::{Backlog, MAX_WAITING};
 pub use event::Event;
 pub use inbox::{Inbox, MemoryInbox};
 pub use law::{cuts_do_not_matter, pieces_tell_the_stream, told_events_stay};
 pub use line::MAX_LINE;
 pub use splitter::Splitter;
-pub use waiting::{MAX_WAITING, Waiting};

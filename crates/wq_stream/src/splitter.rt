@@ -5,7 +5,7 @@ ghost use Rattle.wq_stream.specs.Limit.{max_line};
 ghost use Rattle.wq_stream.specs.Stream.{Adds, kept_of};
 
 use crate::event::Event;
-use crate::telling::take_piece;
+use crate::piece::take_piece;
 use std::alloc::{AllocError, Global};
 use std::marker::Model;
 

@@ -32,8 +32,8 @@ use Rattle.wq_term.specs.declared.expr.Scope.{Scope}
 use Rattle.wq_term.specs.declared.expr.Scope.TheVariants.{Basename, Wholename}
 use Rattle.wq_term.specs.declared.expr.Depth.{Depth}
 use Rattle.wq_term.specs.declared.expr.Depth.TheVariants.{Is}
-use Rattle.wq_term.specs.declared.reading.word.SinceField.{SinceField}
-use Rattle.wq_term.specs.declared.reading.word.SinceField.TheVariants.{Oclock, Cclock, Mtime}
+use Rattle.wq_term.specs.declared.parser.word.SinceField.{SinceField}
+use Rattle.wq_term.specs.declared.parser.word.SinceField.TheVariants.{Oclock, Cclock, Mtime}
 use Rattle.wq_term.specs.declared.fault.TermFault.TheVariants.{BadClockSpec, CursorInTerm}
 use Rattle.wq_term.specs.Limit.{max_term_text}
 use Rattle.wq_term.specs.Word.{kind_name, kinds, kind_named, scope_name, scopes, scope_named}

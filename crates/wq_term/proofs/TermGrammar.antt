@@ -17,8 +17,8 @@ use Rattle.wq_term.specs.declared.expr.Scope.TheVariants.{Basename}
 use Rattle.wq_term.specs.declared.expr.Since.{Since as SinceData}
 use Rattle.wq_term.specs.declared.expr.Since.TheVariants.{Observed, Created, Modified}
 use Rattle.wq_term.specs.declared.fault.TermFault.TheVariants.{WrongArguments, BadClockSpec}
-use Rattle.wq_term.specs.declared.reading.word.SinceField.{SinceField}
-use Rattle.wq_term.specs.declared.reading.word.SinceField.TheVariants.{Oclock, Cclock, Mtime}
+use Rattle.wq_term.specs.declared.parser.word.SinceField.{SinceField}
+use Rattle.wq_term.specs.declared.parser.word.SinceField.TheVariants.{Oclock, Cclock, Mtime}
 use Rattle.wq_term.specs.Argument.{text_of, texts_of, kind_of_letter, scope_of, since_field_of, comparison_of}
 use Rattle.wq_term.specs.Argument.{depth_argument, bound_in, epoch_second}
 use Rattle.wq_term.specs.PatternArgument.{plain_flags, flags_of, is_folded}

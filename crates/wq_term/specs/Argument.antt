@@ -18,7 +18,7 @@ use Rattle.wq_base.specs.declared.compare.Relation.{Relation}
 use Rattle.wq_term.specs.declared.expr.Scope.{Scope}
 use Rattle.wq_term.specs.declared.expr.Depth.{Depth}
 use Rattle.wq_term.specs.declared.expr.Depth.TheVariants.{Is}
-use Rattle.wq_term.specs.declared.reading.word.SinceField.{SinceField}
+use Rattle.wq_term.specs.declared.parser.word.SinceField.{SinceField}
 use Rattle.wq_term.specs.declared.fault.TermFault.{TermFault}
 use Rattle.wq_term.specs.declared.fault.TermFault.TheVariants.{BadClockSpec, CursorInTerm}
 use Rattle.wq_term.specs.Limit.{max_term_text}

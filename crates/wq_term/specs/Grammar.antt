@@ -14,8 +14,8 @@ use Rattle.wq_term.specs.declared.head.Head.TheVariants.{True, False, Exists, Em
 use Rattle.wq_term.specs.declared.head.Head.TheVariants.{Name, Iname, Match, Imatch, Suffix}
 use Rattle.wq_term.specs.declared.head.Head.TheVariants.{Size, Since, Dirname, Idirname}
 use Rattle.wq_term.specs.declared.head.Head.TheVariants.{Not, AllOf, AnyOf}
-use Rattle.wq_term.specs.declared.reading.word.SinceField.{SinceField}
-use Rattle.wq_term.specs.declared.reading.word.SinceField.TheVariants.{Oclock, Cclock, Mtime}
+use Rattle.wq_term.specs.declared.parser.word.SinceField.{SinceField}
+use Rattle.wq_term.specs.declared.parser.word.SinceField.TheVariants.{Oclock, Cclock, Mtime}
 use Rattle.wq_term.specs.Expr.{ExprData, always, never, exists, empty, kind_is, name_is, matches}
 use Rattle.wq_term.specs.Expr.{suffix_is, size_is, since, below, negation, all_of, any_of}
 use Rattle.wq_term.specs.Expr.{ExprsData, no_terms, term}

@@ -21,8 +21,8 @@ use Rattle.wq_term.specs.declared.head.Head.TheVariants.{True, False, Exists, Em
 use Rattle.wq_term.specs.declared.head.Head.TheVariants.{Name, Iname, Match, Imatch, Suffix}
 use Rattle.wq_term.specs.declared.head.Head.TheVariants.{Size, Since, Dirname, Idirname}
 use Rattle.wq_term.specs.declared.head.Head.TheVariants.{Not, AllOf, AnyOf}
-use Rattle.wq_term.specs.declared.reading.word.SinceField.{SinceField}
-use Rattle.wq_term.specs.declared.reading.word.SinceField.TheVariants.{Oclock, Cclock, Mtime}
+use Rattle.wq_term.specs.declared.parser.word.SinceField.{SinceField}
+use Rattle.wq_term.specs.declared.parser.word.SinceField.TheVariants.{Oclock, Cclock, Mtime}
 use Rattle.wq_term.specs.Head.{head_named}
 use Rattle.wq_term.specs.Argument.{term_parts, text_of, texts_of, epoch_second, bound_in}
 use Rattle.wq_term.specs.Argument.{kind_of_letter, scope_of, since_field_of, comparison_of, depth_argument}

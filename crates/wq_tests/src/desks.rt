@@ -15,7 +15,7 @@ use wq_base::Stays;
 use wq_clock::Run;
 use wq_crawl::{Crawler, SeatViews};
 use wq_live::{Blank, Named};
-use wq_serve::{LockDesk, SharedShelf, serve};
+use wq_session::{LockDesk, SharedShelf, serve};
 use wq_stream::{Event, Inbox, MemoryInbox, Splitter};
 
 /// How often a client looks whether the other one got a reply.

@@ -8,7 +8,7 @@ mod desks;
 #[cfg(test)]
 mod device;
 #[cfg(test)]
-mod publishing;
+mod publications;
 #[cfg(test)]
 mod round;
 #[cfg(test)]

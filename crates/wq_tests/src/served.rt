@@ -9,7 +9,7 @@ use std::sync::{Arc, Mutex};
 use wq_crawl::{Seconds, Tree, TreeFault};
 use wq_follow::Trigger;
 use wq_registry::{Cache, Shelf};
-use wq_serve::SharedShelf;
+use wq_session::SharedShelf;
 use wq_view::{Kind, Seen, SharedBytes, is_valid_name};
 
 /// The names of the files of a tree.

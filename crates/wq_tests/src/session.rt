@@ -12,8 +12,7 @@ use wq_base::Stays;
 use wq_clock::Run;
 use wq_crawl::{Crawler, Roots, SeatViews};
 use wq_live::{Blank, Named, Seat};
-use wq_serve::{LockDesk, serve};
-use wq_session::Desk;
+use wq_session::{Desk, LockDesk, serve};
 use wq_stream::{MemoryInbox, Splitter};
 
 /// The lines of one client, and the lines that are written to it.

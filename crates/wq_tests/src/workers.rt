@@ -11,8 +11,8 @@ use std::thread::Threads;
 use wq_base::{Asker, Stays};
 use wq_compile::compile;
 use wq_eval::{Gate, OpenGate, Pieces, collect, filter_workers};
-use wq_gen::{Generators, candidates};
-use wq_term::Expr;
+use wq_gen::candidates;
+use wq_term::{Expr, Generators};
 use wq_verify::Program;
 use wq_view::{Pass, View, positions_are_there};
 
@@ -198,8 +198,13 @@ fn any_number_of_workers_keeps_the_same_files(rt: HostRuntime) {
 
 #[test]
 fn no_file_is_kept_for_an_asker_that_has_gone(rt: HostRuntime) {
+    // Each of both has a piece, so that the one which asks is not too late.
+    let gate = FirstPieceGate {
+        begun: AtomicU64::new(0),
+        late: AtomicU64::new(0),
+    };
     let alone = kept(&rt, rt.alloc(), &OpenGate {}, &Gone {}, 1, 2, THREE);
-    let both = kept(&rt, rt.alloc(), &OpenGate {}, &Gone {}, 2, 1, THREE);
+    let both = kept(&rt, rt.alloc(), &gate, &Gone {}, 2, 1, THREE);
     assert!(rt; alone.is_none());
     assert!(rt; both.is_none());
 }

@@ -6,11 +6,12 @@ use itoa::Buffer;
 use std::alloc::{AllocError, Global};
 use std::process::Abort;
 use std::test::Fail;
-use wq_ask::{Ask, ReplyLine};
+use wq_ask::Ask;
 use wq_base::{Table, Text};
 use wq_clock::Run;
 use wq_crawl::CrawlFault;
 use wq_replay::{Happening, Sent, SentLines, World};
+use wq_session::ReplyLine;
 use wq_stream::Event;
 use wq_view::Pass;
 

@@ -4,7 +4,7 @@ use Rattle.std.proofs.lemmas.List.{drop-drop, take-append-drop}
 use Rattle.wq_record.specs.RecordData.{RecordData}
 use Rattle.wq_record.specs.Seen.{SeenData}
 use Rattle.wq_view.specs.Again.{seen_rows}
-use Rattle.wq_view.specs.Making.{records_after, rows_before}
+use Rattle.wq_view.specs.PatchMaker.{records_after, rows_before}
 use Rattle.wq_view.specs.Patch.{patched}
 use Rattle.wq_view.specs.declared.patch.Patch.{Patch}
 use Rattle.wq_view.proofs.Joining.{patched_parts}

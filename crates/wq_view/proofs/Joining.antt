@@ -4,9 +4,9 @@ use Rattle.std.proofs.lemmas.List.{drop-append-le, drop_all, length-drop, take-a
 use Rattle.wq_record.specs.RecordData.{RecordData}
 use Rattle.wq_record.specs.Seen.{SeenData}
 use Rattle.wq_view.specs.Again.{seen_rows}
-use Rattle.wq_view.specs.Making.{AreWithin, IsJoined, IsJoinedTo, IsPut, IsWithin, patches_made, records_after, records_to_come, rows_before, rows_made}
+use Rattle.wq_view.specs.PatchMaker.{AreWithin, IsJoined, IsJoinedTo, IsPut, IsWithin, patches_made, records_after, records_to_come, rows_before, rows_made}
 use Rattle.wq_view.specs.Patch.{patched}
-use Rattle.wq_view.specs.declared.making.Making.{Making}
+use Rattle.wq_view.specs.declared.patch_maker.PatchMaker.{PatchMaker}
 use Rattle.wq_view.specs.declared.patch.Patch.{Patch}
 use Rattle.wq_view.proofs.PatchRuns.{regroup}
 
@@ -65,7 +65,7 @@ regroup_four : {X : Type 0} (b x m y : List X) → (b ++ (x ++ m)) ++ y ≡ (b +
 regroup_four b x m y = ap (λ front. front ++ y) (sym (append_assoc b x m)) ∙ append_assoc (b ++ x) m y
 
 -- the patches of a piece of which no record is left were put after those of the records before it
-put_joined : (records first : List RecordData) (before after : List Patch) (made : Making) (kept tail : ℕ) → IsPut kept (patches_made made) before after
+put_joined : (records first : List RecordData) (before after : List Patch) (made : PatchMaker) (kept tail : ℕ) → IsPut kept (patches_made made) before after
     → IsWithin records made → records_to_come records made ≡ [] → tail ≡ made.tail → IsJoined first before kept
     → IsJoined (first ++ records) after tail × (patched (first ++ records) after ≡ patched first before ++ rows_made records made)
 unfolding IsWithin records_to_come rows_made
@@ -122,7 +122,7 @@ put_joined records first before after made kept tail (p, keeps, none, empty, is)
         ∙ regroup_four (rows_before first before) (seen_rows (records_after first before)) (rows_before records (patches_made made)) (seen_rows (records_after records (patches_made made)))
         ∙ (λ j. sym (patched_parts first before) j ++ (rows_before records (patches_made made) ++ seen_rows (sym full j)))
 
-pub joined_to : {E : Type 0} (result : Result ℕ E) (records all : List RecordData) (found : List SeenData) (before after : List Patch) (made : Making) (kept : ℕ) → records ≡ all → found ≡ rows_made all made
+pub joined_to : {E : Type 0} (result : Result ℕ E) (records all : List RecordData) (found : List SeenData) (before after : List Patch) (made : PatchMaker) (kept : ℕ) → records ≡ all → found ≡ rows_made all made
     → IfOk result (λ tail. tail ≡ made.tail) → IfOk result (λ _. IsPut kept (patches_made made) before after) → IsWithin all made → records_to_come all made ≡ []
     → IfOk result (IsJoinedTo records found kept before after)
 unfolding IsJoinedTo
@@ -133,7 +133,7 @@ joined_to (Ok tail) records all found before after made kept here rows tails put
     (all_of.0, all_of.1 ∙ ap (λ rs. patched first before ++ rs) (sym rows)))
 
 -- the rows of a piece, from its patches
-pub rows_put : (all : List RecordData) (count : ℕ) (made : Making) (patches : List Patch) → IsPut 0 (patches_made made) [] patches → IsWithin (take count all) made
+pub rows_put : (all : List RecordData) (count : ℕ) (made : PatchMaker) (patches : List Patch) → IsPut 0 (patches_made made) [] patches → IsWithin (take count all) made
     → rows_before all patches ++ seen_rows (take made.tail (records_after all patches)) ≡ rows_made (take count all) made
 unfolding IsWithin rows_made
 rows_put all count made patches (p, keeps, none, empty, is) within =

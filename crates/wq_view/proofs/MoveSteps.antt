@@ -4,7 +4,7 @@ use mathlib.Core.Bool.{false≢true}
 use Rattle.std.specs.List.{list_all, range_with_len}
 use Rattle.std.proofs.lemmas.List.{length-map, take_more}
 use Rattle.wq_view.specs.declared.chunk.Slot.{Slot}
-use Rattle.wq_view.specs.declared.merging.Change.{Change}
+use Rattle.wq_view.specs.declared.pass_merge.Change.{Change}
 use Rattle.wq_record.specs.Seen.{SeenData}
 use Rattle.wq_record.specs.RecordData.{RecordData}
 use Rattle.wq_view.specs.Merge.{PairData, record_alone, record_and_row, row_alone, is_unchanged, pair_after, pairs_of, records_after}

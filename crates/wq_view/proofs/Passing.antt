@@ -6,7 +6,7 @@ use Rattle.std.specs.List.{list_all}
 use Rattle.std.proofs.lemmas.Bool.{and_from}
 use Rattle.std.proofs.lemmas.List.{drop_all}
 use Rattle.wq_view.specs.declared.chunk.Slot.{Slot}
-use Rattle.wq_view.specs.declared.merging.Change.{Change}
+use Rattle.wq_view.specs.declared.pass_merge.Change.{Change}
 use Rattle.wq_record.specs.Seen.{SeenData, is_lawful_row}
 use Rattle.wq_record.specs.RecordData.{RecordData}
 use Rattle.wq_view.specs.Merge.{shows, records_after}

@@ -4,9 +4,9 @@ use Rattle.std.proofs.lemmas.List.{append-nil, drop-drop, length-drop, take-appe
 use Rattle.wq_record.specs.RecordData.{RecordData}
 use Rattle.wq_record.specs.Seen.{SeenData}
 use Rattle.wq_view.specs.Again.{seen_rows}
-use Rattle.wq_view.specs.Making.{AreWithin, IsSamePiece, IsWithin, patches_made, records_after, records_to_come, rows_before, rows_made}
+use Rattle.wq_view.specs.PatchMaker.{AreWithin, IsSamePiece, IsWithin, patches_made, records_after, records_to_come, rows_before, rows_made}
 use Rattle.wq_view.specs.declared.patch.Patch.{Patch}
-use Rattle.wq_view.specs.declared.making.Making.{Making}
+use Rattle.wq_view.specs.declared.patch_maker.PatchMaker.{PatchMaker}
 use Rattle.wq_view.proofs.SeenAgain.{seen-append, seen_later}
 
 pub regroup : {X : Type 0} (s q b t : List X) → s ++ (q ++ (b ++ t)) ≡ (s ++ (q ++ b)) ++ t
@@ -44,28 +44,28 @@ rows_at records done kept rows = rows_before records done ++ (seen_rows (take ke
 abbrev left_at : List RecordData → List Patch → ℕ → ℕ → List RecordData
 left_at records done kept replaced = drop replaced (drop kept (records_after records done))
 
-rows_open : (records : List RecordData) (made : Making) → made.tail ≡ 0 → rows_made records made ≡ rows_at records made.done.items made.last.kept made.last.rows.items
+rows_open : (records : List RecordData) (made : PatchMaker) → made.tail ≡ 0 → rows_made records made ≡ rows_at records made.done.items made.last.kept made.last.rows.items
 unfolding rows_made
 rows_open records made is =
     ap (λ t. rows_before records (patches_made made) ++ seen_rows (take t (records_after records (patches_made made)))) is
     ∙ append-nil (rows_before records (patches_made made))
     ∙ rows_more records made.done.items made.last
 
-left_open : (records : List RecordData) (made : Making) → made.tail ≡ 0 → records_to_come records made ≡ left_at records made.done.items made.last.kept made.last.replaced
+left_open : (records : List RecordData) (made : PatchMaker) → made.tail ≡ 0 → records_to_come records made ≡ left_at records made.done.items made.last.kept made.last.replaced
 unfolding records_to_come
 left_open records made is =
     ap (λ t. drop t (records_after records (patches_made made))) is ∙ after_more records made.done.items made.last
 
-within_open : (records : List RecordData) (made : Making) → IsWithin records made → AreWithin records made.done.items × (made.last.kept + made.last.replaced ≤ length (records_after records made.done.items))
+within_open : (records : List RecordData) (made : PatchMaker) → IsWithin records made → AreWithin records made.done.items × (made.last.kept + made.last.replaced ≤ length (records_after records made.done.items))
 unfolding IsWithin
 within_open records made are = within_parts records made.done.items made.last are.0
 
-open_within : (records : List RecordData) (made : Making) → made.tail ≡ 0 → AreWithin records made.done.items → made.last.kept + made.last.replaced ≤ length (records_after records made.done.items) → IsWithin records made
+open_within : (records : List RecordData) (made : PatchMaker) → made.tail ≡ 0 → AreWithin records made.done.items → made.last.kept + made.last.replaced ≤ length (records_after records made.done.items) → IsWithin records made
 unfolding IsWithin
 open_within records made is are fits = (within_more records made.done.items made.last are fits, omega (arith, is))
 
 -- so many records more are kept
-pub kept_rows : (records : List RecordData) (made next : Making) (count : ℕ) → next.done.items ≡ made.done.items → next.last ≡ made.last → next.tail ≡ made.tail + count
+pub kept_rows : (records : List RecordData) (made next : PatchMaker) (count : ℕ) → next.done.items ≡ made.done.items → next.last ≡ made.last → next.tail ≡ made.tail + count
     → rows_made records next ≡ rows_made records made ++ seen_rows (take count (records_to_come records made))
 unfolding rows_made records_to_come
 kept_rows records made next count done last tail =
@@ -75,14 +75,14 @@ kept_rows records made next count done last tail =
     ∙ ap (λ rows. rows_before records ps ++ rows) (seen_later after made.tail count)
     ∙ sym (append_assoc (rows_before records ps) (seen_rows (take made.tail after)) (seen_rows (take count (drop made.tail after))))
 
-pub kept_left : (records : List RecordData) (made next : Making) (count : ℕ) → next.done.items ≡ made.done.items → next.last ≡ made.last → next.tail ≡ made.tail + count
+pub kept_left : (records : List RecordData) (made next : PatchMaker) (count : ℕ) → next.done.items ≡ made.done.items → next.last ≡ made.last → next.tail ≡ made.tail + count
     → records_to_come records next ≡ drop count (records_to_come records made)
 unfolding records_to_come
 kept_left records made next count done last tail =
     (λ j. drop (tail j) (records_after records (done j ++ (last j ∷ []))))
     ∙ sym (drop-drop count made.tail (records_after records (patches_made made)))
 
-pub kept_within : (records : List RecordData) (made next : Making) (count : ℕ) → next.done.items ≡ made.done.items → next.last ≡ made.last → next.tail ≡ made.tail + count
+pub kept_within : (records : List RecordData) (made next : PatchMaker) (count : ℕ) → next.done.items ≡ made.done.items → next.last ≡ made.last → next.tail ≡ made.tail + count
     → IsWithin records made → count ≤ length (records_to_come records made) → IsWithin records next
 unfolding IsWithin records_to_come
 kept_within records made next count done last tail are there =
@@ -92,7 +92,7 @@ kept_within records made next count done last tail are there =
     (subst (λ ps. AreWithin records ps × (made.tail + count ≤ length (records_after records ps))) (λ j. sym done j ++ (sym last j ∷ [])) (are.0, sum))
 
 -- nothing changed
-pub same_piece : (made next : Making) → next.done.items ≡ made.done.items → next.last ≡ made.last → next.tail ≡ made.tail → IsSamePiece made next
+pub same_piece : (made next : PatchMaker) → next.done.items ≡ made.done.items → next.last ≡ made.last → next.tail ≡ made.tail → IsSamePiece made next
 unfolding IsSamePiece rows_made records_to_come IsWithin
 same_piece made next done last tail records = (
   (λ j. rows_before records (done j ++ (last j ∷ [])) ++ seen_rows (take (tail j) (records_after records (done j ++ (last j ∷ []))))),
@@ -102,7 +102,7 @@ same_piece made next done last tail records = (
 )
 
 -- a patch was begun
-pub opened : (made next : Making) → next.done.items ≡ made.done.items ++ (made.last ∷ []) → next.last.kept ≡ made.tail → next.last.replaced ≡ 0 → next.last.rows.items ≡ [] → next.tail ≡ 0 → IsSamePiece made next
+pub opened : (made next : PatchMaker) → next.done.items ≡ made.done.items ++ (made.last ∷ []) → next.last.kept ≡ made.tail → next.last.replaced ≡ 0 → next.last.rows.items ≡ [] → next.tail ≡ 0 → IsSamePiece made next
 unfolding IsSamePiece rows_made records_to_come IsWithin
 opened made next done kept replaced rows tail records = (at, left, within)
   where
@@ -121,19 +121,19 @@ opened made next done kept replaced rows tail records = (at, left, within)
         (subst (λ ps. next.last.kept + next.last.replaced ≤ length (records_after records ps)) (sym done) fits)
 
 -- one record more is in the open patch
-pub covered_rows : (records : List RecordData) (made next : Making) → made.tail ≡ 0 → next.tail ≡ 0 → next.done.items ≡ made.done.items → next.last.kept ≡ made.last.kept → next.last.rows.items ≡ made.last.rows.items
+pub covered_rows : (records : List RecordData) (made next : PatchMaker) → made.tail ≡ 0 → next.tail ≡ 0 → next.done.items ≡ made.done.items → next.last.kept ≡ made.last.kept → next.last.rows.items ≡ made.last.rows.items
     → rows_made records next ≡ rows_made records made
 covered_rows records made next before after done kept rows =
     rows_open records next after ∙ (λ j. rows_at records (done j) (kept j) (rows j)) ∙ sym (rows_open records made before)
 
-pub covered_left : (records : List RecordData) (made next : Making) → made.tail ≡ 0 → next.tail ≡ 0 → next.done.items ≡ made.done.items → next.last.kept ≡ made.last.kept → next.last.replaced ≡ made.last.replaced + 1
+pub covered_left : (records : List RecordData) (made next : PatchMaker) → made.tail ≡ 0 → next.tail ≡ 0 → next.done.items ≡ made.done.items → next.last.kept ≡ made.last.kept → next.last.replaced ≡ made.last.replaced + 1
     → records_to_come records next ≡ drop 1 (records_to_come records made)
 covered_left records made next before after done kept replaced =
     left_open records next after ∙ (λ j. left_at records (done j) (kept j) (replaced j))
     ∙ sym (drop-drop 1 made.last.replaced (drop made.last.kept (records_after records made.done.items)))
     ∙ ap (drop 1) (sym (left_open records made before))
 
-pub covered_within : (records : List RecordData) (made next : Making) → made.tail ≡ 0 → next.tail ≡ 0 → next.done.items ≡ made.done.items → next.last.kept ≡ made.last.kept → next.last.replaced ≡ made.last.replaced + 1
+pub covered_within : (records : List RecordData) (made next : PatchMaker) → made.tail ≡ 0 → next.tail ≡ 0 → next.done.items ≡ made.done.items → next.last.kept ≡ made.last.kept → next.last.replaced ≡ made.last.replaced + 1
     → IsWithin records made → 1 ≤ length (records_to_come records made) → IsWithin records next
 covered_within records made next before after done kept replaced are there =
     let begin = records_after records made.done.items in
@@ -144,7 +144,7 @@ covered_within records made next before after done kept replaced are there =
     (subst (λ ps. next.last.kept + next.last.replaced ≤ length (records_after records ps)) (sym done) fits)
 
 -- rows more are in the open patch
-pub added_rows : (records : List RecordData) (made next : Making) (more : List SeenData) → made.tail ≡ 0 → next.tail ≡ 0 → next.done.items ≡ made.done.items → next.last.kept ≡ made.last.kept → next.last.rows.items ≡ made.last.rows.items ++ more
+pub added_rows : (records : List RecordData) (made next : PatchMaker) (more : List SeenData) → made.tail ≡ 0 → next.tail ≡ 0 → next.done.items ≡ made.done.items → next.last.kept ≡ made.last.kept → next.last.rows.items ≡ made.last.rows.items ++ more
     → rows_made records next ≡ rows_made records made ++ more
 added_rows records made next more before after done kept rows =
     let front = rows_before records made.done.items in
@@ -153,12 +153,12 @@ added_rows records made next more before after done kept rows =
     ∙ sym (append_assoc front (seen ++ made.last.rows.items) more ∙ ap (λ back. front ++ back) (append_assoc seen made.last.rows.items more))
     ∙ ap (λ xs. xs ++ more) (sym (rows_open records made before))
 
-pub added_left : (records : List RecordData) (made next : Making) → made.tail ≡ 0 → next.tail ≡ 0 → next.done.items ≡ made.done.items → next.last.kept ≡ made.last.kept → next.last.replaced ≡ made.last.replaced
+pub added_left : (records : List RecordData) (made next : PatchMaker) → made.tail ≡ 0 → next.tail ≡ 0 → next.done.items ≡ made.done.items → next.last.kept ≡ made.last.kept → next.last.replaced ≡ made.last.replaced
     → records_to_come records next ≡ records_to_come records made
 added_left records made next before after done kept replaced =
     left_open records next after ∙ (λ j. left_at records (done j) (kept j) (replaced j)) ∙ sym (left_open records made before)
 
-pub added_within : (records : List RecordData) (made next : Making) → made.tail ≡ 0 → next.tail ≡ 0 → next.done.items ≡ made.done.items → next.last.kept ≡ made.last.kept → next.last.replaced ≡ made.last.replaced
+pub added_within : (records : List RecordData) (made next : PatchMaker) → made.tail ≡ 0 → next.tail ≡ 0 → next.done.items ≡ made.done.items → next.last.kept ≡ made.last.kept → next.last.replaced ≡ made.last.replaced
     → IsWithin records made → IsWithin records next
 added_within records made next before after done kept replaced are =
     let parts = within_open records made are in
@@ -167,7 +167,7 @@ added_within records made next before after done kept replaced are =
     (subst (λ ps. next.last.kept + next.last.replaced ≤ length (records_after records ps)) (sym done) fits)
 
 -- no patch changes anything, and no record is left
-pub plain : (made : Making) → made.done.items ≡ [] → made.last.replaced ≡ 0 → made.last.rows.items ≡ [] → (records : List RecordData) → records_to_come records made ≡ [] → rows_made records made ≡ seen_rows records
+pub plain : (made : PatchMaker) → made.done.items ≡ [] → made.last.replaced ≡ 0 → made.last.rows.items ≡ [] → (records : List RecordData) → records_to_come records made ≡ [] → rows_made records made ≡ seen_rows records
 unfolding rows_made records_to_come
 plain made done replaced rows records none =
     let kept = made.last.kept in
@@ -183,20 +183,20 @@ plain made done replaced rows records none =
     ∙ ap seen_rows (take-append-drop kept records)
 
 -- what is the same whatever the records
-pub same_rows : (made next : Making) → IsSamePiece made next → (records : List RecordData) → rows_made records next ≡ rows_made records made
+pub same_rows : (made next : PatchMaker) → IsSamePiece made next → (records : List RecordData) → rows_made records next ≡ rows_made records made
 unfolding IsSamePiece
 same_rows made next same records = (same records).0
 
-pub same_left : (made next : Making) → IsSamePiece made next → (records : List RecordData) → records_to_come records next ≡ records_to_come records made
+pub same_left : (made next : PatchMaker) → IsSamePiece made next → (records : List RecordData) → records_to_come records next ≡ records_to_come records made
 unfolding IsSamePiece
 same_left made next same records = (same records).1
 
-pub same_within : (made next : Making) → IsSamePiece made next → (records : List RecordData) → IsWithin records made → IsWithin records next
+pub same_within : (made next : PatchMaker) → IsSamePiece made next → (records : List RecordData) → IsWithin records made → IsWithin records next
 unfolding IsSamePiece
 same_within made next same records = (same records).2
 
 -- nothing changed in an open patch
-pub same_open : (made next : Making) → made.tail ≡ 0 → next.tail ≡ 0 → next.done.items ≡ made.done.items → next.last.kept ≡ made.last.kept → next.last.replaced ≡ made.last.replaced → next.last.rows.items ≡ made.last.rows.items → IsSamePiece made next
+pub same_open : (made next : PatchMaker) → made.tail ≡ 0 → next.tail ≡ 0 → next.done.items ≡ made.done.items → next.last.kept ≡ made.last.kept → next.last.replaced ≡ made.last.replaced → next.last.rows.items ≡ made.last.rows.items → IsSamePiece made next
 unfolding IsSamePiece
 same_open made next before after done kept replaced rows records = (
   covered_rows records made next before after done kept rows,
@@ -205,18 +205,18 @@ same_open made next before after done kept replaced rows records = (
 )
 
 -- two steps that change nothing
-pub same_both : (made mid next : Making) → IsSamePiece made mid → IsSamePiece mid next → IsSamePiece made next
+pub same_both : (made mid next : PatchMaker) → IsSamePiece made mid → IsSamePiece mid next → IsSamePiece made next
 unfolding IsSamePiece
 same_both made mid next first then records = ((then records).0 ∙ (first records).0, (then records).1 ∙ (first records).1, (λ are. (then records).2 ((first records).2 are)))
 
 -- no record was passed, and no row was added
-pub rows_new : (made : Making) → made.done.items ≡ [] → made.last.kept ≡ 0 → made.last.replaced ≡ 0 → made.last.rows.items ≡ [] → made.tail ≡ 0 → (records : List RecordData) → rows_made records made ≡ []
+pub rows_new : (made : PatchMaker) → made.done.items ≡ [] → made.last.kept ≡ 0 → made.last.replaced ≡ 0 → made.last.rows.items ≡ [] → made.tail ≡ 0 → (records : List RecordData) → rows_made records made ≡ []
 rows_new made done kept replaced rows tail records = rows_open records made tail ∙ (λ j. rows_at records (done j) (kept j) (rows j))
 
-pub left_new : (made : Making) → made.done.items ≡ [] → made.last.kept ≡ 0 → made.last.replaced ≡ 0 → made.last.rows.items ≡ [] → made.tail ≡ 0 → (records : List RecordData) → records_to_come records made ≡ records
+pub left_new : (made : PatchMaker) → made.done.items ≡ [] → made.last.kept ≡ 0 → made.last.replaced ≡ 0 → made.last.rows.items ≡ [] → made.tail ≡ 0 → (records : List RecordData) → records_to_come records made ≡ records
 left_new made done kept replaced rows tail records = left_open records made tail ∙ (λ j. left_at records (done j) (kept j) (replaced j))
 
-pub within_new : (made : Making) → made.done.items ≡ [] → made.last.kept ≡ 0 → made.last.replaced ≡ 0 → made.last.rows.items ≡ [] → made.tail ≡ 0 → (records : List RecordData) → IsWithin records made
+pub within_new : (made : PatchMaker) → made.done.items ≡ [] → made.last.kept ≡ 0 → made.last.replaced ≡ 0 → made.last.rows.items ≡ [] → made.tail ≡ 0 → (records : List RecordData) → IsWithin records made
 within_new made done kept replaced rows tail records =
     open_within records made tail (subst (AreWithin records) (sym done) tt) (omega (arith, kept, replaced))
 

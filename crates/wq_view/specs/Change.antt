@@ -3,7 +3,7 @@
 use Rattle.std.specs.Prelude.{◌≡◌, ◌++◌, IsTrue, List, map}
 use Rattle.std.specs.FinMap.{entries, is_sorted}
 use Rattle.std.specs.List.{list_all}
-use Rattle.wq_view.specs.declared.merging.Change.{Change}
+use Rattle.wq_view.specs.declared.pass_merge.Change.{Change}
 use Rattle.wq_record.specs.Seen.{SeenData, entry_of, is_lawful_row}
 use Rattle.wq_record.specs.Name.{name_cmp}
 use Rattle.wq_view.specs.Listing.{PassData}

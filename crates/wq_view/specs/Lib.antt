@@ -9,7 +9,7 @@ pub mod Position
 pub mod Run
 pub mod Chunk
 pub mod Change
-pub mod Filling
+pub mod ChunkFiller
 pub mod Records
 pub mod Below
 pub mod Moves
@@ -18,5 +18,5 @@ pub mod Again
 pub mod Patch
 pub mod Patching
 pub mod Stretch
-pub mod Making
+pub mod PatchMaker
 pub mod Recent

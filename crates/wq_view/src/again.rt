@@ -6,11 +6,11 @@ ghost use Rattle.wq_record.specs.Name.{is_valid_name};
 ghost use Rattle.wq_record.specs.Seen.{is_lawful_row};
 ghost use Rattle.wq_view.specs.Again.{seen_row, seen_rows};
 ghost use Rattle.wq_view.specs.Limit.{max_listing_rows};
-ghost use Rattle.wq_view.specs.Making.{IsJoinedTo, records_after, rows_before};
+ghost use Rattle.wq_view.specs.PatchMaker.{IsJoinedTo, records_after, rows_before};
 ghost use Rattle.wq_view.specs.Records.{records_left};
 
-use crate::making::Making;
 use crate::patch::Patch;
+use crate::patch_maker::PatchMaker;
 use crate::records::Records;
 use crate::stretch::Stretch;
 use std::alloc::{AllocError, Global};
@@ -31,7 +31,7 @@ pub struct Again<'a> {
     /// The number of records that are passed.
     passed: usize,
     /// What was found of their files.
-    made: Making,
+    made: PatchMaker,
     /// The number of files that were found.
     len: usize,
 }
@@ -39,7 +39,7 @@ pub struct Again<'a> {
 impl<'a> Model for Again<'a> {
     ghost use Rattle.std.specs.Prelude.{◌≡◌, ◌≤◌, drop, length, take};
     ghost use Rattle.wq_view.specs.Again.{AgainData, again_code};
-    ghost use Rattle.wq_view.specs.Making.{IsWithin, records_to_come, rows_made};
+    ghost use Rattle.wq_view.specs.PatchMaker.{IsWithin, records_to_come, rows_made};
     ghost use Rattle.wq_view.specs.Records.{records_left};
 
     ghost Value = { AgainData };
@@ -72,7 +72,7 @@ impl<'a> Again<'a> {
             count,
             left: records,
             passed: 0,
-            made: Making::new(alloc),
+            made: PatchMaker::new(alloc),
             len: 0,
         }
     }

@@ -7,7 +7,7 @@ ghost use Rattle.wq_view.specs.Limit.{max_chunk, max_records};
 ghost use Rattle.wq_view.specs.Position.{positions_from};
 ghost use Rattle.wq_view.specs.Suffix.{folded_suffixes, has_suffix_of};
 
-use crate::existing::existing_in;
+use crate::existence::existing_in;
 use crate::suffix::SuffixTable;
 use crate::suffixes::Suffixes;
 use std::alloc::{AllocError, Global};

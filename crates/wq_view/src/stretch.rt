@@ -7,7 +7,7 @@ ghost use Rattle.wq_view.specs.Records.{records_left};
 ghost use Rattle.wq_view.specs.Stretch.{stretch_records};
 
 use crate::chunk::Slot;
-use crate::existing::existing_in;
+use crate::existence::existing_in;
 use crate::records::Records;
 use wq_record::Record;
 

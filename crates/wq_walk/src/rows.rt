@@ -6,7 +6,7 @@ ghost use Rattle.wq_crawl.specs.Tree.{is_of_device};
 ghost use Rattle.wq_record.specs.Name.{is_valid_name};
 ghost use Rattle.wq_view.specs.Again.{seen_rows};
 ghost use Rattle.wq_view.specs.Limit.{max_listing_rows};
-ghost use Rattle.wq_view.specs.Making.{IsJoinedTo};
+ghost use Rattle.wq_view.specs.PatchMaker.{IsJoinedTo};
 ghost use Rattle.wq_record.specs.Seen.{is_lawful_row};
 ghost use Rattle.wq_walk.specs.Found.{IsFoundOf, found_rows};
 ghost use Rattle.wq_walk.specs.Part.{IsListing, is_in, is_row_in, whole_part};

@@ -7,7 +7,7 @@ ghost use Rattle.wq_ask.specs.Clock.{asks_crawl, clock_arguments, clock_data, cl
 ghost use Rattle.wq_ask.specs.Reading.{Requests};
 ghost use Rattle.wq_ask.specs.Reply.{IsReply};
 
-use crate::ask::{Ask, RootAsk};
+use crate::ask::{Ask, RootAsk, RootRead};
 use crate::refusal::Refusal;
 use crate::root::RootText;
 use crate::words::{one_behind, text, two_behind};
@@ -29,7 +29,7 @@ pub(super) fn ask_clock(alloc: Global, words: Vec<Value>) -> Result<Ask, Refusal
     Ok(Ask::OfRoot {
         root,
         crawl,
-        what: RootAsk::Clock,
+        what: RootAsk::Reads(RootRead::Clock),
     })
 }
 

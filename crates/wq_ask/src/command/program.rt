@@ -10,7 +10,7 @@ ghost use Rattle.wq_ask.specs.Program.{added_data, deleted_data};
 ghost use Rattle.wq_ask.specs.Reading.{Requests};
 ghost use Rattle.wq_ask.specs.Reply.{IsReply};
 
-use crate::ask::{Ask, ShelfAsk};
+use crate::ask::{Ask, ShelfAsk, ShelfRead};
 use crate::refusal::Refusal;
 use crate::words::{are_none, one_text, two_texts};
 use base64::DecodeAllocError;
@@ -41,7 +41,7 @@ pub(super) fn ask_names(words: &[Value]) -> Result<Ask, Refusal>
     if !are_none(words) {
         return Err(Refusal::WrongArguments);
     }
-    Ok(Ask::OfShelf(ShelfAsk::ListPrograms))
+    Ok(Ask::OfShelf(ShelfAsk::Reads(ShelfRead::ListPrograms)))
 }
 
 /// The ask of `program-del` with these words.

@@ -12,7 +12,6 @@ use crate::words::{text, two_behind};
 use serde_json::Value;
 use std::alloc::Global;
 use wq_base::Text;
-use wq_query::Query;
 use wq_term::whole_number;
 
 /// The ask of `query` with these words.

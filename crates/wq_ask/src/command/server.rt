@@ -7,7 +7,7 @@ ghost use Rattle.wq_ask.specs.Reading.{Requests};
 ghost use Rattle.wq_ask.specs.Reply.{IsReply};
 ghost use Rattle.wq_ask.specs.Server.{shutdown_request, socket_request, version_request, socket_data};
 
-use crate::ask::{Ask, LoneAsk, ShelfAsk};
+use crate::ask::{Ask, LoneAsk, ShelfAsk, ShelfRead};
 use crate::refusal::Refusal;
 use crate::words::{are_none, are_options};
 use serde_json::{Value, json};
@@ -31,7 +31,7 @@ pub(super) fn ask_socket(words: &[Value]) -> Result<Ask, Refusal>
     if !are_none(words) {
         return Err(Refusal::WrongArguments);
     }
-    Ok(Ask::OfShelf(ShelfAsk::SocketName))
+    Ok(Ask::OfShelf(ShelfAsk::Reads(ShelfRead::SocketName)))
 }
 
 /// The ask of `shutdown-server` with these words.

@@ -9,7 +9,7 @@ ghost use Rattle.wq_ask.specs.Trigger.{delete_trigger_request, list_triggers_req
 ghost use Rattle.wq_ask.specs.Trigger.{trigger_arguments, trigger_deleted_reply};
 ghost use Rattle.wq_ask.specs.Trigger.{trigger_reply, trigger_request, triggers_reply};
 
-use crate::ask::{Ask, RootAsk};
+use crate::ask::{Ask, RootAsk, RootRead};
 use crate::refusal::Refusal;
 use crate::root::RootText;
 use crate::words::{one_text, text, two_behind, two_texts};
@@ -55,7 +55,7 @@ pub(super) fn ask_list_triggers(alloc: Global, words: Vec<Value>) -> Result<Ask,
     Ok(Ask::OfRoot {
         root,
         crawl: false,
-        what: RootAsk::ListTriggers,
+        what: RootAsk::Reads(RootRead::ListTriggers),
     })
 }
 

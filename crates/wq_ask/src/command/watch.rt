@@ -8,7 +8,7 @@ ghost use Rattle.wq_ask.specs.Reply.{IsReply};
 ghost use Rattle.wq_ask.specs.Watch.{list_request, unwatch_request, watch_request};
 ghost use Rattle.wq_ask.specs.Watch.{root_deleted_data, watch_data};
 
-use crate::ask::{Ask, ShelfAsk};
+use crate::ask::{Ask, ShelfAsk, ShelfRead};
 use crate::refusal::Refusal;
 use crate::root::{RootText, is_absolute};
 use crate::words::{are_none, one_text};
@@ -37,7 +37,7 @@ pub(super) fn ask_list(words: &[Value]) -> Result<Ask, Refusal>
     if !are_none(words) {
         return Err(Refusal::WrongArguments);
     }
-    Ok(Ask::OfShelf(ShelfAsk::ListRoots))
+    Ok(Ask::OfShelf(ShelfAsk::Reads(ShelfRead::ListRoots)))
 }
 
 /// The ask of `watch-del` with these words.

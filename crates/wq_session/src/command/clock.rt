@@ -1,30 +1,23 @@
-//! The beginning of `clock`, the last pass over a root.
+//! The reply to `clock`, the last pass over a root.
 ghost use Rattle.wq_crawl.specs.At.{at_data};
-ghost use Rattle.wq_session.specs.Clock.{try_clock};
-ghost use Rattle.wq_session.specs.Shelved.{shelf_data};
-ghost use Rattle.wq_session.specs.Work.{Begins};
+ghost use Rattle.wq_session.specs.At.{ShelfNow};
+ghost use Rattle.wq_session.specs.Clock.{clock_at};
+ghost use Rattle.wq_session.specs.Work.{Begins, replying};
 
-use crate::reply::saying;
+use crate::plain::Plain;
 use crate::work::Rest;
 use std::alloc::Global;
 use wq_ask::{Refusal, clock_reply};
 use wq_crawl::At;
-use wq_follow::Trigger;
-use wq_registry::Shelf;
 
 /// `clock`, of the root that is looked at.
-pub(super) fn begin_clock(
-    alloc: Global,
-    at: At<'_>,
-    shelf: &Shelf<Trigger>,
-) -> Result<Rest, Refusal>
-    ensures { Begins (try_clock (at_data at.entry) (shelf_data shelf.now))
-        (shelf_data shelf.now) result
-        (shelf_data shelf.now) }
+pub(super) fn clock_at(alloc: Global, at: At<'_>) -> Result<Rest, Refusal>
+    ensures { (shelf : ShelfNow) → Begins (replying (clock_at (at_data at.entry)) shelf)
+        shelf result shelf }
 {
     let Some(view) = at.view else {
         return Err(Refusal::NotWatched);
     };
-    let reply = clock_reply(alloc, &at.instance, view)?;
-    Ok(saying(alloc, &reply)?)
+    let value = clock_reply(alloc, &at.instance, view)?;
+    Ok(Rest::Prints(Plain { value }))
 }

@@ -8,7 +8,7 @@ ghost use Rattle.wq_crawl.specs.At.{at_data};
 ghost use Rattle.wq_session.specs.At.{ShelfNow};
 ghost use Rattle.wq_session.specs.Prepared.{IsKnown, IsLookup, IsReadAt, asks_subscription};
 ghost use Rattle.wq_session.specs.Shelved.{shelf_data};
-ghost use Rattle.wq_session.specs.Subscribe.{begun_subscription, try_subscribe, try_unsubscribe};
+ghost use Rattle.wq_session.specs.Subscribe.{begun_read_subscribe, begun_subscribe, begun_unsubscribe};
 ghost use Rattle.wq_session.specs.Work.{Begins};
 
 use crate::command::query::program_for;
@@ -23,6 +23,7 @@ use wq_crawl::At;
 use wq_follow::{Subscription, Trigger};
 use wq_query::Query;
 use wq_registry::Shelf;
+use wq_reply::Plan;
 
 /// `subscribe`, of the root that is looked at, as its object was read there.
 pub(super) fn begin_subscribe(
@@ -36,7 +37,7 @@ pub(super) fn begin_subscribe(
 ) -> Result<Rest, Refusal>
     requires { IsKnown object.old lookup.now }
     ensures { (d : Data) → IsReadAt (asks_subscription d) (Some (at_data at.entry)) object.old
-        → Begins (try_subscribe root.now name.now d (at_data at.entry) (shelf_data shelf.now))
+        → Begins (begun_subscribe root.now name.now d (at_data at.entry) (shelf_data shelf.now))
         (shelf_data shelf.now) result (shelf_data shelf.now) }
 {
     let Some(_) = at.view else {
@@ -46,11 +47,11 @@ pub(super) fn begin_subscribe(
         return Err(Refusal::BadName);
     }
     let query = object.take_query()?;
-    begin_read(alloc, root, name, query, lookup, at.instance.root, shelf)
+    begin_read_subscribe(alloc, root, name, query, lookup, at.instance.root, shelf)
 }
 
 /// A subscription to the files that a query asks for, of a root of this number.
-fn begin_read(
+fn begin_read_subscribe(
     alloc: Global,
     root: &RootText,
     name: &Text,
@@ -60,7 +61,7 @@ fn begin_read(
     shelf: &Shelf<Trigger>,
 ) -> Result<Rest, Refusal>
     requires { IsLookup (asked_of query).expression lookup.now }
-    ensures { Begins (begun_subscription root.now name.now number (asked_of query)
+    ensures { Begins (begun_read_subscribe root.now name.now number (asked_of query)
         (shelf_data shelf.now))
         (shelf_data shelf.now) result (shelf_data shelf.now) }
 {
@@ -68,14 +69,14 @@ fn begin_read(
     let root = Text::copied(alloc, root.as_str())?;
     let name = Text::copied(alloc, name.as_str())?;
     let bound = query.bound().unwrap_or(Bound::Fresh);
-    let plan = query.plan(bound, program);
+    let plan = Plan::of(query, bound, program);
     Ok(Rest::Begins(Subscription::new(name, root, number, plan)))
 }
 
 /// `unsubscribe`, of the root that is looked at.
 pub(super) fn begin_unsubscribe(alloc: Global, name: &Text, at: At<'_>) -> Result<Rest, Refusal>
     ensures { (shelf : ShelfNow)
-        → Begins (try_unsubscribe name.now (at_data at.entry) shelf) shelf result shelf }
+        → Begins (begun_unsubscribe name.now (at_data at.entry) shelf) shelf result shelf }
 {
     if !is_name(name) {
         return Err(Refusal::BadName);

@@ -1,42 +1,39 @@
-//! `trigger`, `trigger-list` and `trigger-del`: the server starts commands if files of a root changed. The object of
-//! `trigger` is read, and its expression compiled, before the shelf is held. The shelf is held to look up a program by
-//! its name, and to put the trigger under its own.
+//! The beginnings of `trigger` and `trigger-del`, and the reply to `trigger-list`: the server starts commands if files
+//! of a root changed. The object of `trigger` is read, and its expression compiled, before the shelf is held. The shelf
+//! is held to look up a program by its name, and to put the trigger under its own.
 ghost use Rattle.std.specs.Prelude.{◌≡◌, ◌⊎◌, List, None, Ok, Option, Some, false, is_none, is_some, option_map, true};
 ghost use Rattle.std.specs.Prelude.{IfErr, IfOk, OnErr, OnOk};
 ghost use Rattle.serde_json.specs.Data.{Data};
 ghost use Rattle.serde_json.specs.View.{view as data_of};
 ghost use Rattle.wq_follow.specs.Defined.{definition_data};
-ghost use Rattle.wq_query.specs.Meaning.{AnswersWithin};
+ghost use Rattle.wq_reply.specs.Meaning.{AnswersWithin};
+ghost use Rattle.wq_registry.specs.Refusal.{Refuses};
 ghost use Rattle.wq_registry.specs.Root.{numbered};
 ghost use Rattle.wq_follow.specs.Followed.{trigger_data};
 ghost use Rattle.wq_follow.specs.Subscription.{SubscriptionData};
-ghost use Rattle.wq_registry.specs.Shelf.{trigger_added, triggers_of};
-ghost use Rattle.wq_ask.specs.Out.{replies};
+ghost use Rattle.wq_registry.specs.Shelf.{trigger_added, trigger_removed, triggers_of};
+ghost use Rattle.wq_session.specs.Out.{replies};
 ghost use Rattle.wq_ask.specs.declared.refusal.Refusal.TheVariants.{NoMemory, TooManyTriggers};
 ghost use Rattle.wq_ask.specs.Trigger.{trigger_deleted_reply, trigger_reply, triggers_reply};
 ghost use Rattle.wq_crawl.specs.At.{AtData, at_data};
 ghost use Rattle.wq_session.specs.Answer.{Finishes};
-ghost use Rattle.wq_crawl.specs.At.{AtData, at_data};
 ghost use Rattle.wq_session.specs.Prepared.{IsKnown, IsLookup, IsReadAt, asks_trigger};
 ghost use Rattle.wq_session.specs.Shelved.{each, shelf_data};
 ghost use Rattle.wq_session.specs.Objects.{AreObjects};
-ghost use Rattle.wq_session.specs.Trigger.{begun_trigger, has_no_trigger_place, objects_of, put_trigger};
-ghost use Rattle.wq_session.specs.Trigger.{listing_triggers, trigger_called, try_delete_trigger, try_trigger};
-ghost use Rattle.wq_session.specs.Work.{Begins, objects_in, prints};
+ghost use Rattle.wq_session.specs.Trigger.{begun_delete_trigger, begun_read_trigger, begun_trigger};
+ghost use Rattle.wq_session.specs.Trigger.{has_no_trigger_place, objects_of, put_trigger, run_in, trigger_called};
+ghost use Rattle.wq_session.specs.Trigger.{triggers_at};
+ghost use Rattle.wq_session.specs.Work.{Begins, objects_in, prints, replying};
 
 use crate::command::query::program_for;
 use crate::lookup::Lookup;
-use crate::plain::Plain;
+use crate::outcome::{Out, print};
 use crate::read_object::ReadObject;
-use crate::reply::printed;
-use crate::shelving::{add_trigger, has_trigger, remove_trigger, run_of};
 use crate::work::Rest;
 use serde_json::Value;
 use std::alloc::{AllocError, Global};
 use std::sync::Arc;
-use wq_ask::{
-    Out, Refusal, RootText, is_name, print, trigger_deleted_reply, trigger_reply, triggers_reply,
-};
+use wq_ask::{Refusal, RootText, is_name, trigger_deleted_reply, trigger_reply, triggers_reply};
 use wq_base::Text;
 use wq_crawl::At;
 use wq_follow::{Definition, ObjectText, Trigger};
@@ -55,18 +52,18 @@ pub(super) fn begin_trigger(
     requires known { IsKnown object.old lookup.now }
     requires watched { is_none (numbered at.instance.root shelf.old.roots) ≡ false }
     ensures { (d : Data) → IsReadAt (asks_trigger d) (Some (at_data at.entry)) object.old
-        → Begins (try_trigger root.now d (at_data at.entry) (shelf_data shelf.old))
+        → Begins (begun_trigger root.now d (at_data at.entry) (shelf_data shelf.old))
         (shelf_data shelf.old) result (shelf_data shelf.new) }
 {
     let Some(_) = at.view else {
         return Err(Refusal::NotWatched);
     };
     let definition = object.take_trigger()?;
-    begin_read(alloc, root, definition, lookup, at.instance.root, shelf)
+    begin_read_trigger(alloc, root, definition, lookup, at.instance.root, shelf)
 }
 
 /// The trigger that was read, of the root with this text and number.
-fn begin_read(
+fn begin_read_trigger(
     alloc: Global,
     root: &RootText,
     definition: Definition,
@@ -77,7 +74,7 @@ fn begin_read(
     requires known { IsLookup ((definition_data definition).query).expression lookup.now }
     requires watched { is_none (numbered number shelf.old.roots) ≡ false }
     ensures { Begins
-        (begun_trigger root.now number (definition_data definition) (shelf_data shelf.old))
+        (begun_read_trigger root.now number (definition_data definition) (shelf_data shelf.old))
         (shelf_data shelf.old) result (shelf_data shelf.new) }
 {
     let program = program_for(definition.query(), lookup, shelf)?;
@@ -138,15 +135,56 @@ fn put(name: &str, trigger: Trigger, number: u64, shelf: &mut Shelf<Trigger>) ->
     }
 }
 
+/// Puts a trigger of a root under a name ([`Shelf::add_trigger`]).
+fn add_trigger(
+    shelf: &mut Shelf<Trigger>,
+    root: u64,
+    name: &str,
+    trigger: Trigger,
+) -> Result<Option<Trigger>, ShelfFault>
+    ensures added { OnOk result (shelf_data shelf.new
+        ≡ trigger_added root name.now (trigger_data trigger) (shelf_data shelf.old)) }
+    ensures kept { OnErr result (shelf_data shelf.new ≡ shelf_data shelf.old) }
+    ensures refused { Refuses (is_none (numbered root shelf.old.roots))
+        (has_no_trigger_place root name.now (shelf_data shelf.old)) result }
+{
+    shelf.add_trigger(root, name, trigger)
+}
+
+/// A trigger of a root.
+fn trigger_called<'a>(shelf: &'a Shelf<Trigger>, root: u64, name: &str) -> Option<&'a Trigger>
+    ensures { option_map (λ t. trigger_data t.now) result
+        ≡ trigger_called root name.now (shelf_data shelf.now) }
+{
+    shelf.root(root)?.trigger(name)
+}
+
+/// Whether a root has a trigger of this name.
+fn has_trigger(shelf: &Shelf<Trigger>, root: u64, name: &str) -> bool
+    ensures { result ≡ is_some (trigger_called root name.now (shelf_data shelf.now)) }
+{
+    trigger_called(shelf, root, name).is_some()
+}
+
+/// The run of the command of a trigger, if there is that trigger and its command runs.
+fn run_of(shelf: &Shelf<Trigger>, root: u64, name: &str) -> Option<u32>
+    ensures { result ≡ run_in (trigger_called root name.now (shelf_data shelf.now)) }
+{
+    match trigger_called(shelf, root, name) {
+        Some(trigger) => trigger.running(),
+        None => None,
+    }
+}
+
 /// `trigger-list`. The objects are read from their texts, and printed, when the shelf is no longer held.
-pub(super) fn begin_list_triggers(
+pub(super) fn triggers_at(
     alloc: Global,
     at: At<'_>,
     shelf: &Shelf<Trigger>,
 ) -> Result<Rest, Refusal>
-    ensures { Begins (Ok (listing_triggers (at_data at.entry) (shelf_data shelf.now)))
-        (shelf_data shelf.now)
-        result (shelf_data shelf.now) }
+    ensures { Begins (replying (Ok (triggers_at (at_data at.entry) (shelf_data shelf.now)))
+        (shelf_data shelf.now))
+        (shelf_data shelf.now) result (shelf_data shelf.now) }
 {
     let objects = objects_on(alloc, shelf, at.instance.root)?;
     Ok(Rest::ListsTriggers(objects))
@@ -219,7 +257,7 @@ pub(super) fn begin_delete_trigger(
     at: At<'_>,
     shelf: &mut Shelf<Trigger>,
 ) -> Result<Rest, Refusal>
-    ensures { Begins (try_delete_trigger name.now (at_data at.entry) (shelf_data shelf.old))
+    ensures { Begins (begun_delete_trigger name.now (at_data at.entry) (shelf_data shelf.old))
         (shelf_data shelf.old) result (shelf_data shelf.new) }
 {
     if !is_name(name) {
@@ -230,4 +268,11 @@ pub(super) fn begin_delete_trigger(
     let out = print(alloc, &trigger_deleted_reply(alloc, name, deleted)?)?;
     remove_trigger(shelf, number, name);
     Ok(Rest::Says(out))
+}
+
+/// Takes out a trigger of a root ([`Shelf::remove_trigger`]).
+fn remove_trigger(shelf: &mut Shelf<Trigger>, root: u64, name: &str)
+    ensures { shelf_data shelf.new ≡ trigger_removed root name.now (shelf_data shelf.old) }
+{
+    shelf.remove_trigger(root, name);
 }

@@ -3,7 +3,7 @@ use Rattle.std.proofs.Common.{rules, ◌≡◌, Option, Some, IfSome, subst}
 use Rattle.std.specs.declared.alloc.Global.{Global}
 use Rattle.std.specs.declared.sync.Arc.{Arc}
 use Rattle.wq_code.specs.declared.raw.Raw.{Raw}
-use Rattle.wq_query.specs.Meaning.{AnswersWithin}
+use Rattle.wq_reply.specs.Meaning.{AnswersWithin}
 use Rattle.wq_session.proofs.Programs.{kept_answers}
 use Rattle.wq_session.proofs.lookup.kept_program.Goals as goal
 

@@ -3,7 +3,7 @@ use Rattle.std.proofs.Common.{◌≡◌, ◌≢◌, ◌++◌, ◌∷◌, List, [
 use Rattle.std.proofs.lemmas.List.{append-nil}
 use Rattle.wq_record.specs.RecordData.{RecordData}
 use Rattle.wq_clock.specs.Instance.{instance_data}
-use Rattle.wq_query.specs.Following.{list_data}
+use Rattle.wq_reply.specs.Following.{list_data}
 use Rattle.wq_follow.specs.Batch.{polled}
 use Rattle.wq_follow.specs.Followed.{subscription_data}
 use Rattle.wq_session.specs.Moment.{listed_once}

@@ -1,7 +1,7 @@
 -- the rows so far, and those of the patches that are left
 use Rattle.std.proofs.Common.{◌≡◌, ◌++◌, length}
 use Rattle.std.specs.Vec.Iter.{into_iter_items, into_iter_len}
-use Rattle.wq_view.specs.Making.{records_after, rows_before}
+use Rattle.wq_view.specs.PatchMaker.{records_after, rows_before}
 use Rattle.wq_view.specs.Records.{records_left}
 use Rattle.wq_view.proofs.again.rows_with.Given as goal
 

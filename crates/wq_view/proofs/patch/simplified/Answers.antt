@@ -1,7 +1,7 @@
 -- A patch that changes nothing, and one that does; at the end no patch is left.
 use Rattle.std.proofs.Common.{rules, ◌≡◌, ◌+◌, ◌++◌, ◌∷◌, [], ap, refl, sym, ◌∙◌}
 use Rattle.std.specs.Vec.Iter.{into_iter_items}
-use Rattle.wq_view.specs.Making.{records_after, rows_before}
+use Rattle.wq_view.specs.PatchMaker.{records_after, rows_before}
 use Rattle.wq_view.specs.Patch.{patched}
 use Rattle.wq_view.specs.declared.patch.Patch.{Patch}
 use Rattle.wq_view.proofs.Carried.{carried, changed_carried, ended, plain_carried}

@@ -2,7 +2,7 @@
 use Rattle.std.proofs.Common.{◌≡◌, ◌++◌, List, length}
 use Rattle.std.specs.Vec.Iter.{into_iter_items, into_iter_len}
 use Rattle.wq_record.specs.RecordData.{RecordData}
-use Rattle.wq_view.specs.Making.{records_after, rows_before}
+use Rattle.wq_view.specs.PatchMaker.{records_after, rows_before}
 use Rattle.wq_view.specs.Patch.{patched}
 use Rattle.wq_view.proofs.Carried.{carried}
 use Rattle.wq_view.proofs.patch.simplified.Given as goal

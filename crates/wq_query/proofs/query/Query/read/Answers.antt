@@ -29,7 +29,7 @@ returns c =
     (ap (since_of (instance_data c.args.instance.now)) (sym c.get-7.ensures) ∙ c.in_ok-since.ensures)
     c.in_ok-program.program
     (ap program_name (sym c.get-8.ensures) ∙ c.in_ok-program.ensures)
-    c.in-Some.empty_on_fresh_instance (sym c.in-Some.ensures)
+    c.in-Some.options (sym c.in-Some.ensures)
 
 pub returns-in_default : goal.returns-in_default
 returns-in_default c =

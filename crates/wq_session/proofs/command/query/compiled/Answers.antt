@@ -1,7 +1,7 @@
 -- The program that is there answers what the expression means within its measure.
 use Rattle.std.proofs.Common.{sym, subst, ◌∙◌}
 use Rattle.wq_code.specs.declared.raw.Raw.{Raw}
-use Rattle.wq_query.specs.Meaning.{AnswersWithin}
+use Rattle.wq_reply.specs.Meaning.{AnswersWithin}
 use Rattle.wq_query.specs.Query.{asked_of}
 use Rattle.wq_session.proofs.Programs.{there_answers}
 use Rattle.wq_session.proofs.command.query.compiled.Goals as goal

@@ -1,7 +1,7 @@
 -- The text is that of the reply, or memory ran out.
 use Rattle.wq_clock.specs.Instance.{instance_data}
-use Rattle.wq_query.specs.Answer.{text_in}
-use Rattle.wq_query.specs.Query.{planned}
+use Rattle.wq_reply.specs.Answer.{text_in}
+use Rattle.wq_reply.specs.Plan.{planned}
 use Rattle.wq_session.proofs.Listing.{listed_finishes}
 use Rattle.wq_session.proofs.command.query.listed.Goals as goal
 

@@ -3,7 +3,7 @@ use Rattle.std.proofs.Common.{rules, ◌≡◌, false, is_some, option_map}
 use Rattle.wq_follow.specs.Defined.{definition_data}
 use Rattle.wq_follow.specs.Followed.{trigger_data}
 use Rattle.wq_registry.specs.Shelf.{trigger_added}
-use Rattle.wq_ask.specs.Out.{replies}
+use Rattle.wq_session.specs.Out.{replies}
 use Rattle.wq_ask.specs.Trigger.{trigger_reply}
 use Rattle.wq_session.proofs.Triggers.{trigger_put}
 use Rattle.wq_session.specs.Shelved.{shelf_data}

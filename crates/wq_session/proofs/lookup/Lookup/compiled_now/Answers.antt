@@ -2,7 +2,7 @@
 use Rattle.std.proofs.Common.{◌≤◌, sym, subst, ◌∙◌}
 use Rattle.wq_compile.specs.Cost.{most_steps_of}
 use Rattle.wq_compile.specs.Meaning.{AnswersMeaning}
-use Rattle.wq_query.specs.Meaning.{AnswersWithin}
+use Rattle.wq_reply.specs.Meaning.{AnswersWithin}
 use Rattle.wq_query.specs.Query.{asked_of}
 use Rattle.wq_verify.specs.Budget.{budget_of}
 use Rattle.wq_record.specs.Limit.{max_name}

@@ -1,8 +1,8 @@
 -- The views met the need, and the ask was answered or its line refused.
 use Rattle.std.proofs.Common.{Err, Ok, subst}
-use Rattle.wq_ask.specs.Out.{MayRefuse}
+use Rattle.wq_session.specs.Out.{MayRefuse}
 use Rattle.wq_ask.specs.Need.{need_of}
-use Rattle.wq_session.specs.Desk.{stand}
+use Rattle.wq_session.specs.Desk.{AnswersAt, stand}
 use Rattle.wq_session.specs.Followed.{follows_of}
 use Rattle.wq_crawl.specs.Views.{SaysReady}
 use Rattle.wq_session.proofs.Readying.{answered_ready, refused_ready}
@@ -14,9 +14,12 @@ returns-in-Ok g c =
     let now = stand (g.D.Desk.shelf c.args.desk.now) (follows_of c.args.self.now) in (
       it.0,
       subst (λ n. g.V.Views.readies c.args.views n it.0 c.ready-views.result.0) c.need.ensures it.1,
-      answered_ready c.args.ask it.0 now c.answer_ready.result c.in-Ok.root
-          (stand (g.D.Desk.shelf c.answer_ready.new.desk) (follows_of c.answer_ready.new.self))
-          (subst (λ r. SaysReady (need_of c.args.ask) it.0 r) c.in-Ok.is (subst (λ n. SaysReady n it.0 c.ready-views.result.1) c.need.ensures it.2)) c.answer_ready.ensures,
+      answered_ready c.args.ask it.0 now c.answer_at.result c.in-Ok.root
+          (stand (g.D.Desk.shelf c.answer_at.new.desk) (follows_of c.answer_at.new.self))
+          (subst (λ r. SaysReady (need_of c.args.ask) it.0 r) c.in-Ok.is (subst (λ n. SaysReady n it.0 c.ready-views.result.1) c.need.ensures it.2))
+          (subst
+          (λ at. AnswersAt now c.args.ask at c.answer_at.result (stand (g.D.Desk.shelf c.answer_at.new.desk) (follows_of c.answer_at.new.self)))
+          c.at_of.ensures c.answer_at.ensures),
     )
 
 pub returns-in-Err : goal.returns-in-Err

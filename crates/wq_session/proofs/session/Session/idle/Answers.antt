@@ -2,7 +2,7 @@
 use Rattle.std.proofs.Common.{rules, ◌≡◌, ◌<◌, ◌++◌, length, map, option_map, Result, Ok, Err, ap, sym, subst, ◌∙◌, arith, ℕ}
 use Rattle.std.specs.declared.alloc.AllocError.{AllocError}
 use Rattle.wq_follow.specs.Followed.{subscription_data}
-use Rattle.wq_ask.specs.Out.{tells_lists}
+use Rattle.wq_session.specs.Out.{tells_lists}
 use Rattle.wq_crawl.specs.At.{at_data}
 use Rattle.wq_session.specs.Followed.{follows_of}
 use Rattle.wq_session.specs.Moment.{Idles, Shown, TellsOne, left_of, shown_data, shown_in}

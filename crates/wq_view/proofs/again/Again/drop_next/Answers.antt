@@ -1,7 +1,7 @@
 -- The next record is passed.
 use Rattle.std.proofs.Common.{◌≡◌, ◌+◌, ◌∷◌, [], drop, length, take, ap, sym, subst, ◌∙◌, arith}
 use Rattle.wq_view.specs.Again.{AgainData}
-use Rattle.wq_view.specs.Making.{records_to_come}
+use Rattle.wq_view.specs.PatchMaker.{records_to_come}
 use Rattle.wq_view.specs.Records.{records_left}
 use Rattle.wq_view.proofs.PatchRuns.{same_left, same_rows, same_within}
 use Rattle.wq_view.proofs.Passed.{next_left, piece_left}

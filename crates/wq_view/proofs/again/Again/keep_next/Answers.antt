@@ -1,7 +1,7 @@
 -- The next record's file was found.
 use Rattle.std.proofs.Common.{rules, ◌≡◌, ◌+◌, ◌++◌, ◌∷◌, [], drop, length, take, ap, ◌∙◌, arith}
 use Rattle.wq_view.specs.Again.{AgainData, seen_row}
-use Rattle.wq_view.specs.Making.{records_to_come, rows_made}
+use Rattle.wq_view.specs.PatchMaker.{records_to_come, rows_made}
 use Rattle.wq_view.specs.Records.{records_left}
 use Rattle.wq_view.specs.declared.patch.Patch.{Patch}
 use Rattle.wq_view.proofs.Passed.{longer, next_left, one_seen}

@@ -3,7 +3,7 @@ use Rattle.std.proofs.Common.{◌≡◌, ◌+◌, ◌-◌, ◌≤◌, IsTrue, dr
 use Rattle.std.specs.List.{list_all}
 use Rattle.wq_record.specs.Seen.{is_lawful_row}
 use Rattle.wq_view.specs.Again.{AgainData, seen_rows}
-use Rattle.wq_view.specs.Making.{records_to_come, rows_made}
+use Rattle.wq_view.specs.PatchMaker.{records_to_come, rows_made}
 use Rattle.wq_view.specs.Records.{records_left}
 use Rattle.wq_view.specs.declared.patch.Patch.{Patch}
 use Rattle.std.proofs.lemmas.List.{drop-drop, length-take}

@@ -1,7 +1,7 @@
 -- The rows up to the end of the last patch, and those after it.
 use Rattle.std.proofs.Common.{◌++◌, take, ap, subst, ◌∙◌}
 use Rattle.wq_view.specs.Again.{AgainData, seen_rows}
-use Rattle.wq_view.specs.Making.{IsPut, patches_made}
+use Rattle.wq_view.specs.PatchMaker.{IsPut, patches_made}
 use Rattle.wq_view.specs.Records.{records_left}
 use Rattle.wq_view.proofs.Joining.{rows_put}
 use Rattle.wq_view.proofs.again.Again.rows.Goals as goal

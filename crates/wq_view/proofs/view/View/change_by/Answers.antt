@@ -1,7 +1,7 @@
 -- The rows of the pass are its entries, in order.
 use Rattle.std.proofs.Common.{◌≡◌, Bool, true, false, Option, Some, None, MatchOption, IfNone, IfSome, IsTrue, List, map, sym, ap, subst, ◌∙◌}
 use mathlib.Core.Bool.{false≢true}
-use Rattle.wq_view.specs.declared.merging.Change.{Change}
+use Rattle.wq_view.specs.declared.pass_merge.Change.{Change}
 use Rattle.std.specs.FinMap.{entries, is_sorted}
 use Rattle.std.specs.List.{list_all}
 use Rattle.wq_record.specs.Seen.{SeenData, entry_of, is_lawful_row}

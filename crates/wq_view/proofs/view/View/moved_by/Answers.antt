@@ -3,7 +3,7 @@ use Rattle.std.proofs.Common.{w64, ◌≡◌, ℕ, ℤ, ◌+◌, ◌≤◌, ◌<
 use mir.Val.{SFits}
 use Rattle.std.specs.List.{All}
 use Rattle.std.proofs.lemmas.Int.{to_z-of_z}
-use Rattle.wq_view.specs.declared.merging.Change.{Change}
+use Rattle.wq_view.specs.declared.pass_merge.Change.{Change}
 use Rattle.wq_record.specs.Limit.{max_tick}
 use Rattle.wq_view.specs.Limit.{max_records}
 use Rattle.wq_record.specs.Seen.{SeenData}

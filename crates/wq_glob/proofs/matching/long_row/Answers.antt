@@ -1,5 +1,0 @@
-use Rattle.wq_glob.proofs.EndLemmas.{blank_row}
-use Rattle.wq_glob.proofs.matching.long_row.Goals as goal
-
-pub returns-clause-blank : goal.returns-clause-blank
-returns-clause-blank c = blank_row 256

@@ -1,6 +1,0 @@
--- a look keeps the knowledge of each seat
-use Rattle.wq_live.proofs.Sharing.{turns, begins_self}
-use Rattle.wq_live.proofs.refusing.enter.Goals as goal
-
-pub enter_as-requires : goal.enter_as-requires
-enter_as-requires c x = turns _ _ x x (begins_self x)

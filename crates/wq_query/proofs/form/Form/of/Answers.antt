@@ -1,7 +1,0 @@
--- Several fields are told as an object.
-use Rattle.wq_query.proofs.Order.{object-form}
-use Rattle.wq_query.proofs.form.Form.of.Goals as goal
-
-pub returns : goal.returns
-returns c =
-    object-form c.args.fields.now c.in_ok-in_order.field-0.items c.if-fields-eq1.false c.in_ok-in_order.ensures

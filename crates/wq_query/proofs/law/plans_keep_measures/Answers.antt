@@ -1,5 +1,0 @@
--- Each plan has it.
-use Rattle.wq_query.proofs.law.plans_keep_measures.Goals as goal
-
-pub returns : goal.returns
-returns c plan none = plan.cost none

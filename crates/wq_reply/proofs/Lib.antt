@@ -1,0 +1,6 @@
+mod Places
+mod Order
+mod Tokens
+mod RowTexts
+mod Longs
+mod WrittenRows

@@ -1,0 +1,11 @@
+pub mod Plan
+pub mod Ahead
+pub mod Listing
+pub mod Meaning
+pub mod Reply
+pub mod Printing
+pub mod Rows
+pub mod Long
+pub mod Answer
+pub mod Following
+pub mod Law

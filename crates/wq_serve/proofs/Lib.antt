@@ -1,4 +1,0 @@
-pub mod Reaching
-mod Staying
-mod Going
-mod Lines

@@ -1,4 +1,0 @@
-pub mod Idling
-pub mod Serving
-pub mod Stays
-pub mod Limit

@@ -1,5 +1,0 @@
--- the list is that of this blank view
-use Rattle.wq_tests.proofs.publishing.is_well.Given as goal
-
-abbrev pub ghosts-talk : goal.ghosts-talk
-ghosts-talk g a = record { book = a.blank.book }
