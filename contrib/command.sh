@@ -215,6 +215,10 @@ run() {
     if [ -z "$fault" ]; then exec "$program" "$@"; fi
     "$program" "$@"
     status=$?
-    if [ "$status" -eq "$refused" ]; then say "wqd: $fault" >&2; fi
+    if [ "$status" -eq "$refused" ]; then
+        say "wqd: $fault" >&2
+        # The journal of systemd asks whose a line is while it reads it, and loses one of a process that has gone.
+        if [ -n "${JOURNAL_STREAM-}" ]; then sleep 1; fi
+    fi
     exit "$status"
 }

@@ -44,6 +44,8 @@ try:
 except KeyboardInterrupt:
     sys.exit(130)
 """
+# The places in an archive count from its own start, so a package may put another first line before it.
+FIRST_LINE = b"#!/usr/bin/env -S python3 -I\n"
 COMPILE = """import sys
 from py_compile import PycInvalidationMode, compile
 words = iter(sys.argv[1:])
@@ -130,16 +132,15 @@ def text(path: str) -> str:
 def archive(packages: List[str], main: str) -> bytes:
     """A tool as one file: an archive of its packages, of which Python runs this text. Beside each module is what this
     Python compiled from it, and a Python of another version takes the module itself."""
-    written = io.BytesIO(b"#!/usr/bin/env -S python3 -I\n")
-    written.seek(0, io.SEEK_END)
+    written = io.BytesIO()
     modules = {f"{module.parent.name}/{module.name}": module
                for package in packages for module in sorted((TOP / "clients" / package).glob("*.py"))}
-    with zipfile.ZipFile(written, "a") as found:
+    with zipfile.ZipFile(written, "w") as found:
         for path, data in compiled(modules).items():
             found.writestr(zipfile.ZipInfo(path), modules[path].read_bytes())
             found.writestr(zipfile.ZipInfo(f"{path}c"), data)
         found.writestr(zipfile.ZipInfo("__main__.py"), main)
-    return written.getvalue()
+    return FIRST_LINE + written.getvalue()
 
 
 def compiled(modules: Dict[str, Path]) -> Dict[str, bytes]:

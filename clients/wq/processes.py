@@ -4,7 +4,8 @@ import os
 import time
 from typing import Dict, List, NamedTuple, Optional, Set, Tuple
 
-UNIT = "wqd.service"
+from wqclient.unit import UNIT
+
 TICKS = os.sysconf("SC_CLK_TCK")
 
 

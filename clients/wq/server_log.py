@@ -5,11 +5,13 @@ import contextlib
 import json
 import os
 import re
+import time
 from typing import Dict, Iterator, NamedTuple, Tuple
 
 from wqclient.files import opened
 from wqclient.kept import TRIGGERS, keep, kept, run_of
 
+from . import journal
 from .processes import is_of_unit
 from .server import Server
 
@@ -39,11 +41,12 @@ class Failures(NamedTuple):
 
 
 class Log:
-    """The lines that a server wrote since it began to listen, if they are in a file."""
+    """The lines that a server wrote since it began to listen, if they are in a file or in the journal of systemd."""
 
     def __init__(self, server: Server) -> None:
         self.server = server
         self.path = path_of(server.peer.process)
+        self.is_in_journal = is_in_journal(server.peer.process)
         self.triggers: Dict[Tuple[str, str], Failures] = {}
         # The place in the log at which each trigger was registered.
         self.registered: Dict[Tuple[str, str], int] = {}
@@ -52,7 +55,10 @@ class Log:
             self.take(place, line)
 
     def lines(self) -> Iterator[Tuple[int, str]]:
-        """The lines with their places in bytes."""
+        """The lines with their places: in bytes in a file, and in microseconds in the journal."""
+        if self.is_in_journal:
+            yield from journal.lines_of(self.server.peer.process)
+            return
         text, place = text_of(self.server.peer.process)
         for line in text.split(b"\n"):
             yield place, line.decode("utf-8", "replace")
@@ -88,9 +94,8 @@ class Log:
         """The file or the command that shows the log to a person."""
         if self.path:
             return self.path
-        process = self.server.peer.process
-        other = f"standard error of process {process}, which is no file"
-        return "journalctl --user -u wqd" if is_of_unit(process) else other
+        other = f"standard error of process {self.server.peer.process}, which is no file"
+        return journal.SHOW if self.is_in_journal else other
 
 
 def quoted_of(line: str, separator: str = ": ") -> Tuple[str, str]:
@@ -116,6 +121,11 @@ def text_of(process: int) -> Tuple[bytes, int]:
         return b"", 0
 
 
+def is_in_journal(process: int) -> bool:
+    """Whether systemd keeps what the process writes: that of the unit, unless its user had it written to a file."""
+    return not path_of(process) and is_of_unit(process)
+
+
 def path_of(process: int) -> str:
     """The file to which a process writes its standard error; nothing if it is no file."""
     try:
@@ -129,7 +139,7 @@ def note_registered(server: Server, root: str, name: str) -> None:
     """Notes that a trigger begins anew here: what the log says before is of another one of its name."""
     process = server.peer.process
     with contextlib.suppress(OSError):
-        keep({"run": run_of(process), "place": size_of(process)}, TRIGGERS, server.sockname, root, name)
+        keep({"run": run_of(process), "place": end_of(process)}, TRIGGERS, server.sockname, root, name)
 
 
 def registered_at(server: Server, root: str, name: str) -> int:
@@ -138,11 +148,13 @@ def registered_at(server: Server, root: str, name: str) -> int:
     place = note.get("place")
     if note.get("run") != run_of(server.peer.process) or not isinstance(place, int):
         return 0
-    return place if place <= size_of(server.peer.process) else 0
+    return place if place <= end_of(server.peer.process) else 0
 
 
-def size_of(process: int) -> int:
-    """How many bytes a process wrote to its standard error, if that is a file."""
+def end_of(process: int) -> int:
+    """The place after what a process wrote until now. It is 0 if that is neither in a file nor in the journal."""
+    if is_in_journal(process):
+        return time.time_ns() // 1_000
     try:
         return os.stat(f"/proc/{process}/fd/2").st_size
     except OSError:

@@ -5,6 +5,7 @@ from typing import List
 
 from wqclient.sockets import is_listened_on
 from wqclient.starting import serve_words
+from wqclient.unit import RESTART
 
 from .ending import end
 from .home import Home
@@ -42,7 +43,7 @@ def restart(options: argparse.Namespace, home: Home) -> int:
     if is_listened_on(where):
         with reached(home) as server:
             if is_of_unit(server.peer.process):
-                raise Trouble("systemd started this server, and starts it anew by: systemctl --user restart wqd")
+                raise Trouble(f"systemd started this server, and starts it anew by: {RESTART}")
             words = words or kept_words(words_of(server.peer.process))
             roots = server.ask_within(LATE, "watch-list").get("roots", [])
             end(server)

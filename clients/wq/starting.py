@@ -5,6 +5,7 @@ from typing import TYPE_CHECKING, Dict, List, Optional
 
 from wqclient.sockets import is_listened_on
 from wqclient.starting import Unstarted, alone, begin, serve_words
+from wqclient.unit import listens_soon
 
 from . import unproved
 from .compiled import program
@@ -19,7 +20,7 @@ def start(home: "Home", sockname: str, words: Optional[List[str]], tells: bool =
     """Starts a server at a socket, unless one listens there."""
     try:
         with alone(sockname, lambda: say("waiting for another command that starts the server")):
-            if is_listened_on(sockname):
+            if is_listened_on(sockname) or listens_soon(sockname):
                 return False
             begin_there(home, sockname, words or serve_words(sockname))
     except Unstarted as reason:

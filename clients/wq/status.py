@@ -7,9 +7,10 @@ from typing import Any, Dict, Iterator, List, Optional
 
 from wqclient.harmless import harmless
 from wqclient.kept import BUDGETS, kept, run_of
+from wqclient.unit import RESTART
 
 from .home import Home
-from .processes import Facts, facts_of
+from .processes import Facts, facts_of, is_of_unit
 from .server import Server, reached
 from .server_log import Failures, Log
 from .terminal import painted, show
@@ -110,7 +111,8 @@ def lines_of(found: Dict[str, Any]) -> Iterator[str]:
     if "program" in found:
         yield row("process", f"{found['process']}, {found['program']}")
         if found["program"].endswith(REPLACED):
-            yield row("", "the program was replaced since it started; `wq restart` starts the new one", "yellow")
+            command = RESTART if is_of_unit(found["process"]) else "wq restart"
+            yield row("", f"the program was replaced since it started; `{command}` starts the new one", "yellow")
         started = time.strftime("%Y-%m-%d %H:%M:%S", time.localtime(found["started"]))
         yield row("since", f"{started}, {duration(time.time() - found['started'])}")
         yield row("memory", f"{found['memory'] / MEBIBYTE:.1f} MiB")

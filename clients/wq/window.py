@@ -11,6 +11,7 @@ from wqclient.lines import Ended
 from wqclient.root_notes import WINDOW
 from wqclient.sockets import is_listened_on
 
+from . import journal
 from .changes import FIELDS, File
 from .home import Home
 from .ignored import is_wanted
@@ -216,7 +217,7 @@ class Window:
         self.ends_soon += 1
         if self.ends_soon > MOST_SOON:
             raise Trouble(f"the server has ended {self.ends_soon} times, each too soon",
-                          f"its log is {log_of(self.sockname)}")
+                          f"its log is {journal.SHOW if self.is_of_unit else log_of(self.sockname)}")
 
     def search(self) -> None:
         """Reaches another server, which is started if nobody else is about to start one."""

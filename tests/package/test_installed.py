@@ -193,8 +193,15 @@ class Installed(Case):
         unit = (directory / "usr" / in_debian(UNIT)).read_text()
         self.same("the unit of the package", 'ExecStart="/usr/bin/wqd" serve' in unit, True)
         self.check_server("of the package", self.room, unit.replace("/usr/bin/wqd", f"{directory}/usr/bin/wqd"))
+        self.check_commands(directory / "usr" / "bin")
         remove()
         self.same("what a removed package leaves", (directory / "usr").exists(), False)
+
+    def check_commands(self, directory: Path) -> None:
+        """The commands in Python run too, whose first line is another one than that of ./install."""
+        for name in ("wq", "wqasm"):
+            ended = built.call([sys.executable, "-I", str(directory / name), "--help"], cwd="/")
+            self.same(f"{name} --help of the package", (ended.status, ended.errors), (0, b""))
 
     def check_by_lintian(self, room: Path) -> None:
         """Debian's own check of packages finds no error, and nothing to warn of."""

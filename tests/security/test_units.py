@@ -34,7 +34,8 @@ class Units(Beside):
     def test_units(self) -> None:
         """systemd takes each line, alone and with those that narrow it."""
         unit = (built.TOP / "contrib" / "wqd.service").read_text()
-        for line in ("LimitNOFILE=4096:524288", "TasksMax=4096", "MemoryMax=80%", "OOMPolicy=continue"):
+        for line in ("LimitNOFILE=4096:524288", "TasksMax=4096", "MemoryMax=80%", "OOMPolicy=continue",
+                     "RestartPreventExitStatus=1 2"):
             self.same(f"the unit has {line}", f"\n{line}\n" in unit, True)
         if shutil.which("systemd-analyze") is None:
             self.skipTest("what systemd says of the unit, since it is not installed")
@@ -48,7 +49,7 @@ class Units(Beside):
                                   stderr=subprocess.DEVNULL, timeout=PATIENCE)
         level = re.search(r"exposure level for wqd.service: ([0-9.]+)", analyzed.stdout.decode())
         if level is not None:
-            self.check("how exposed it is", float(level[1]) < 6, [level[0]])
+            self.check("how exposed it is", float(level[1]) < 3, [level[0]])
 
     @needs("strace", "systemd-analyze")
     def test_calls(self) -> None:

@@ -9,6 +9,7 @@ from typing import Callable, List, Tuple
 import built
 from case import Beside
 from scene import Scene, said, wrong
+from wqclient.names import FIELDS
 from wqprogram.limits import MAX_LINE
 
 LONG = "a" * 256
@@ -25,6 +26,7 @@ Wrong = Tuple[str, str, str]
 def cases() -> List[Wrong]:
     """Wrong requests, their errors, and the sentences on their places."""
     text = (Path(__file__).resolve().parent / "places.cases").read_text(encoding="utf-8")
+    text = text.replace("@FIELDS", ", ".join(FIELDS))
     short = [tuple(part.strip("\n").split("\n")) for part in text.split("\n\n")[1:]]
     return [*short, *((f'["query","@",{{{keys}}}]', error, sentence) for keys, error, sentence in LONG_ONES)]
 

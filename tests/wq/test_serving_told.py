@@ -4,9 +4,13 @@ import json
 import os
 import re
 import shutil
+import socket
 import subprocess
 import time
 from pathlib import Path
+from threading import Timer
+from types import SimpleNamespace
+from unittest import mock
 
 import built
 from case import Beside
@@ -14,6 +18,8 @@ from client import PATIENCE
 from scene import COMMAND, Scene, said, wrong
 from waiting import wait_until
 from wq.processes import is_of_unit, names_unit
+from wq.server_log import Failures, Log
+from wqclient.unit import listens_soon
 
 A_HOUR = 3_600
 
@@ -62,6 +68,49 @@ class ServingTold(Beside):
         ):
             self.same(f"the unit in {groups!r}", names_unit(groups), expected)
         self.same("the unit of this process", is_of_unit(os.getpid()), False)
+
+    def test_unit_that_starts(self) -> None:
+        """No server is started beside that of the unit, which systemd has started and which listens a moment later."""
+        runtime, commands = self.room / "runtime", self.room / "commands"
+        (runtime / "systemd").mkdir(parents=True)
+        (runtime / "systemd" / "private").touch()
+        commands.mkdir()
+        systemctl = commands / "systemctl"
+        sockname = str(runtime / "wqd.sock")
+        for state, expected in (("active", True), ("activating", True), ("inactive", False)):
+            systemctl.write_text(f"#!/bin/sh\necho {state}\n")
+            systemctl.chmod(0o755)
+            with socket.socket(socket.AF_UNIX) as stream, \
+                    mock.patch.dict(os.environ, PATH=f"{commands}:{os.environ['PATH']}"):
+                stream.bind(sockname)
+                listening = Timer(0.2, stream.listen)
+                listening.start()
+                self.same(f"a unit that is {state}", listens_soon(sockname), expected)
+                listening.join()
+            os.unlink(sockname)
+        systemctl.unlink()
+        self.same("another socket", listens_soon(str(self.room / "wqd.sock")), False)
+
+    def test_journal(self) -> None:
+        """What the unit's server wrote of a trigger is in the journal of systemd. Lines from before it was registered
+        are of another one."""
+        entries = [(10, "listening on /run/wqd.sock"), (20, '"/r": trigger "t" ended with status 1'),
+                   (40, '"/r": trigger "t" ended with status 2'), (50, list(b"\xff")), (60, None)]
+        written = "".join(json.dumps({"__REALTIME_TIMESTAMP": str(second), "MESSAGE": message}) + "\n"
+                          for second, message in entries)
+        (self.room / "journal").write_text(written)
+        journalctl = self.room / "journalctl"
+        journalctl.write_text(f"#!/bin/sh\ncat '{self.room}/journal'\n")
+        journalctl.chmod(0o755)
+        server = SimpleNamespace(sockname="/run/wqd.sock", peer=SimpleNamespace(process=os.getpid()))
+        with mock.patch.dict(os.environ, PATH=f"{self.room}:{os.environ['PATH']}"), \
+                mock.patch("wq.server_log.is_in_journal", return_value=True), \
+                mock.patch("wq.server_log.registered_at", return_value=30):
+            log = Log(server)
+            self.same("failures", log.failures("/r", "t"), Failures(1, "ended with status 2"))
+            self.same("where the log is", log.words(), "journalctl --user -u wqd")
+            journalctl.write_text("#!/bin/sh\nexit 1\n")
+            self.same("no journal that may be read", Log(server).failures("/r", "t"), Failures())
 
     def check_starts_at_once(self, scene: Scene) -> None:
         """Of commands that start a server at once one does, and the others wait for it."""

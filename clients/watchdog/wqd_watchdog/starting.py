@@ -8,6 +8,7 @@ from typing import Dict
 from .trouble import Unserved
 from .wqclient.sockets import is_listened_on
 from .wqclient.starting import Unstarted, alone, begin, serve_words
+from .wqclient.unit import listens_soon
 
 PACKAGE = Path(os.path.realpath(__file__)).parent
 # A clone has this file, three directories above the package.
@@ -18,7 +19,7 @@ def start_server(sockname: str) -> None:
     """Of several programs that start a server at once, one does, and the others wait."""
     try:
         with alone(sockname):
-            if not is_listened_on(sockname):
+            if not is_listened_on(sockname) and not listens_soon(sockname):
                 begin([command(), *serve_words(sockname)], sockname, environment())
     except Unstarted as reason:
         raise Unserved(f"the server did not start: {reason}") from None
