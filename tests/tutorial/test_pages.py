@@ -1,5 +1,7 @@
-"""The commands of docs/TUTORIAL.md and docs/TROUBLESHOOTING.md, which write what the pages show. Each block has a mark,
-a comment that a reader does not see; reading.py says which there are."""
+"""The commands of docs/TUTORIAL.md, docs/TROUBLESHOOTING.md and of README's picture, which write what the pages show.
+Each block has a mark, a comment that a reader does not see; reading.py says which there are."""
+
+import subprocess
 
 import built
 from case import Case
@@ -13,6 +15,11 @@ class Pages(Case):
 
     def test_troubleshooting(self) -> None:
         self.check_page("TROUBLESHOOTING.md")
+
+    def test_picture(self) -> None:
+        self.check_page("terminal/session.md")
+        drawn = subprocess.run([built.TOP / "docs" / "terminal" / "draw"], stdout=subprocess.PIPE, check=False)
+        self.check("docs/terminal.svg", drawn.returncode == 0, drawn.stdout.decode().splitlines())
 
     def check_page(self, name: str) -> None:
         text = (built.TOP / "docs" / name).read_text(encoding="utf-8")
