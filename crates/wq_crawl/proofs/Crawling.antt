@@ -6,7 +6,7 @@ use Rattle.std.proofs.lemmas.List.Elements.{recursion_from_All}
 use Rattle.std.proofs.lemmas.Option.{same_Some}
 use Rattle.wq_live.specs.Event.{passes_over}
 use Rattle.wq_live.specs.Table.{IsNoNews, IsTableOf, RootView, TableData, WantsForTicks, has_text, number_by_text, root_by_text}
-use Rattle.wq_view.specs.Again.{seen_rows}
+use Rattle.wq_view.specs.SeenRows.{seen_rows}
 use Rattle.wq_view.specs.History.{History, last_stats}
 use Rattle.wq_view.specs.Limit.{max_listing_rows}
 use Rattle.std.specs.declared.alloc.Global.{Global}

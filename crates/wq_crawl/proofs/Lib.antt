@@ -6,3 +6,4 @@ mod Shown
 mod Needs
 mod Meets
 mod Tables
+mod AmongNames

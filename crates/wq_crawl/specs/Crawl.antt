@@ -5,7 +5,7 @@ use Rattle.std.specs.Prelude.{Option, Some, None, IfOk, IsTrue, Result, Ok, Err}
 use Rattle.std.specs.Prelude.{Bool, true, false}
 use Rattle.std.specs.List.{list_all}
 use Rattle.std.specs.Coded.{Coded, code_by, coded×, coded_bool, coded_ℕ, coded_ℤ, coded_option}
-use Rattle.wq_view.specs.Again.{seen_rows}
+use Rattle.wq_view.specs.SeenRows.{seen_rows}
 use Rattle.wq_view.specs.Limit.{max_listing_rows}
 use Rattle.wq_view.specs.View.{IsViewOf, ViewData}
 use Rattle.wq_view.specs.Listing.{PassData, is_of_whole, listing_fault, listing_of}

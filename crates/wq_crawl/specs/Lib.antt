@@ -14,3 +14,4 @@ pub mod Ready
 pub mod Meeting
 pub mod Meets
 pub mod Tables
+pub mod Recent

@@ -4,7 +4,7 @@ use Rattle.std.specs.Prelude.{◌≡◌, ◌<◌, ◌≤◌, ◌⊎◌, ◌^◌,
 use Rattle.std.specs.Prelude.{Bool, true, false, IsTrue, Vec, length, refl}
 use Rattle.std.specs.Coded.{Coded, code_by, coded×, coded_ℕ, coded_list, coded_result}
 use Rattle.std.specs.declared.alloc.Global.{Global}
-use Rattle.wq_view.specs.Again.{seen_rows}
+use Rattle.wq_view.specs.SeenRows.{seen_rows}
 use Rattle.wq_view.specs.Limit.{max_listing_rows}
 use Rattle.wq_view.specs.Patch.{patched}
 use Rattle.wq_view.specs.Patching.{ArePatches}

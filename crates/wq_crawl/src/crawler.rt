@@ -13,6 +13,7 @@ ghost use Rattle.wq_crawl.specs.Publish.{IsNotTakenIn, Passes, with_start};
 use crate::fault::CrawlFault;
 use crate::lister::Lister;
 use crate::place::{Place, place_for};
+use crate::recent::{Reach, Recent};
 use crate::relisted::Relisted;
 use crate::seconds::Seconds;
 use crate::tree::Tree;
@@ -20,7 +21,7 @@ use std::alloc::AllocError;
 use std::marker::Model;
 use std::sync::Wait;
 use wq_live::{Named, Publisher, Seat, StartFault, Told};
-use wq_view::{Pass, Patch, Reach, Recent, ViewFault};
+use wq_view::{Pass, Patch, ViewFault};
 
 /// Lists roots, and publishes their passes. Contracts see the list of events that is published, and the state that the
 /// tree and the clock show.

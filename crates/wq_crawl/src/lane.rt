@@ -9,13 +9,13 @@ ghost use Rattle.wq_crawl.specs.Shared.{KeepsRaised, WatchedBetween, begun_of};
 use crate::begun::{Asked, Counts, Raised};
 use crate::fault::CrawlFault;
 use crate::lister::Lister;
+use crate::recent::{Reach, Recent};
 use crate::relisted::Relisted;
 use crate::seconds::Seconds;
 use crate::shared_publisher::SharedPublisher;
 use crate::tree::Tree;
 use std::sync::Wait;
 use wq_live::{Named, Told};
-use wq_view::{Reach, Recent};
 
 /// A lister for the crawls of a root, and the last crawl by it that serves clients.
 #[derive(Drop)]

@@ -8,12 +8,13 @@ ghost use Rattle.wq_crawl.specs.Tree.{AreLawful, IsCounted, IsFew, IsFit, Lists,
 ghost use Rattle.wq_crawl.specs.Crawl.{IsNoPassOver, IsPassOver, IsRelisted, ListsAgain, crawler_at};
 
 use crate::fault::{CrawlFault, no_pass, not_listed};
+use crate::recent::Recent;
 use crate::relisted::Relisted;
 use crate::seconds::Seconds;
 use crate::tree::{Listing, Tree, TreeFault};
 use std::marker::Model;
 use wq_live::RootTable;
-use wq_view::{Pass, Recent, View};
+use wq_view::{Pass, View};
 
 /// Lists roots. It has a tree and a clock, which a listing uses one after the other. Contracts see the state that both
 /// show.

@@ -8,6 +8,7 @@ use crate::begun::{Asked, Begun, Counts};
 use crate::fault::CrawlFault;
 use crate::lane::Lane;
 use crate::lanes::{LaneParts, Lanes};
+use crate::recent::Reach;
 use crate::seconds::Seconds;
 use crate::shared_publisher::SharedPublisher;
 use crate::tree::Tree;
@@ -15,7 +16,6 @@ use std::alloc::{AllocError, Global};
 use std::sync::{Mutex, Wait};
 use std::time::{Clock, Duration};
 use wq_live::{Named, Publisher, Told};
-use wq_view::Reach;
 
 /// A crawler that threads share.
 #[derive(Drop)]

@@ -4,9 +4,10 @@ ghost use Rattle.std.specs.List.{list_all};
 ghost use Rattle.wq_record.specs.Seen.{is_lawful_row};
 ghost use Rattle.wq_crawl.specs.Tree.{IsCounted, IsFew, IsFit, Lists, rows_given, rows_given_again, rows_listed};
 
+use crate::recent::Recent;
 use std::alloc::AllocError;
 use thiserror::Error;
-use wq_view::{Patch, Recent, Seen, View};
+use wq_view::{Patch, Seen, View};
 
 /// The reason for which a tree gives no listing.
 #[derive(Clone, Copy, Debug, PartialEq, Eq, Drop, Error)]

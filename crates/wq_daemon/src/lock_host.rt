@@ -12,7 +12,7 @@ use wq_ask::Refusal;
 use wq_base::{Asker, Workers};
 use wq_clock::Run;
 use wq_crawl::{
-    Asked, Caller, CrawlFault, LaneParts, LockRoots, SeatViews, Seconds, SharedCrawler, Tree,
+    Asked, Caller, CrawlFault, LaneParts, LockRoots, Reach, SeatViews, Seconds, SharedCrawler, Tree,
 };
 use wq_follow::Trigger;
 use wq_launch::{MAX_RUNS, Notices, Runs, Spawn, StartedCommand};
@@ -20,7 +20,6 @@ use wq_live::{Named, Publisher, Seat};
 use wq_server::{Host, MAX_SESSIONS, RootNumbers, Stop, Worked, refuse, time_since};
 use wq_session::{Ended, Kept, LockDesk, ReachedShelf, SharedShelf, serve};
 use wq_stream::Inbox;
-use wq_view::Reach;
 
 /// How many walks of a root a round gives up, before it waits for the crawler as a client does.
 const MOST_GIVEN_UP: usize = 4;

@@ -9,10 +9,9 @@ use std::sync::Arc;
 use std::thread::Threads;
 use std::time::Duration;
 use wq_base::Asker;
-use wq_crawl::Caller;
+use wq_crawl::{Caller, Reach};
 use wq_launch::{Runs, StartedCommand};
 use wq_stream::Inbox;
-use wq_view::Reach;
 
 /// The work of a crawl.
 #[derive(Clone, Copy, Drop)]

@@ -9,9 +9,9 @@ use std::io;
 use std::sync::Arc;
 use std::time::{Clock, Instant};
 use wq_base::MAX_ROOTS;
-use wq_crawl::{LeftOut, Listing, Tree, TreeFault};
+use wq_crawl::{LeftOut, Listing, Recent, Tree, TreeFault};
 use wq_launch::Notices;
-use wq_view::{Recent, Seen, View};
+use wq_view::{Seen, View};
 
 /// The server tells its operator of a listing that took this many seconds.
 const LONG: u64 = 60;

@@ -11,7 +11,7 @@ use Rattle.std.proofs.lemmas.Option.{same_Some, slice_get-get_or}
 use Rattle.wq_record.specs.Name.{name_cmp}
 use Rattle.wq_record.specs.RecordData.{RecordData, by_name}
 use Rattle.wq_record.specs.Seen.{SeenData}
-use Rattle.wq_view.specs.Again.{seen_row, seen_rows}
+use Rattle.wq_view.specs.SeenRows.{seen_row, seen_rows}
 use Rattle.wq_view.specs.Patching.{AreBelow, record_name, row_name}
 use Rattle.wq_view.proofs.NameOrder.{both_true, less_from_lt, names_total}
 

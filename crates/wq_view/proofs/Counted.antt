@@ -5,7 +5,7 @@ use Rattle.std.proofs.lemmas.List.Folds.{list_all-append}
 use Rattle.std.specs.List.{list_all}
 use Rattle.wq_record.specs.RecordData.{RecordData}
 use Rattle.wq_record.specs.Seen.{is_lawful_row}
-use Rattle.wq_view.specs.Again.{seen_row, seen_rows}
+use Rattle.wq_view.specs.SeenRows.{seen_row, seen_rows}
 use Rattle.wq_view.proofs.SeenAgain.{seen-append}
 use Rattle.wq_view.proofs.Stretches.{taken_more}
 

@@ -24,15 +24,9 @@ mod PassOrder
 mod MoveSteps
 mod SuffixNumbers
 mod AmongSuffixes
-mod AmongNames
 mod PositionRuns
-mod SeenAgain
+pub mod SeenAgain
 mod Unmoved
-mod KeptRuns
-mod PatchRuns
-mod Passed
-mod Joining
-mod Carried
 mod Apart
 mod Patches
 mod Stretches

@@ -9,7 +9,7 @@ use Rattle.std.proofs.lemmas.List.Sorted.{IsPermutation-refl}
 use Rattle.wq_record.specs.Name.{name_cmp}
 use Rattle.wq_record.specs.RecordData.{RecordData}
 use Rattle.wq_record.specs.Seen.{SeenData, entry_of, is_count, is_lawful_row}
-use Rattle.wq_view.specs.Again.{seen_rows}
+use Rattle.wq_view.specs.SeenRows.{seen_rows}
 use Rattle.wq_view.specs.History.{History, last_stats}
 use Rattle.wq_view.specs.Limit.{max_listing_rows}
 use Rattle.wq_view.specs.Listing.{listing_fault, listing_of}

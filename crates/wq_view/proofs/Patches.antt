@@ -13,7 +13,7 @@ use Rattle.std.proofs.lemmas.List.Folds.{list_all-append}
 use Rattle.wq_record.specs.Name.{name_cmp}
 use Rattle.wq_record.specs.RecordData.{RecordData, by_name}
 use Rattle.wq_record.specs.Seen.{SeenData, entry_of}
-use Rattle.wq_view.specs.Again.{seen_rows}
+use Rattle.wq_view.specs.SeenRows.{seen_rows}
 use Rattle.wq_view.specs.Merge.{record_alone, record_and_row, row_alone, pairs_from, pairs_of, is_unchanged, shows, pair_after, records_after}
 use Rattle.wq_view.specs.Moves.{MovesData, with_pairs, with_same}
 use Rattle.wq_view.specs.Patch.{patched}

@@ -6,7 +6,7 @@ use Rattle.std.specs.FinMap.{entries, entries-from_sorted, from_sorted, from_ent
 use Rattle.std.specs.List.{list_all}
 use Rattle.std.proofs.lemmas.List.Sorted.{IsPermutation-refl}
 use Rattle.wq_view.specs.declared.listing.PassFault.TheVariants.{OutOfRange}
-use Rattle.wq_view.specs.Again.{seen_rows}
+use Rattle.wq_view.specs.SeenRows.{seen_rows}
 use Rattle.wq_view.specs.History.{History, last_stats}
 use Rattle.wq_view.specs.Limit.{max_listing_rows}
 use Rattle.wq_record.specs.Name.{name_cmp}

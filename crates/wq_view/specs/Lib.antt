@@ -14,9 +14,7 @@ pub mod Records
 pub mod Below
 pub mod Moves
 pub mod Suffix
-pub mod Again
+pub mod SeenRows
 pub mod Patch
 pub mod Patching
 pub mod Stretch
-pub mod PatchMaker
-pub mod Recent

@@ -2,7 +2,7 @@
 ghost use Rattle.std.specs.Prelude.{◌≡◌, ◌≤◌, ◌+◌, ◌++◌, length, IfOk, IsTrue, OnOk};
 ghost use Rattle.std.specs.List.{list_all};
 ghost use Rattle.wq_record.specs.Seen.{is_lawful_row};
-ghost use Rattle.wq_view.specs.Again.{seen_rows};
+ghost use Rattle.wq_view.specs.SeenRows.{seen_rows};
 ghost use Rattle.wq_view.specs.Limit.{max_chunk, max_records};
 ghost use Rattle.wq_view.specs.Position.{positions_from};
 ghost use Rattle.wq_view.specs.Suffix.{folded_suffixes, has_suffix_of};
@@ -28,7 +28,7 @@ impl Model for Chunk {
     ghost use Rattle.std.specs.Prelude.{◌≡◌, ◌≤◌, IsTrue, List, length, vec_len};
     ghost use Rattle.std.specs.Coded.{coded_list};
     ghost use Rattle.std.specs.List.{list_all};
-    ghost use Rattle.wq_view.specs.Again.{seen_rows};
+    ghost use Rattle.wq_view.specs.SeenRows.{seen_rows};
     ghost use Rattle.wq_view.specs.Limit.{max_chunk};
     ghost use Rattle.wq_record.specs.RecordData.{RecordData, record_code};
     ghost use Rattle.wq_record.specs.Seen.{is_lawful_row};

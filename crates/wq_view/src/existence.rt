@@ -2,7 +2,7 @@
 ghost use Rattle.std.specs.Prelude.{◌≡◌, ◌≤◌, length, IsTrue};
 ghost use Rattle.std.specs.List.{list_all};
 ghost use Rattle.wq_record.specs.Seen.{is_lawful_row};
-ghost use Rattle.wq_view.specs.Again.{seen_row, seen_rows};
+ghost use Rattle.wq_view.specs.SeenRows.{seen_row, seen_rows};
 
 use wq_record::Record;
 

@@ -12,7 +12,6 @@
 //! ```
 #![tactic(auto)]
 
-mod again;
 mod below;
 mod chunk;
 mod chunk_filler;
@@ -26,27 +25,23 @@ mod order;
 mod pair;
 mod pass_merge;
 mod patch;
-mod patch_maker;
 mod patch_merge;
 mod reader;
-mod recent;
 mod records;
 mod stretch;
 mod suffix;
 mod suffixes;
 mod view;
 
-pub use again::Again;
 pub use law::{
     history_has_one_view, kept_positions_filter, newest_is_sorted, newest_is_split,
     positions_are_there, positions_filter,
 };
 pub use limit::{MAX_LISTING_ROWS, MAX_RECORDS};
 pub use listing::{Pass, PassFault};
-pub use patch::{Patch, simplified};
+pub use patch::Patch;
 pub use reader::Reader;
-pub use recent::{Reach, Recent};
-pub use records::Records;
+pub use records::{RecordRun, Records};
 pub use suffixes::Suffixes;
 pub use view::{View, ViewFault};
 pub use wq_record::{Kind, MAX_NAME, MAX_TICK, Name, Record, Seen, SharedBytes, is_valid_name};

@@ -3,7 +3,7 @@
 ghost use Rattle.std.specs.Prelude.{◌≡◌, ◌<◌, ◌↔◌, false, Some, None, MatchResult, IfSome, IfNone, IfErr, List, [], length, ◌≤◌, IfOk, map, take, bytes_eq, slice_get, IsTrue, IsPermutation};
 ghost use Rattle.std.specs.FinMap.{entries, is_sorted};
 ghost use Rattle.std.specs.List.{list_all, IsDistinct};
-ghost use Rattle.wq_view.specs.Again.{seen_rows};
+ghost use Rattle.wq_view.specs.SeenRows.{seen_rows};
 ghost use Rattle.wq_view.specs.History.{History, last_stats};
 ghost use Rattle.wq_view.specs.Limit.{max_listing_rows};
 ghost use Rattle.wq_record.specs.Seen.{entry_of, is_lawful_row, is_count};

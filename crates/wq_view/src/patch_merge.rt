@@ -3,14 +3,14 @@
 ghost use Rattle.std.specs.Prelude.{◌≡◌, ◌≤◌, ◌++◌, [], drop, length, take, IfNone, IfOk, IfSome, IsTrue, OnOk, map};
 ghost use Rattle.std.specs.FinMap.{is_sorted};
 ghost use Rattle.std.specs.declared.cmp.Ordering.TheVariants.{Less};
-ghost use Rattle.std.specs.List.{AllByRecursion, list_all};
+ghost use Rattle.std.specs.List.{list_all};
 ghost use Rattle.wq_record.specs.Name.{name_cmp};
 ghost use Rattle.wq_record.specs.Seen.{entry_of, is_count, is_lawful_row};
 ghost use Rattle.wq_view.specs.Chunk.{records_in};
 ghost use Rattle.wq_view.specs.ChunkFiller.{filled};
 ghost use Rattle.wq_view.specs.Merge.{pairs_of, records_after, shows};
 ghost use Rattle.wq_view.specs.Moves.{moves_data, no_moves, with_pairs, with_same};
-ghost use Rattle.wq_view.specs.Again.{seen_rows};
+ghost use Rattle.wq_view.specs.SeenRows.{seen_rows};
 ghost use Rattle.wq_view.specs.Patch.{patched};
 ghost use Rattle.wq_view.specs.Patching.{AreBelow, FitFrom, FitsAt, has_lawful_rows, last_rows};
 ghost use Rattle.wq_view.specs.Patching.{patched_after, patched_moves, patched_shows, record_name, row_name};
@@ -19,7 +19,6 @@ ghost use Rattle.wq_view.specs.Run.{rows_behind, run_after, run_pairs};
 ghost use Rattle.wq_view.specs.Stretch.{stretch_records};
 ghost use Rattle.wq_view.specs.View.{NamesRise};
 
-use crate::again::row_of;
 use crate::chunk::Slot;
 use crate::chunk_filler::ChunkFiller;
 use crate::chunks::Chunks;
@@ -215,18 +214,6 @@ fn replace_stretch<'a>(
     Ok(left)
 }
 
-/// The records after the first `count` of these.
-fn skip(records: Records<'_>, count: usize) -> Records<'_>
-    ensures { records_left result ≡ drop count (records_left records.entry) }
-{
-    let mut left = records;
-    let mut more = count;
-    while let Some(stretch) = Stretch::take(&mut left, more) {
-        more -= stretch.len();
-    }
-    left
-}
-
 /// Whether rows say just the same as the first `count` of these records.
 fn are_shown(records: Records<'_>, count: usize, rows: &[Seen]) -> bool
     ensures { result ≡ shows (take count (records_left records.entry)) rows.now }
@@ -252,11 +239,11 @@ pub(crate) fn all_shown(slots: &[Slot], patches: &[Patch]) -> bool
     let mut left = Records::of(slots);
     let mut more = patches;
     while let Some((patch, later)) = more.split_first() {
-        let start = skip(left, patch.kept);
+        let start = left.after(patch.kept);
         if !are_shown(start, patch.replaced, &patch.rows) {
             return false;
         }
-        left = skip(start, patch.replaced);
+        left = start.after(patch.replaced);
         more = later;
     }
     true
@@ -316,19 +303,10 @@ fn are_after(earlier: &[Seen], rows: &[Seen]) -> bool
     ensures { IsTrue result → AreBelow row_name row_name earlier.now rows.now }
 {
     match earlier.last() {
-        Some(last) => is_above(last, rows),
-        None => true,
-    }
-}
-
-/// Whether rows come after a name.
-fn is_above(row: &Seen, rows: &[Seen]) -> bool
-    requires rows { IsTrue (is_sorted name_cmp (map entry_of rows.now)) }
-    ensures { IsTrue result
-        → AllByRecursion (λ other. name_cmp row.now.name other.name ≡ Less) rows.now }
-{
-    match rows.first() {
-        Some(first) => is_below(row.name.as_slice(), first.name.as_slice()),
+        Some(last) => match rows.first() {
+            Some(first) => is_below(last.name.as_slice(), first.name.as_slice()),
+            None => true,
+        },
         None => true,
     }
 }
@@ -376,55 +354,4 @@ fn is_below(name: &[u8], other: &[u8]) -> bool
     ensures { IsTrue result → name_cmp name.now other.now ≡ Less }
 {
     name.cmp(other).is_lt()
-}
-
-impl Records<'_> {
-    /// The rows of a listing that differs by these patches from the records. They share the names of the records and of
-    /// the patches' rows.
-    pub fn patched(self, alloc: Global, patches: &[Patch]) -> Result<Vec<Seen>, AllocError>
-        ensures { IfOk result (λ rows.
-            rows.items ≡ patched (records_left self.entry) patches.now) }
-    {
-        let mut rows = Vec::new(alloc);
-        let mut left = self;
-        let mut more = patches;
-        while let Some((patch, later)) = more.split_first() {
-            let mut kept = left.rows(alloc, patch.kept)?;
-            rows.append(&mut kept).map_err(AllocError::from)?;
-            push_shared(&mut rows, &patch.rows)?;
-            left = skip(skip(left, patch.kept), patch.replaced);
-            more = later;
-        }
-        push_seen(&mut rows, left)?;
-        Ok(rows)
-    }
-}
-
-/// Adds rows that share the names of these.
-fn push_shared(rows: &mut Vec<Seen>, others: &[Seen]) -> Result<(), AllocError>
-    ensures { OnOk result (rows.new.items ≡ rows.old.items ++ others.now) }
-{
-    for row in others {
-        rows.push(Seen {
-            name: row.name.copy()?,
-            kind: row.kind,
-            size: row.size,
-            mtime_ms: row.mtime_ms,
-        })?;
-    }
-    Ok(())
-}
-
-/// Adds the rows of the files that exist by these records.
-fn push_seen(rows: &mut Vec<Seen>, records: Records<'_>) -> Result<(), AllocError>
-    ensures { OnOk result (rows.new.items
-        ≡ rows.old.items ++ seen_rows (records_left records.entry)) }
-{
-    let mut left = records;
-    while let Some(record) = left.next() {
-        if record.exists {
-            rows.push(row_of(record)?)?;
-        }
-    }
-    Ok(())
 }

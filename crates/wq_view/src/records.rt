@@ -1,9 +1,13 @@
 //! The records of a view, or of a run of its positions, one after the other.
-ghost use Rattle.std.specs.Prelude.{◌≡◌, [], take, length};
+ghost use Rattle.std.specs.Prelude.{◌≡◌, [], drop, length, take, IsTrue};
+ghost use Rattle.std.specs.List.{list_all};
+ghost use Rattle.wq_record.specs.Seen.{is_lawful_row};
 ghost use Rattle.wq_view.specs.Chunk.{records_in};
 ghost use Rattle.wq_view.specs.Records.{records_left};
+ghost use Rattle.wq_view.specs.SeenRows.{seen_rows};
 
 use crate::chunk::Slot;
+use crate::stretch::Stretch;
 use wq_record::Record;
 
 /// Records in the byte order of their names, as an iterator.
@@ -32,6 +36,54 @@ impl<'a> Records<'a> {
             slots,
         }
     }
+
+    /// The records after the first `count` of these.
+    pub fn after(self, count: usize) -> Records<'a>
+        ensures { records_left result ≡ drop count (records_left self.entry) }
+    {
+        let mut left = self;
+        let mut more = count;
+        while let Some(stretch) = Stretch::take(&mut left, more) {
+            more -= stretch.len();
+        }
+        left
+    }
+
+    /// The first `most` of these records, or all if there are fewer. Nothing looks at the records of a whole chunk.
+    pub fn run(self, most: usize) -> RecordRun<'a>
+        ensures len { result.len ≡ length (take most (records_left self.entry)) }
+        ensures existing { result.existing
+            ≡ length (seen_rows (take most (records_left self.entry))) }
+        ensures left { records_left result.left ≡ drop most (records_left self.entry) }
+        ensures lawful { IsTrue (list_all is_lawful_row
+            (seen_rows (take most (records_left self.entry)))) }
+    {
+        let mut len = 0usize;
+        let mut existing = 0usize;
+        let mut left = self;
+        let mut more = most;
+        while let Some(stretch) = Stretch::take(&mut left, more) {
+            len += stretch.len();
+            existing += stretch.existing();
+            more -= stretch.len();
+        }
+        RecordRun {
+            len,
+            existing,
+            left,
+        }
+    }
+}
+
+/// Some records that come one after the other, and those after them.
+#[derive(Clone, Copy)]
+pub struct RecordRun<'a> {
+    /// The number of records.
+    pub len: usize,
+    /// The number of those whose files exist.
+    pub existing: usize,
+    /// The records after them.
+    pub left: Records<'a>,
 }
 
 impl<'a> Iterator for Records<'a> {

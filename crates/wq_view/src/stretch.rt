@@ -2,7 +2,7 @@
 ghost use Rattle.std.specs.Prelude.{◌≡◌, ◌≤◌, ◌++◌, [], drop, length, take, IfNone, IfSome, IsTrue};
 ghost use Rattle.std.specs.List.{list_all};
 ghost use Rattle.wq_record.specs.Seen.{is_lawful_row};
-ghost use Rattle.wq_view.specs.Again.{seen_rows};
+ghost use Rattle.wq_view.specs.SeenRows.{seen_rows};
 ghost use Rattle.wq_view.specs.Records.{records_left};
 ghost use Rattle.wq_view.specs.Stretch.{stretch_records};
 

@@ -264,7 +264,7 @@ impl View {
     }
 
     /// The allocator of the view's records.
-    pub(crate) fn allocator(&self) -> Global {
+    pub fn allocator(&self) -> Global {
         self.chunks.allocator()
     }
 

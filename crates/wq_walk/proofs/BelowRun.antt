@@ -1,7 +1,7 @@
 -- The records below a directory are a run of a view's records.
 use Rattle.std.proofs.Common.{◌≡◌, ◌-◌, ◌≤◌, ◌<◌, ℕ, zero, suc, Bool, true, false, ◌&&◌, nat_le, nat_lt, List, [], ◌∷◌, filter, take, drop, refl, ap, sym, ◌∙◌, arith}
 use Rattle.std.proofs.lemmas.Bool.{and_from, and_left, and_right, le-leb, le-ltb, lt-leb, lt-ltb}
-use Rattle.wq_view.specs.Again.{seen_rows}
+use Rattle.wq_view.specs.SeenRows.{seen_rows}
 use Rattle.wq_view.specs.Below.{is_below}
 use Rattle.wq_view.specs.Position.{passes_at}
 use Rattle.wq_record.specs.RecordData.{RecordData}

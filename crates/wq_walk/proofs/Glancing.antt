@@ -11,9 +11,9 @@ use Rattle.std.proofs.lemmas.Bool.{eq-eqb, false≢true}
 use Rattle.std.proofs.lemmas.List.Elements.{All-get_or, All-push, All-weaker}
 use Rattle.std.proofs.lemmas.Option.{same_Some}
 use Rattle.std.proofs.lemmas.Slice.Eq.{bytes_eq-Decides}
-use Rattle.wq_view.specs.Again.{seen_row, seen_rows}
+use Rattle.wq_view.specs.SeenRows.{seen_row, seen_rows}
 use Rattle.wq_view.specs.Below.{is_below}
-use Rattle.wq_view.specs.Recent.{is_one_of_names}
+use Rattle.wq_crawl.specs.Recent.{is_one_of_names}
 use Rattle.wq_view.specs.Position.{has_name, passes_at}
 use Rattle.wq_record.specs.RecordData.{RecordData, record_named}
 use Rattle.wq_record.specs.Seen.{SeenData, Stat}

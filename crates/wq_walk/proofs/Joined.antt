@@ -3,7 +3,7 @@ use Rattle.std.proofs.Common.{◌≡◌, ◌++◌, ◌∷◌, [], ℕ, List, app
 use Rattle.std.specs.List.{flat_map}
 use Rattle.wq_record.specs.RecordData.{RecordData}
 use Rattle.wq_record.specs.Seen.{SeenData}
-use Rattle.wq_view.specs.PatchMaker.{IsJoined, IsJoinedTo}
+use Rattle.wq_patch.specs.PatchMaker.{IsJoined, IsJoinedTo}
 use Rattle.wq_view.specs.Patch.{patched}
 use Rattle.wq_view.specs.declared.patch.Patch.{Patch}
 use Rattle.wq_walk.specs.declared.rows.Rows.{Rows}

@@ -5,7 +5,7 @@ use Rattle.std.proofs.lemmas.Grind.{flat_map-append}
 use Rattle.std.proofs.lemmas.List.{append-nil, length-drop, map-append, take-append-drop, take_all}
 use Rattle.std.proofs.lemmas.List.Elements.{filter-append}
 use Rattle.std.specs.List.{flat_map}
-use Rattle.wq_view.specs.Again.{seen_row, seen_rows}
+use Rattle.wq_view.specs.SeenRows.{seen_row, seen_rows}
 use Rattle.wq_record.specs.RecordData.{RecordData}
 use Rattle.wq_walk.specs.declared.piece.Piece.{Piece}
 use Rattle.wq_walk.specs.declared.rows.Rows.{Rows}

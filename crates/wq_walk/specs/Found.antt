@@ -1,6 +1,6 @@
 -- The files of a piece that a walk found so far. No public document defines it.
 use Rattle.std.specs.Prelude.{◌≡◌, List}
-use Rattle.wq_view.specs.Again.{AgainData}
+use Rattle.wq_patch.specs.Again.{AgainData}
 use Rattle.wq_record.specs.Seen.{SeenData}
 use Rattle.wq_walk.specs.declared.piece.Piece.{Piece}
 use Rattle.wq_walk.specs.Tiles.{piece_records}

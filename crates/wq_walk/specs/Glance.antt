@@ -4,9 +4,9 @@ use Rattle.std.specs.Prelude.{◌≡◌, ◌⊎◌, ℕ, zero, suc, IsTrue, List
 use Rattle.std.specs.Prelude.{false, filter, Some, slice_get}
 use Rattle.std.specs.List.{All}
 use Rattle.std.specs.Str.{byte}
-use Rattle.wq_view.specs.Again.{seen_row, seen_rows}
+use Rattle.wq_view.specs.SeenRows.{seen_row, seen_rows}
 use Rattle.wq_view.specs.Below.{is_below}
-use Rattle.wq_view.specs.Recent.{is_one_of_names}
+use Rattle.wq_crawl.specs.Recent.{is_one_of_names}
 use Rattle.wq_record.specs.RecordData.{RecordData, record_named}
 use Rattle.wq_record.specs.Seen.{SeenData, Stat}
 use Rattle.wq_record.specs.declared.kind.Kind.TheVariants.{Dir}

@@ -6,7 +6,7 @@ use Rattle.std.specs.Str.{byte}
 use Rattle.std.specs.declared.alloc.Global.{Global}
 use Rattle.wq_crawl.specs.declared.tree.TreeFault.{TreeFault}
 use Rattle.wq_crawl.specs.declared.tree.TreeFault.TheVariants.{Unreadable}
-use Rattle.wq_view.specs.Again.{seen_rows}
+use Rattle.wq_view.specs.SeenRows.{seen_rows}
 use Rattle.wq_record.specs.RecordData.{RecordData}
 use Rattle.wq_record.specs.Seen.{SeenData}
 use Rattle.wq_walk.specs.declared.part.Part.{Part}

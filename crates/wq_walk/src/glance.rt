@@ -5,11 +5,11 @@ ghost use Rattle.std.specs.Prelude.{◌≡◌, ◌-◌, ◌≤◌, ◌++◌, [],
 ghost use Rattle.std.specs.Prelude.{IfErr, IfOk, IfSome, IsTrue, OnOk};
 ghost use Rattle.std.specs.List.{list_all};
 ghost use Rattle.wq_crawl.specs.Tree.{IsFit, is_of_device, rows_listed};
-ghost use Rattle.wq_view.specs.Again.{seen_rows};
+ghost use Rattle.wq_view.specs.SeenRows.{seen_rows};
 ghost use Rattle.wq_view.specs.Below.{is_below};
 ghost use Rattle.wq_view.specs.Limit.{max_listing_rows};
 ghost use Rattle.wq_view.specs.Position.{passes_at};
-ghost use Rattle.wq_view.specs.Recent.{is_one_of_names};
+ghost use Rattle.wq_crawl.specs.Recent.{is_one_of_names};
 ghost use Rattle.wq_record.specs.Seen.{is_lawful_row};
 ghost use Rattle.wq_record.specs.declared.kind.Kind.TheVariants.{Dir};
 ghost use Rattle.wq_walk.specs.Directory.{data_of, walk_of};
@@ -38,8 +38,9 @@ use std::alloc::{AllocError, Global};
 use std::str;
 use std::thread::Threads;
 use std::time::CpuClock;
-use wq_crawl::{Listing, TreeFault};
-use wq_view::{Kind, Reach, Recent, Record, View};
+use wq_crawl::{Listing, Reach, Recent, TreeFault};
+use wq_patch::existing_rows;
+use wq_view::{Kind, Record, View};
 
 /// A glance that has not ended yet.
 #[derive(Drop)]
@@ -257,7 +258,7 @@ impl<'a> Glance<'a, '_> {
             return Ok(());
         }
         let records = self.last.records_from(start);
-        let more = records.rows(self.walk.alloc, end.saturating_sub(start))?;
+        let more = existing_rows(self.walk.alloc, records, end.saturating_sub(start))?;
         self.walk.rows.add_all(more)
     }
 

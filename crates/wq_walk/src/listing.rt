@@ -23,7 +23,8 @@ use std::alloc::{AllocError, Global};
 use std::thread::Threads;
 use std::time::CpuClock;
 use wq_crawl::{Listing, TreeFault};
-use wq_view::{MAX_LISTING_ROWS, Patch, Seen, View, simplified};
+use wq_patch::{patched_rows, simplified};
+use wq_view::{MAX_LISTING_ROWS, Patch, Seen, View};
 
 /// The rows of the files below a root that was not listed before.
 pub(crate) fn first_rows<T: Threads + CpuClock, D: Disk + Sync>(
@@ -168,7 +169,7 @@ pub(crate) fn patched_listing(
     if last.fits(&patches) {
         return Ok(Listing::Patches(patches));
     }
-    let rows = last.records().patched(alloc, &patches)?;
+    let rows = patched_rows(alloc, last.records(), &patches)?;
     Ok(Listing::Rows(rows))
 }
 

@@ -4,9 +4,9 @@ ghost use Rattle.std.specs.List.{list_all};
 ghost use Rattle.wq_crawl.specs.declared.tree.TreeFault.TheVariants.{TooManyRows};
 ghost use Rattle.wq_crawl.specs.Tree.{is_of_device};
 ghost use Rattle.wq_record.specs.Name.{is_valid_name};
-ghost use Rattle.wq_view.specs.Again.{seen_rows};
+ghost use Rattle.wq_view.specs.SeenRows.{seen_rows};
 ghost use Rattle.wq_view.specs.Limit.{max_listing_rows};
-ghost use Rattle.wq_view.specs.PatchMaker.{IsJoinedTo};
+ghost use Rattle.wq_patch.specs.PatchMaker.{IsJoinedTo};
 ghost use Rattle.wq_record.specs.Seen.{is_lawful_row};
 ghost use Rattle.wq_walk.specs.Found.{IsFoundOf, found_rows};
 ghost use Rattle.wq_walk.specs.Part.{IsListing, is_in, is_row_in, whole_part};
@@ -18,7 +18,8 @@ use crate::piece::Piece;
 use crate::stat::Stat;
 use std::alloc::{AllocError, Global};
 use wq_crawl::TreeFault;
-use wq_view::{Again, MAX_LISTING_ROWS, Patch, Seen, SharedBytes};
+use wq_patch::Again;
+use wq_view::{MAX_LISTING_ROWS, Patch, Seen, SharedBytes};
 
 /// At most 1,000,000 files of a piece that were found so far. A pass takes each of them. Rows are made only for those
 /// that are not as the piece's records say.

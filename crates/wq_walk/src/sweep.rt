@@ -3,7 +3,7 @@
 //! it.
 ghost use Rattle.std.specs.Prelude.{◌≡◌, ◌≤◌, IfErr, IsTrue};
 ghost use Rattle.std.specs.Thread.{IsSync};
-ghost use Rattle.wq_view.specs.Again.{seen_row};
+ghost use Rattle.wq_view.specs.SeenRows.{seen_row};
 ghost use Rattle.wq_walk.specs.Told.{IsFailure};
 ghost use Rattle.wq_walk.specs.Walk.{row_with_stat};
 

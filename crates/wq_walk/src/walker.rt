@@ -22,8 +22,8 @@ use std::sync::atomic::{AtomicU64, Ordering};
 use std::thread::Threads;
 use std::time::{Clock, CpuClock, Instant};
 use wq_base::Workers;
-use wq_crawl::{LeftOut, Listing, Tree, TreeFault};
-use wq_view::{Recent, Seen, View};
+use wq_crawl::{LeftOut, Listing, Recent, Tree, TreeFault};
+use wq_view::{Seen, View};
 
 /// Walks the trees of a disk, and counts how often a root could not be read or no file handle was
 /// left. Several threads walk a large tree if somebody waits for its listing, up to 32 if its disk

@@ -2,7 +2,7 @@
 use Rattle.std.proofs.Common.{rules, ◌≡◌, ◌∷◌, IsTrue, length, ap, subst, sym, ◌∙◌, arith}
 use Rattle.std.specs.List.{list_all}
 use Rattle.wq_record.specs.Seen.{is_lawful_row}
-use Rattle.wq_view.specs.Again.{seen_rows}
+use Rattle.wq_view.specs.SeenRows.{seen_rows}
 use Rattle.wq_view.proofs.Counted.{lawful_gone, lawful_there, one_gone, one_there}
 use Rattle.wq_view.proofs.SeenAgain.{few_seen}
 use Rattle.wq_view.proofs.existence.existing_in.Goals as goal

@@ -2,7 +2,7 @@
 use Rattle.std.proofs.Common.{◌≡◌, length, IsTrue, ◌+◌}
 use Rattle.std.specs.List.{list_all}
 use Rattle.wq_record.specs.Seen.{is_lawful_row}
-use Rattle.wq_view.specs.Again.{seen_rows}
+use Rattle.wq_view.specs.SeenRows.{seen_rows}
 use Rattle.wq_view.proofs.existence.existing_in.Given as goal
 
 abbrev pub invariant-loop-known : goal.invariant-loop-known

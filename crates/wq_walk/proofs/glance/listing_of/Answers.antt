@@ -2,7 +2,7 @@
 use Rattle.std.proofs.Common.{◌≤◌, IsTrue, length, subst, sym, ap, ◌∙◌}
 use Rattle.std.specs.List.{list_all}
 use Rattle.wq_view.specs.Limit.{max_listing_rows}
-use Rattle.wq_view.specs.PatchMaker.{IsJoinedTo}
+use Rattle.wq_patch.specs.PatchMaker.{IsJoinedTo}
 use Rattle.wq_view.specs.Patch.{patched}
 use Rattle.wq_record.specs.Seen.{is_lawful_row}
 use Rattle.wq_walk.specs.Found.{found_rows}

@@ -2,7 +2,7 @@
 use Rattle.std.proofs.Common.{◌≡◌, ◌∷◌, ◌++◌, List, ap, length, subst, arith}
 use Rattle.std.specs.Vec.Iter.{into_iter_items}
 use Rattle.wq_record.specs.RecordData.{RecordData}
-use Rattle.wq_view.specs.PatchMaker.{IsJoined}
+use Rattle.wq_patch.specs.PatchMaker.{IsJoined}
 use Rattle.wq_view.specs.Patch.{patched}
 use Rattle.wq_walk.specs.Listed.{records_of_pieces, walked_rows}
 use Rattle.wq_walk.proofs.Joined.{piece_more}

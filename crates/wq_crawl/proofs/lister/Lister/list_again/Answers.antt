@@ -3,7 +3,7 @@ use Rattle.std.proofs.Common.{◌≡◌, None, IfSome, IsTrue, MatchResult, ap, 
 use mir.Val.{SFits}
 use Rattle.std.proofs.lemmas.Int.{to_z-of_z}
 use Rattle.wq_record.specs.Seen.{is_count}
-use Rattle.wq_view.specs.Again.{seen_rows}
+use Rattle.wq_view.specs.SeenRows.{seen_rows}
 use Rattle.wq_view.specs.Listing.{is_of_whole, listing_fault, listing_of}
 use Rattle.wq_view.specs.Patch.{patched}
 use Rattle.wq_crawl.specs.declared.tree.Listing.TheVariants.{Patches, Rows, Same}

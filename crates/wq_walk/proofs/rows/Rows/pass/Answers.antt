@@ -1,7 +1,7 @@
 -- The rows of the run were added.
 use Rattle.std.proofs.Common.{IsTrue, length, subst, sym, ap, ◌∙◌, arith, take, drop, ◌-◌}
 use Rattle.std.specs.List.{list_all}
-use Rattle.wq_view.specs.Again.{seen_rows}
+use Rattle.wq_view.specs.SeenRows.{seen_rows}
 use Rattle.wq_view.specs.Limit.{max_listing_rows}
 use Rattle.wq_record.specs.Seen.{is_lawful_row}
 use Rattle.wq_walk.specs.Found.{found_rows}

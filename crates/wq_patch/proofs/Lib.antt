@@ -1,0 +1,4 @@
+mod PatchRuns
+mod Passed
+mod Joining
+mod Carried

@@ -1,9 +1,0 @@
--- no file was found, and the records stay the same
-use Rattle.std.proofs.Common.{◌≡◌}
-use Rattle.wq_view.proofs.again.Again.go_to.Given as goal
-
-abbrev pub invariant-loop : goal.invariant-loop
-invariant-loop l = record {
-  records : l.self.records ≡ l.fn.self.records;
-  found : l.self.found ≡ l.fn.self.found;
-}
