@@ -16,7 +16,7 @@ MOST = {
     "docs/DECISIONS.md": 920,
     "crates/*/DECISIONS.md": 7500,
     "docs/PROGRAMS.md": 3250,
-    "docs/PROOFS.md": 2220,
+    "docs/PROOFS.md": 2260,
     "docs/PROTOCOL.md": 5000,
     "docs/REFERENCE.md": 2500,
     "docs/RECIPES.md": 1620,
@@ -29,7 +29,7 @@ MOST = {
     "docs/TUTORIAL.md": 1450,
     "docs/WQ.md": 2750,
     "docs/WQASM.md": 1000,
-    "docs/crates": 3275,
+    "docs/crates": 3400,
     "tests/README.md": 1420,
 }
 # A sentence of more words is long.
