@@ -5,11 +5,12 @@ use Rattle.std.proofs.lemmas.List.Prefix.{front_rest}
 use Rattle.std.specs.Str.{byte}
 use Rattle.wq_record.specs.Seen.{SeenData, Stat}
 use Rattle.wq_record.specs.declared.kind.Kind.TheVariants.{Dir}
-use Rattle.wq_walk.specs.declared.part.Part.{Part}
-use Rattle.wq_walk.specs.Part.{is_in}
-use Rattle.wq_walk.specs.Told.{GivesEntries, GivesStat, Has, HasEntries}
+use Rattle.wq_disk.specs.declared.part.Part.{Part}
+use Rattle.wq_disk.specs.Part.{is_in}
+use Rattle.wq_disk.specs.Told.{GivesEntries, GivesStat, Has, HasEntries}
 use Rattle.wq_walk.specs.Accounts.{AnyOf, IsAccountedFor, IsAmongRead, IsOneOf, IsRowOfPath, NamesAreAccountedFor, ReadData, RowsAreOfPaths, WasRead}
-use Rattle.wq_walk.specs.Walk.{AreSteps, DirectoryData, HasNoneBelow, IsDone, IsEntered, IsLooked, IsPassedOver, IsStep, WalkData, after_look, fresh, name_of_path, row_with_stat, rows_of_file}
+use Rattle.wq_disk.specs.Directory.{DirectoryData, IsDone, fresh}
+use Rattle.wq_walk.specs.Walk.{AreSteps, HasNoneBelow, IsEntered, IsLooked, IsPassedOver, IsStep, WalkData, after_look, name_of_path, row_with_stat, rows_of_file}
 
 -- the path of a directory begins with the root's
 abbrev pub Below : List ℕ → DirectoryData → Type 0

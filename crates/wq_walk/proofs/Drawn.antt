@@ -14,7 +14,7 @@ use Rattle.wq_walk.specs.Listed.{AreOfPieces, AreWalks, IsDrawn, IsWalkOfPiece}
 use Rattle.wq_walk.specs.Listed.{walked_pieces}
 use Rattle.wq_walk.specs.Found.{found_rows}
 use Rattle.wq_walk.specs.Walk.{IsWalk}
-use Rattle.wq_walk.specs.Told.{GivesStat, Has}
+use Rattle.wq_disk.specs.Told.{GivesStat, Has}
 
 -- the first items of a list, and the next one
 pub take_next : {X : Type 0} (xs : List X) (n : ℕ) (x : X) → slice_get xs n ≡ Some x

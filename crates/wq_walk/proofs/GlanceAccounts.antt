@@ -8,8 +8,9 @@ use Rattle.wq_record.specs.Seen.{SeenData}
 use Rattle.wq_walk.specs.Accounts.{IsAmongRead, IsOneOf, ReadData}
 use Rattle.wq_walk.specs.Glance.{AreGlanceSteps, GlanceNamesAreAccountedFor, IsAccountedForByGlance, IsGlanceStep, IsKeptBelow, IsUnchanged, KeepsBelow, rows_below}
 use Rattle.wq_walk.specs.Part.{whole_part}
-use Rattle.wq_walk.specs.Told.{GivesStat, Has}
-use Rattle.wq_walk.specs.Walk.{HasNoneBelow, WalkData, fresh, name_of_path}
+use Rattle.wq_disk.specs.Told.{GivesStat, Has}
+use Rattle.wq_disk.specs.Directory.{fresh}
+use Rattle.wq_walk.specs.Walk.{HasNoneBelow, WalkData, name_of_path}
 use Rattle.wq_walk.proofs.Accounts.{Accounts, IsEnded, IsIn, Kept, Known, StaysKept, Waits, account_end, account_first, account_step, any_last, any_left, any_right, carry}
 use Rattle.wq_walk.proofs.GlanceRows.{each_one}
 

@@ -8,8 +8,9 @@ use Rattle.wq_record.specs.Seen.{SeenData}
 use Rattle.wq_walk.specs.Accounts.{IsOneOf, IsRowOfPath}
 use Rattle.wq_walk.specs.Glance.{AreGlanceSteps, GlanceRowsAreKnown, IsGlanceStep, IsRowOfGlance, rows_below}
 use Rattle.wq_walk.specs.Part.{whole_part}
-use Rattle.wq_walk.specs.Told.{GivesStat, Has}
-use Rattle.wq_walk.specs.Walk.{WalkData, fresh, name_of_path}
+use Rattle.wq_disk.specs.Told.{GivesStat, Has}
+use Rattle.wq_disk.specs.Directory.{fresh}
+use Rattle.wq_walk.specs.Walk.{WalkData, name_of_path}
 use Rattle.wq_walk.proofs.Accounts.{Below, any_left, look_rows}
 
 -- each directory of a glance is below the root, and each row so far is known

@@ -3,8 +3,8 @@ use Rattle.std.proofs.Common.{◌≡◌, ℕ, List, [], length, sym, subst}
 use Rattle.wq_record.specs.RecordData.{RecordData}
 use Rattle.wq_record.specs.Seen.{SeenData}
 use Rattle.wq_walk.specs.Glance.{GlanceEnds, IsGlance}
-use Rattle.wq_walk.specs.Told.{GivesEntries, GivesStat, Has}
-use Rattle.wq_walk.specs.Walk.{DirectoryData, fresh}
+use Rattle.wq_disk.specs.Told.{GivesEntries, GivesStat, Has}
+use Rattle.wq_disk.specs.Directory.{DirectoryData, fresh}
 
 -- a glance from the root's directory, whose rows stayed the same after it ended
 pub glance_of : (says : GivesStat) (has : Has) (records : List RecordData) (asked : List (List ℕ)) (root : List ℕ) (names : List (List ℕ)) (root_len : ℕ) (above : List DirectoryData) (here : DirectoryData) (before rows final : List SeenData)

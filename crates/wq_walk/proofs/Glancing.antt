@@ -18,12 +18,13 @@ use Rattle.wq_view.specs.Position.{has_name, passes_at}
 use Rattle.wq_record.specs.RecordData.{RecordData, record_named}
 use Rattle.wq_record.specs.Seen.{SeenData, Stat}
 use Rattle.wq_record.specs.declared.kind.Kind.TheVariants.{Dir}
-use Rattle.wq_walk.specs.declared.part.Part.{Part}
+use Rattle.wq_disk.specs.declared.part.Part.{Part}
 use Rattle.wq_walk.specs.Glance.{AreGlanceSteps, GlanceEnds, IsGlance, IsGlanceStep, IsGlancedAt, IsUnchanged, ListAll, ListsAt, rows_below}
 use Rattle.wq_walk.specs.Listed.{IsPathOf}
 use Rattle.wq_walk.specs.Part.{whole_part}
-use Rattle.wq_walk.specs.Told.{GivesStat, Has}
-use Rattle.wq_walk.specs.Walk.{DirectoryData, IsDone, IsStep, WalkData, name_of_path, row_with_stat, rows_of_file}
+use Rattle.wq_disk.specs.Told.{GivesStat, Has}
+use Rattle.wq_disk.specs.Directory.{DirectoryData, IsDone}
+use Rattle.wq_walk.specs.Walk.{IsStep, WalkData, name_of_path, row_with_stat, rows_of_file}
 use Rattle.wq_walk.specs.Accounts.{IsOneOf}
 use Rattle.wq_walk.proofs.Accounts.{any_left, any_right}
 use Rattle.wq_walk.proofs.BelowRun.{rows_of_run}

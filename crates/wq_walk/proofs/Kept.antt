@@ -3,7 +3,7 @@ use Rattle.std.proofs.Common.{◌≡◌, ◌≤◌, ◌<◌, ◌+◌, Bool, ℕ,
 use Rattle.std.specs.List.{list_all}
 use Rattle.std.proofs.lemmas.Bool.{and_from}
 use Rattle.wq_record.specs.Seen.{SeenData}
-use Rattle.wq_walk.specs.declared.part.Part.{Part}
+use Rattle.wq_disk.specs.declared.part.Part.{Part}
 use Rattle.wq_walk.specs.Part.{is_row_in, whole_part}
 use Rattle.wq_walk.proofs.Joins.{all_of_both}
 

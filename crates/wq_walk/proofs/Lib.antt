@@ -1,10 +1,5 @@
-mod Below
 mod Joins
 mod Pieces
-mod Entries
-mod Distinct
-mod EachOnce
-mod Cuts
 mod Walking
 mod Walked
 mod Drawn

@@ -9,19 +9,20 @@ use Rattle.std.proofs.lemmas.List.Prefix.{front_rest}
 use Rattle.std.proofs.lemmas.List.Sums.{sum_by-cons}
 use Rattle.std.proofs.lemmas.Slice.Eq.{bytes_eq-Decides}
 use Rattle.wq_record.specs.Seen.{SeenData}
-use Rattle.wq_walk.specs.declared.part.Part.{Part}
+use Rattle.wq_disk.specs.declared.part.Part.{Part}
 use Rattle.wq_walk.specs.declared.piece.Piece.{Piece}
 use Rattle.wq_walk.specs.declared.rows.Rows.{Rows}
 use Rattle.wq_walk.specs.Accounts.{IsRowOfPath}
-use Rattle.wq_walk.specs.Entries.{AreDistinct, AreEntries, has_no_slash, is_entry}
+use Rattle.wq_disk.specs.Entries.{AreDistinct, AreEntries, has_no_slash, is_entry}
 use Rattle.wq_walk.specs.Found.{found_rows}
 use Rattle.wq_walk.specs.Listed.{walked_pieces}
 use Rattle.wq_walk.specs.Once.{HaveOwnNames, ListingsListOnce, WalksListOnce}
-use Rattle.wq_walk.specs.Part.{is_in}
-use Rattle.wq_walk.specs.Told.{GivesStat, Has, HasEntries}
-use Rattle.wq_walk.specs.Walk.{AreSteps, DirectoryData, IsLooked, IsStep, IsWalk, WalkData, fresh, name_of_path, row_with_stat}
+use Rattle.wq_disk.specs.Part.{is_in}
+use Rattle.wq_disk.specs.Told.{GivesStat, Has, HasEntries}
+use Rattle.wq_disk.specs.Directory.{DirectoryData, fresh}
+use Rattle.wq_walk.specs.Walk.{AreSteps, IsLooked, IsStep, IsWalk, WalkData, name_of_path, row_with_stat}
 use Rattle.wq_walk.proofs.Accounts.{Below, Sound, rows_are_of_paths, sound_step}
-use Rattle.wq_walk.proofs.Entries.{read_entries}
+use Rattle.wq_disk.proofs.Entries.{read_entries}
 
 -- how often a test passes: once or never, and over a list
 abbrev once : Bool → ℕ

@@ -8,9 +8,9 @@ use Rattle.std.specs.Ordering.{is_lt}
 use Rattle.std.specs.Cmp.Lexicographic.{nat_list_cmp_total}
 use Rattle.std.proofs.lemmas.List.Sums.{sum_by-append}
 use Rattle.wq_record.specs.Name.{name_cmp}
-use Rattle.wq_walk.specs.declared.part.Part.{Part}
+use Rattle.wq_disk.specs.declared.part.Part.{Part}
 use Rattle.wq_walk.specs.declared.piece.Piece.{Piece}
-use Rattle.wq_walk.specs.Part.{is_in}
+use Rattle.wq_disk.specs.Part.{is_in}
 use Rattle.wq_walk.specs.Pieces.{is_behind, pieces_with, IsSharedOut, IsSharedOutBelow}
 
 -- an order that is tested to be less is less

@@ -5,7 +5,7 @@ use Rattle.wq_walk.specs.declared.piece.Piece.{Piece}
 use Rattle.wq_walk.specs.declared.rows.Rows.{Rows}
 use Rattle.wq_walk.specs.Listed.{AreWalks, IsListed, IsPathOf, IsRooted, IsWalked, piece_parts, walked_pieces, walked_rows}
 use Rattle.wq_walk.specs.Pieces.{IsSharedOut}
-use Rattle.wq_walk.specs.Told.{GivesStat, Has, HasStat}
+use Rattle.wq_disk.specs.Told.{GivesStat, Has, HasStat}
 
 -- rows of pieces that share out all names, and were each walked once, are a listing
 pub listed : {A E : Type 0} (items : A → List SeenData) (says : GivesStat) (has : Has) (root path : List ℕ) (pieces : List Piece) (result : Result A E)

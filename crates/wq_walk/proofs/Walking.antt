@@ -3,9 +3,10 @@ use Rattle.std.proofs.Common.{◌≡◌, ℕ, suc, Bool, false, List, [], ◌∷
 use Rattle.std.proofs.lemmas.Option.{none-some}
 use Rattle.std.specs.Str.{byte}
 use Rattle.wq_record.specs.Seen.{SeenData}
-use Rattle.wq_walk.specs.declared.part.Part.{Part}
-use Rattle.wq_walk.specs.Told.{GivesStat, Has, HasEntries}
-use Rattle.wq_walk.specs.Walk.{AreSteps, DirectoryData, Enters, IsDone, IsLooked, IsPassedOver, IsStep, LooksAtName, WalkData, WalkEnds, after_look, fresh, name_of_path}
+use Rattle.wq_disk.specs.declared.part.Part.{Part}
+use Rattle.wq_disk.specs.Told.{GivesStat, Has, HasEntries}
+use Rattle.wq_disk.specs.Directory.{DirectoryData, IsDone, fresh}
+use Rattle.wq_walk.specs.Walk.{AreSteps, Enters, IsLooked, IsPassedOver, IsStep, LooksAtName, WalkData, WalkEnds, after_look, name_of_path}
 
 -- the place of a walk
 abbrev walk : List DirectoryData → DirectoryData → List SeenData → WalkData

@@ -5,9 +5,9 @@ use Rattle.std.specs.List.{All}
 use Rattle.std.specs.Str.{byte}
 use Rattle.wq_record.specs.Seen.{SeenData, Stat}
 use Rattle.wq_record.specs.declared.kind.Kind.TheVariants.{Dir}
-use Rattle.wq_walk.specs.declared.part.Part.{Part}
-use Rattle.wq_walk.specs.Part.{is_in}
-use Rattle.wq_walk.specs.Told.{GivesEntries, GivesStat, Has, HasEntries}
+use Rattle.wq_disk.specs.declared.part.Part.{Part}
+use Rattle.wq_disk.specs.Part.{is_in}
+use Rattle.wq_disk.specs.Told.{GivesEntries, GivesStat, Has, HasEntries}
 use Rattle.wq_walk.specs.Walk.{HasNoneBelow, IsPassedOver, IsWalk, name_of_path, row_with_stat}
 
 -- a fact holds of some item of a list

@@ -13,8 +13,9 @@ use Rattle.wq_record.specs.declared.kind.Kind.TheVariants.{Dir}
 use Rattle.wq_walk.specs.Accounts.{IsAmongRead, IsOneOf, IsRowOfPath, ReadData, WasRead}
 use Rattle.wq_walk.specs.Listed.{IsPathOf}
 use Rattle.wq_walk.specs.Part.{whole_part}
-use Rattle.wq_walk.specs.Told.{GivesEntries, GivesStat, Has}
-use Rattle.wq_walk.specs.Walk.{DirectoryData, IsDone, IsPassedOver, IsStep, WalkData, fresh}
+use Rattle.wq_disk.specs.Told.{GivesEntries, GivesStat, Has}
+use Rattle.wq_disk.specs.Directory.{DirectoryData, IsDone, fresh}
+use Rattle.wq_walk.specs.Walk.{IsPassedOver, IsStep, WalkData}
 use Rattle.wq_walk.specs.Walk.{name_of_path, row_with_stat}
 
 -- the rows of the files below a directory that exist by the records of a view

@@ -1,12 +1,7 @@
-pub mod Stat
 pub mod Part
 pub mod Pieces
-pub mod Unseen
-pub mod Told
 pub mod Walk
-pub mod Entries
-pub mod Names
-pub mod Directory
+pub mod State
 pub mod System
 pub mod Listed
 pub mod Accounts

@@ -9,14 +9,14 @@ use Rattle.wq_crawl.specs.declared.tree.TreeFault.TheVariants.{Unreadable}
 use Rattle.wq_view.specs.SeenRows.{seen_rows}
 use Rattle.wq_record.specs.RecordData.{RecordData}
 use Rattle.wq_record.specs.Seen.{SeenData}
-use Rattle.wq_walk.specs.declared.part.Part.{Part}
+use Rattle.wq_disk.specs.declared.part.Part.{Part}
 use Rattle.wq_walk.specs.declared.piece.Piece.{Piece}
 use Rattle.wq_walk.specs.declared.rows.Rows.{Rows}
 use Rattle.wq_walk.specs.declared.walks.Walked.{Walked}
 use Rattle.wq_walk.specs.Found.{found_rows}
 use Rattle.wq_walk.specs.Pieces.{IsSharedOut}
 use Rattle.wq_walk.specs.Tiles.{piece_records}
-use Rattle.wq_walk.specs.Told.{GivesStat, Has, HasStat, IsHandleFault, IsRootFault, IsUnreadable}
+use Rattle.wq_disk.specs.Told.{GivesStat, Has, HasStat, IsHandleFault, IsRootFault, IsUnreadable}
 use Rattle.wq_walk.specs.Walk.{IsWalk}
 
 -- the parts of pieces

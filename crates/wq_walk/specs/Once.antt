@@ -1,10 +1,10 @@
 -- A listing has the path of each file once. No public document defines it.
 use Rattle.std.specs.Prelude.{ℕ, List, map}
 use Rattle.wq_record.specs.Seen.{SeenData}
-use Rattle.wq_walk.specs.declared.part.Part.{Part}
-use Rattle.wq_walk.specs.Entries.{AreDistinct}
+use Rattle.wq_disk.specs.declared.part.Part.{Part}
+use Rattle.wq_disk.specs.Entries.{AreDistinct}
 use Rattle.wq_walk.specs.Listed.{IsListed}
-use Rattle.wq_walk.specs.Told.{GivesStat, Has}
+use Rattle.wq_disk.specs.Told.{GivesStat, Has}
 use Rattle.wq_walk.specs.Walk.{IsWalk}
 
 -- rows of which no two have one name

@@ -1,27 +1,14 @@
--- The part of a tree that a walk lists, and the listings of a part. No public document defines it.
-use Rattle.std.specs.Prelude.{◌≡◌, ℕ, Bool, List, ◌∷◌, ◌++◌, true, not, ◌&&◌, ◌≤◌, length}
-use Rattle.std.specs.Prelude.{IsTrue, IfSome, None}
+-- The listings of a part of a tree. No public document defines it.
+use Rattle.std.specs.Prelude.{Bool, List, ◌≤◌, length, IsTrue, None}
 use Rattle.std.specs.List.{list_all}
-use Rattle.std.specs.Option.{option_map_or}
-use Rattle.std.specs.Ordering.{is_lt}
-use Rattle.std.specs.Str.{byte}
-use Rattle.std.specs.declared.cmp.Ordering.{Ordering}
-use Rattle.std.specs.declared.cmp.Ordering.TheVariants.{Less, Equal, Greater}
-use Rattle.wq_record.specs.Name.{name_cmp}
-use Rattle.wq_view.specs.Limit.{max_listing_rows}
+use Rattle.wq_disk.specs.declared.part.Part.{Part}
+use Rattle.wq_disk.specs.Part.{is_in}
 use Rattle.wq_record.specs.Seen.{SeenData, is_lawful_row}
-use Rattle.wq_walk.specs.declared.part.Part.{Part}
+use Rattle.wq_view.specs.Limit.{max_listing_rows}
 
 -- the whole of a tree
 abbrev pub whole_part : Part
 whole_part = record { from = None; below = None }
-
--- whether a name is in a part: from the first cut on and below the second one, if there are such
--- cuts
-abbrev pub is_in : Part → List ℕ → Bool
-is_in part name =
-    option_map_or (λ cut. not (is_lt (name_cmp name cut.now))) part.from true
-    && option_map_or (λ cut. is_lt (name_cmp name cut.now)) part.below true
 
 -- whether the name of a row is in a part
 abbrev pub is_row_in : Part → SeenData → Bool
@@ -33,22 +20,3 @@ IsListing part rows =
     IsTrue (list_all is_lawful_row rows)
     × (length rows ≤ max_listing_rows)
     × IsTrue (list_all (is_row_in part) rows)
-
--- the name of a file below a directory: the directory's name, a slash, and the rest
-abbrev pub name_below : List ℕ → List ℕ → List ℕ
-name_below directory rest = directory ++ (byte "/" ∷ rest)
-
--- the order of a cut and the names below a directory: the cut is before each of them, one of them,
--- or after each
-abbrev pub IsOrderBelow : List ℕ → List ℕ → Ordering → Type 0
-IsOrderBelow directory cut Less = (rest : List ℕ) → name_cmp cut (name_below directory rest) ≡ Less
-IsOrderBelow directory cut Equal = (rest : List ℕ) × (cut ≡ name_below directory rest)
-IsOrderBelow directory cut Greater = (rest : List ℕ) → name_cmp cut (name_below directory rest)
-    ≡ Greater
-
--- a part that may have names below a directory: its first cut is not after each of them, and its
--- second one not before each
-abbrev pub MayHaveBelow : Part → List ℕ → Type 0
-MayHaveBelow part directory =
-    IfSome part.from (λ cut. IsOrderBelow directory cut.now Greater → ⊥)
-    × IfSome part.below (λ cut. IsOrderBelow directory cut.now Less → ⊥)

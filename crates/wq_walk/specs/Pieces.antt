@@ -7,7 +7,7 @@ use Rattle.std.specs.Option.{option_map_or}
 use Rattle.std.specs.Ordering.{is_lt}
 use Rattle.wq_record.specs.Name.{name_cmp}
 use Rattle.wq_walk.specs.declared.piece.Piece.{Piece}
-use Rattle.wq_walk.specs.Part.{is_in}
+use Rattle.wq_disk.specs.Part.{is_in}
 
 -- the number of these pieces that have a name in their parts
 abbrev pub pieces_with : List ℕ → List Piece → ℕ

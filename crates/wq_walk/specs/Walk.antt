@@ -6,17 +6,10 @@ use Rattle.std.specs.Str.{IsUtf8, byte}
 use Rattle.wq_record.specs.Name.{is_valid_name}
 use Rattle.wq_record.specs.Seen.{SeenData, Stat}
 use Rattle.wq_record.specs.declared.kind.Kind.TheVariants.{Dir}
-use Rattle.wq_walk.specs.declared.part.Part.{Part}
-use Rattle.wq_walk.specs.Part.{MayHaveBelow, is_in, name_below}
-use Rattle.wq_walk.specs.Told.{GivesEntries, GivesStat, Has, HasEntries}
-
--- a directory of a walk: its path with a slash at its end; the names in it that the walk has not
--- looked at yet, the next one last; and the names of directories that it enters later, the next one
--- last
-pub record DirectoryData : Type 0 where
-  pub path : List ℕ
-  pub left : List (List ℕ)
-  pub waiting : List (List ℕ)
+use Rattle.wq_disk.specs.declared.part.Part.{Part}
+use Rattle.wq_disk.specs.Directory.{DirectoryData, IsDone, fresh}
+use Rattle.wq_disk.specs.Part.{MayHaveBelow, is_in, name_below}
+use Rattle.wq_disk.specs.Told.{GivesEntries, GivesStat, Has, HasEntries}
 
 -- the place of a walk: the directories above the one in which it is, the innermost last, that
 -- directory, and the rows so far
@@ -62,14 +55,6 @@ IsLooked says root_len part path rows enters =
     ⊎ ((stat : Stat) × says path (Some stat)
     × (rows ≡ rows_of_file part (name_of_path root_len path) stat)
     × IsEntered part (name_of_path root_len path) stat enters)
-
--- a directory of which the walk has looked at no name yet
-abbrev pub fresh : List ℕ → List (List ℕ) → DirectoryData
-fresh path names = record { path = path; left = names; waiting = [] }
-
--- a directory in which no step is left
-abbrev pub IsDone : DirectoryData → Type 0
-IsDone directory = (directory.left ≡ []) × (directory.waiting ≡ [])
 
 -- the rest of a directory after the walk looked at a name, which it enters later or not
 abbrev pub after_look : DirectoryData → List (List ℕ) → List ℕ → Bool → DirectoryData

@@ -12,7 +12,8 @@ ghost use Rattle.wq_view.specs.Position.{passes_at};
 ghost use Rattle.wq_crawl.specs.Recent.{is_one_of_names};
 ghost use Rattle.wq_record.specs.Seen.{is_lawful_row};
 ghost use Rattle.wq_record.specs.declared.kind.Kind.TheVariants.{Dir};
-ghost use Rattle.wq_walk.specs.Directory.{data_of, walk_of};
+ghost use Rattle.wq_disk.specs.Directory.{IsDone, data_of};
+ghost use Rattle.wq_walk.specs.State.{walk_of};
 ghost use Rattle.wq_walk.specs.Found.{found_rows};
 ghost use Rattle.wq_walk.specs.Accounts.{IsOneOf};
 ghost use Rattle.wq_walk.specs.Glance.{GlanceEnds, IsGlance, IsGlanceStep, IsGlancedAt};
@@ -20,17 +21,13 @@ ghost use Rattle.wq_walk.specs.Glance.{IsUnchanged, ListAll, ListsAt};
 ghost use Rattle.wq_walk.specs.Listed.{IsRooted, IsUnread};
 ghost use Rattle.wq_walk.specs.Part.{whole_part};
 ghost use Rattle.wq_walk.specs.Tiles.{piece_records};
-ghost use Rattle.wq_walk.specs.Told.{HasStat, IsFailure, IsRootFault};
-ghost use Rattle.wq_walk.specs.Walk.{IsDone, name_of_path, row_with_stat};
+ghost use Rattle.wq_disk.specs.Told.{HasStat, IsFailure, IsRootFault};
+ghost use Rattle.wq_walk.specs.Walk.{name_of_path, row_with_stat};
 
-use crate::directory::{Directory, Step};
-use crate::disk::Disk;
 use crate::listing::patched_listing;
-use crate::path::with_slash;
 use crate::piece::whole_piece;
 use crate::progress::Progress;
 use crate::rows::Rows;
-use crate::stat::Stat;
 use crate::sweep::{changed_directories, is_as};
 use crate::walk::Walk;
 use crate::walkers::Walkers;
@@ -39,6 +36,7 @@ use std::str;
 use std::thread::Threads;
 use std::time::CpuClock;
 use wq_crawl::{Listing, Reach, Recent, TreeFault};
+use wq_disk::{Directory, Disk, Stat, Step, with_slash};
 use wq_patch::existing_rows;
 use wq_view::{Kind, Record, View};
 
@@ -224,11 +222,11 @@ impl<'a> Glance<'a, '_> {
             self.now.unchanged.items }
         ensures unchanged { IfSome result (λ _. IsUnchanged self.now.last.now.records
             (found_rows self.now.walk.rows.found)
-            (name_of_path self.now.walk.path.root_len self.now.walk.path.bytes.items)) }
+            (name_of_path self.now.walk.path.root_len self.now.walk.path.bytes)) }
         ensures unasked { IfSome result (λ _. is_one_of_names self.now.recent.now
-            (name_of_path self.now.walk.path.root_len self.now.walk.path.bytes.items) ≡ false) }
+            (name_of_path self.now.walk.path.root_len self.now.walk.path.bytes) ≡ false) }
         ensures range { IfSome result (λ range. (i : ℕ) → passes_at (is_below
-            (name_of_path self.now.walk.path.root_len self.now.walk.path.bytes.items))
+            (name_of_path self.now.walk.path.root_len self.now.walk.path.bytes))
             self.now.last.now.records i ≡ (nat_le range.0 i && nat_lt i range.1)) }
     {
         let name = str::from_utf8(self.walk.path.name()).ok()?;
@@ -265,7 +263,7 @@ impl<'a> Glance<'a, '_> {
     /// Notes that the directory at the path, which has this stat and was listed, is as its record says, if it is.
     fn note_directory(&mut self, stat: &Stat) -> Result<(), AllocError>
         requires listed { IsOneOf (row_with_stat
-            (name_of_path self.old.walk.path.root_len self.old.walk.path.bytes.items) stat.now)
+            (name_of_path self.old.walk.path.root_len self.old.walk.path.bytes) stat.now)
             (found_rows self.old.walk.rows.found) }
         requires unchanged { ListAll self.old.last.now.records
             (found_rows self.old.walk.rows.found) self.old.unchanged.items }

@@ -1,14 +1,12 @@
 //! The names at which a tree that was not listed yet may be cut: names at its top.
 ghost use Rattle.std.specs.Prelude.{IfErr};
-ghost use Rattle.wq_walk.specs.Told.{IsRootFault};
+ghost use Rattle.wq_disk.specs.Told.{IsRootFault};
 
-use crate::disk::Disk;
-use crate::names::{Block, Names};
-use crate::path::TreePath;
 use crate::piece::MOST_PIECES;
 use crate::progress::Progress;
 use std::alloc::{AllocError, Global};
 use wq_crawl::TreeFault;
+use wq_disk::{Block, Disk, Names, TreePath};
 
 /// If the root has fewer names than this, some of the names below them are taken too.
 const FEW: usize = 256;
@@ -28,7 +26,7 @@ pub(crate) fn names_at_top<D: Disk>(
     ensures { IfErr result
         (IsRootFault (D.says disk.now) (D.has disk.now) (D.fails disk.now) root.now) }
 {
-    let mut block = Block::new(alloc, progress)?;
+    let mut block = Block::new(alloc, progress.way())?;
     let Some(top) = disk.names_in(&mut block, root)? else {
         return Err(TreeFault::Unreadable);
     };

@@ -3,7 +3,7 @@ ghost use Rattle.wq_walk.specs.Accounts.{NamesAreAccountedFor, RowsAreOfPaths};
 ghost use Rattle.wq_walk.specs.Glance.{GlanceNamesAreAccountedFor, GlanceRowsAreKnown};
 ghost use Rattle.wq_walk.specs.Once.{ListingsListOnce, WalksListOnce};
 
-use crate::disk::Disk;
+use wq_disk::Disk;
 
 /// Each row of a walk is of the path of its name: the disk gave that stat for the root's path and the name after it,
 /// and the name is in the part that was walked.

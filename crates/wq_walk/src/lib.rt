@@ -2,32 +2,21 @@
 //! names, if the tree does not change meanwhile. Another crate makes views of the rows.
 #![tactic(auto)]
 
-mod directory;
-mod disk;
 mod glance;
 mod guess;
 mod law;
 mod listing;
-mod names;
-mod new_names;
-mod part;
-mod path;
 mod piece;
 mod progress;
 mod rows;
-mod stat;
 mod sweep;
-mod unseen;
 mod walk;
 mod walker;
 mod walkers;
 mod walks;
 
-pub use disk::{Disk, FileDisk};
 pub use law::{
     glance_names_are_accounted_for, glance_rows_are_known, listings_list_once,
     names_are_accounted_for, rows_are_of_paths, walks_list_once,
 };
-pub use names::{Block, Names};
-pub use stat::Stat;
 pub use walker::Walker;

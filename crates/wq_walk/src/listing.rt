@@ -9,11 +9,9 @@ ghost use Rattle.wq_record.specs.Seen.{is_lawful_row};
 ghost use Rattle.wq_walk.specs.Listed.{AreWalks, IsListed, IsRooted, IsUnread, IsWalked, piece_parts};
 ghost use Rattle.wq_walk.specs.Listed.{records_of_pieces, rows_of_pieces, walked_pieces, walked_rows};
 ghost use Rattle.wq_walk.specs.Tiles.{AreTiles};
-ghost use Rattle.wq_walk.specs.Told.{HasStat, IsRootFault};
+ghost use Rattle.wq_disk.specs.Told.{HasStat, IsRootFault};
 
-use crate::disk::Disk;
 use crate::guess::names_at_top;
-use crate::path::with_slash;
 use crate::piece::{Piece, first_pieces, pieces_of};
 use crate::progress::Progress;
 use crate::rows::Rows;
@@ -23,6 +21,7 @@ use std::alloc::{AllocError, Global};
 use std::thread::Threads;
 use std::time::CpuClock;
 use wq_crawl::{Listing, TreeFault};
+use wq_disk::{Disk, with_slash};
 use wq_patch::{patched_rows, simplified};
 use wq_view::{MAX_LISTING_ROWS, Patch, Seen, View};
 

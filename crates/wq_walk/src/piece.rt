@@ -7,9 +7,9 @@ ghost use Rattle.wq_walk.specs.Part.{whole_part};
 ghost use Rattle.wq_walk.specs.Pieces.{IsSharedOut, IsSharedOutBelow, is_behind};
 ghost use Rattle.wq_walk.specs.Tiles.{AreTiles, cut_records, piece_records};
 
-use crate::part::Part;
 use crate::walkers::Walkers;
 use std::alloc::{AllocError, Global};
+use wq_disk::Part;
 use wq_view::{Records, View};
 
 /// The greatest number of pieces. With more pieces threads end closer together, and more directories are read twice.

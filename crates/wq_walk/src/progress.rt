@@ -7,16 +7,8 @@ use std::io;
 use std::sync::atomic::{AtomicU64, AtomicUsize, Ordering};
 use std::time::Duration;
 use wq_crawl::{LeftOut, TreeFault};
+use wq_disk::Way;
 use wq_view::MAX_LISTING_ROWS;
-
-/// Whether a walk goes on to its end.
-#[derive(Clone, Copy)]
-pub(crate) enum Way<'a> {
-    /// It goes on.
-    Keeps,
-    /// Nobody waits for it, so it ends as soon as this count of callers that wait is not 0.
-    Gives(&'a AtomicU64),
-}
 
 /// The progress of the threads that walk one tree.
 #[derive(Drop)]
@@ -87,14 +79,16 @@ impl<'a> Progress<'a> {
         self.directories.fetch_add(1, Ordering::SeqCst);
     }
 
+    /// Whether the walk goes on to its end.
+    pub(crate) fn way(&self) -> Way<'a> {
+        self.way
+    }
+
     /// Fails if the walk gives way now.
     pub(crate) fn keep_on(&self) -> Result<(), TreeFault>
         ensures { IfErr result (λ fault. fault ≡ GaveWay) }
     {
-        match self.way {
-            Way::Gives(waiting) if waiting.load(Ordering::SeqCst) > 0 => Err(TreeFault::GaveWay),
-            _ => Ok(()),
-        }
+        self.way.keep_on()
     }
 
     /// The place of the next piece. There may be no such piece.

@@ -9,15 +9,15 @@ ghost use Rattle.wq_view.specs.Limit.{max_listing_rows};
 ghost use Rattle.wq_patch.specs.PatchMaker.{IsJoinedTo};
 ghost use Rattle.wq_record.specs.Seen.{is_lawful_row};
 ghost use Rattle.wq_walk.specs.Found.{IsFoundOf, found_rows};
-ghost use Rattle.wq_walk.specs.Part.{IsListing, is_in, is_row_in, whole_part};
+ghost use Rattle.wq_disk.specs.Part.{is_in};
+ghost use Rattle.wq_walk.specs.Part.{IsListing, is_row_in, whole_part};
 ghost use Rattle.wq_walk.specs.Tiles.{piece_records};
 ghost use Rattle.wq_walk.specs.Walk.{row_with_stat};
 
-use crate::part::Part;
 use crate::piece::Piece;
-use crate::stat::Stat;
 use std::alloc::{AllocError, Global};
 use wq_crawl::TreeFault;
+use wq_disk::{Part, Stat};
 use wq_patch::Again;
 use wq_view::{MAX_LISTING_ROWS, Patch, Seen, SharedBytes};
 

@@ -4,20 +4,18 @@
 ghost use Rattle.std.specs.Prelude.{◌≡◌, ◌≤◌, IfErr, IsTrue};
 ghost use Rattle.std.specs.Thread.{IsSync};
 ghost use Rattle.wq_view.specs.SeenRows.{seen_row};
-ghost use Rattle.wq_walk.specs.Told.{IsFailure};
+ghost use Rattle.wq_disk.specs.Told.{IsFailure};
 ghost use Rattle.wq_walk.specs.Walk.{row_with_stat};
 
-use crate::disk::Disk;
 use crate::glance::is_directory;
-use crate::path::TreePath;
 use crate::progress::Progress;
-use crate::stat::Stat;
 use crate::walk::stat_at;
 use crate::walkers::Walkers;
 use std::alloc::{AllocError, Global};
 use std::thread::{Threads, join};
 use std::time::CpuClock;
 use wq_crawl::TreeFault;
+use wq_disk::{Disk, Stat, TreePath};
 use wq_view::{MAX_NAME, Record, View};
 
 /// The least number of records for which a thread looks.

@@ -5,24 +5,22 @@ ghost use Rattle.std.specs.Str.{IsUtf8, byte};
 ghost use Rattle.wq_crawl.specs.Tree.{is_of_device};
 ghost use Rattle.wq_record.specs.Name.{is_valid_name};
 ghost use Rattle.wq_record.specs.Seen.{SeenData, is_lawful_row};
-ghost use Rattle.wq_walk.specs.Directory.{data_of, entry_at, names_left, walk_of};
+ghost use Rattle.wq_disk.specs.Directory.{IsDone, data_of, entry_at, fresh, text_of_entries};
+ghost use Rattle.wq_disk.specs.HeldNames.{names_left};
+ghost use Rattle.wq_walk.specs.State.{walk_of};
 ghost use Rattle.wq_walk.specs.Found.{found_rows};
-ghost use Rattle.wq_walk.specs.Part.{is_in};
-ghost use Rattle.wq_walk.specs.Told.{GivesEntries, HasEntries, IsFailure, IsRootFault};
-ghost use Rattle.wq_walk.specs.Walk.{IsDone, IsLooked, IsStep, IsWalk, WalkEnds};
-ghost use Rattle.wq_walk.specs.Walk.{after_look, fresh, name_of_path, row_with_stat, rows_of_file};
+ghost use Rattle.wq_disk.specs.Part.{is_in};
+ghost use Rattle.wq_disk.specs.Told.{GivesEntries, HasEntries, IsFailure, IsRootFault};
+ghost use Rattle.wq_walk.specs.Walk.{IsLooked, IsStep, IsWalk, WalkEnds};
+ghost use Rattle.wq_walk.specs.Walk.{after_look, name_of_path, row_with_stat, rows_of_file};
 
-use crate::directory::{Directory, Step};
-use crate::disk::Disk;
-use crate::names::{Block, Names, Place};
-use crate::path::TreePath;
 use crate::piece::Piece;
 use crate::progress::Progress;
 use crate::rows::Rows;
-use crate::stat::Stat;
 use std::alloc::{AllocError, Global};
 use std::mem;
 use wq_crawl::TreeFault;
+use wq_disk::{Block, Directory, Disk, Names, Place, Stat, Step, TreePath};
 use wq_view::{Seen, SharedBytes, is_valid_name};
 
 /// A walk that has not ended yet. A glance is a walk that need not enter each directory.
@@ -71,7 +69,7 @@ pub(crate) fn rows_in<'a, D: Disk>(
 }
 
 /// The directory of a root, before the walk looks at any of its names.
-#[tactic(auto, using(crate::proofs::Entries::gives_entries))]
+#[tactic(auto, using(wq_disk::proofs::Entries::gives_entries))]
 fn top<D: Disk>(
     disk: &D,
     alloc: Global,
@@ -109,7 +107,7 @@ impl<'a, 'p> Walk<'a, 'p> {
         ensures fault { IfErr result
             (IsRootFault (D.says disk.now) (D.has disk.now) (D.fails disk.now) root.now) }
     {
-        let mut block = Block::new(alloc, progress)?;
+        let mut block = Block::new(alloc, progress.way())?;
         let top = top(disk, alloc, &mut block, root)?;
         let walk = Walk {
             alloc,
@@ -189,7 +187,7 @@ impl<'a, 'p> Walk<'a, 'p> {
         ensures entered { IfOk result (λ entered. IfSome entered (λ stat.
             found_rows self.new.rows.found ≡ found_rows self.old.rows.found
             ++ rows_of_file self.old.rows.piece.part
-            (name_of_path self.new.path.root_len self.new.path.bytes.items) stat)) }
+            (name_of_path self.new.path.root_len self.new.path.bytes) stat)) }
         ensures fault { IfErr result (IsFailure (D.fails disk.now)) }
     {
         self.path.set(here.path(), here.name(name))?;
@@ -206,17 +204,16 @@ impl<'a, 'p> Walk<'a, 'p> {
         ensures piece { self.new.rows.piece ≡ self.old.rows.piece }
         ensures path { self.new.path ≡ self.old.path }
         ensures above { self.new.above ≡ self.old.above }
-        ensures directory { here.new.path ≡ here.old.path }
-        ensures names { here.new.names ≡ here.old.names }
-        ensures waiting { here.new.waiting ≡ here.old.waiting }
+        ensures directory { data_of here.new ≡ data_of here.old }
+        ensures text { text_of_entries here.new ≡ text_of_entries here.old }
         ensures looked { IfOk result (λ entered. (rows : List SeenData)
             × IsLooked (D.says disk.now) self.old.path.root_len self.old.rows.piece.part
-            self.old.path.bytes.items rows (is_some entered)
+            self.old.path.bytes rows (is_some entered)
             × (found_rows self.new.rows.found ≡ found_rows self.old.rows.found ++ rows)) }
         ensures entered { IfOk result (λ entered. IfSome entered (λ stat.
             found_rows self.new.rows.found ≡ found_rows self.old.rows.found
             ++ rows_of_file self.old.rows.piece.part
-            (name_of_path self.old.path.root_len self.old.path.bytes.items) stat)) }
+            (name_of_path self.old.path.root_len self.old.path.bytes) stat)) }
         ensures fault { IfErr result (IsFailure (D.fails disk.now)) }
     {
         let reaches = self.rows.part().reaches(self.path.name());
@@ -271,14 +268,13 @@ impl<'a, 'p> Walk<'a, 'p> {
         ensures piece { self.new.rows.piece ≡ self.old.rows.piece }
         ensures path { self.new.path ≡ self.old.path }
         ensures above { self.new.above ≡ self.old.above }
-        ensures directory { here.new.path ≡ here.old.path }
-        ensures names { here.new.names ≡ here.old.names }
-        ensures waiting { here.new.waiting ≡ here.old.waiting }
+        ensures directory { data_of here.new ≡ data_of here.old }
+        ensures text { text_of_entries here.new ≡ text_of_entries here.old }
         ensures row { IfOk result (λ taken. IsTrue taken → found_rows self.new.rows.found
             ≡ found_rows self.old.rows.found ++ rows_of_file self.old.rows.piece.part
-            (name_of_path self.old.path.root_len self.old.path.bytes.items) stat.now) }
+            (name_of_path self.old.path.root_len self.old.path.bytes) stat.now) }
         ensures none { IfOk result (λ taken. taken ≡ false
-            → (is_valid_name (name_of_path self.old.path.root_len self.old.path.bytes.items)
+            → (is_valid_name (name_of_path self.old.path.root_len self.old.path.bytes)
             ≡ false)
             × (found_rows self.new.rows.found ≡ found_rows self.old.rows.found)) }
         ensures fault { IfErr result (λ fault. is_of_device fault ≡ false) }
@@ -296,18 +292,17 @@ impl<'a, 'p> Walk<'a, 'p> {
     /// does.
     fn add_new(&mut self, here: &mut Directory, stat: &Stat) -> Result<bool, TreeFault>
         requires { IsTrue (is_in self.old.rows.piece.part
-            (name_of_path self.old.path.root_len self.old.path.bytes.items)) }
+            (name_of_path self.old.path.root_len self.old.path.bytes)) }
         ensures piece { self.new.rows.piece ≡ self.old.rows.piece }
         ensures path { self.new.path ≡ self.old.path }
         ensures above { self.new.above ≡ self.old.above }
-        ensures directory { here.new.path ≡ here.old.path }
-        ensures names { here.new.names ≡ here.old.names }
-        ensures waiting { here.new.waiting ≡ here.old.waiting }
+        ensures directory { data_of here.new ≡ data_of here.old }
+        ensures text { text_of_entries here.new ≡ text_of_entries here.old }
         ensures row { IfOk result (λ taken. IsTrue taken → found_rows self.new.rows.found
             ≡ found_rows self.old.rows.found ++ (row_with_stat
-            (name_of_path self.old.path.root_len self.old.path.bytes.items) stat.now ∷ [])) }
+            (name_of_path self.old.path.root_len self.old.path.bytes) stat.now ∷ [])) }
         ensures none { IfOk result (λ taken. taken ≡ false
-            → (is_valid_name (name_of_path self.old.path.root_len self.old.path.bytes.items)
+            → (is_valid_name (name_of_path self.old.path.root_len self.old.path.bytes)
             ≡ false)
             × (found_rows self.new.rows.found ≡ found_rows self.old.rows.found)) }
         ensures fault { IfErr result (λ fault. is_of_device fault ≡ false) }
@@ -356,12 +351,11 @@ fn shared_name(
     path: &TreePath,
     here: &mut Directory,
 ) -> Result<Option<SharedBytes>, AllocError>
-    ensures path { here.new.path ≡ here.old.path }
-    ensures names { here.new.names ≡ here.old.names }
-    ensures waiting { here.new.waiting ≡ here.old.waiting }
+    ensures directory { data_of here.new ≡ data_of here.old }
+    ensures text { text_of_entries here.new ≡ text_of_entries here.old }
     ensures name { IfOk result (λ name. MatchOption name
-        (is_valid_name (name_of_path path.now.root_len path.now.bytes.items) ≡ false)
-        (λ bytes. (bytes ≡ name_of_path path.now.root_len path.now.bytes.items)
+        (is_valid_name (name_of_path path.now.root_len path.now.bytes) ≡ false)
+        (λ bytes. (bytes ≡ name_of_path path.now.root_len path.now.bytes)
         × IsTrue (is_valid_name bytes))) }
 {
     if let Some(known) = rows.shared(path.name())? {
@@ -376,8 +370,8 @@ fn shared_name(
 /// The stat of the file of a path, if the disk can look at it.
 pub(crate) fn stat_at<D: Disk>(disk: &D, path: &TreePath) -> Result<Option<Stat>, TreeFault>
     ensures told { IfOk result (λ told. MatchOption told
-        ((IsUtf8 path.now.bytes.items → ⊥) ⊎ D.says disk.now path.now.bytes.items None)
-        (λ stat. D.says disk.now path.now.bytes.items (Some stat))) }
+        ((IsUtf8 path.now.bytes → ⊥) ⊎ D.says disk.now path.now.bytes None)
+        (λ stat. D.says disk.now path.now.bytes (Some stat))) }
     ensures fault { IfErr result (IsFailure (D.fails disk.now)) }
 {
     match path.text() {
@@ -388,7 +382,7 @@ pub(crate) fn stat_at<D: Disk>(disk: &D, path: &TreePath) -> Result<Option<Stat>
 
 /// The names in the directory of a path, or none if it cannot be read. That is counted here, if the
 /// directory counts.
-#[tactic(auto, using(crate::proofs::Entries::gives_entries))]
+#[tactic(auto, using(wq_disk::proofs::Entries::gives_entries))]
 fn names_at<D: Disk>(
     disk: &D,
     alloc: Global,
@@ -397,7 +391,7 @@ fn names_at<D: Disk>(
     counted: Option<&Progress<'_>>,
 ) -> Result<Names, TreeFault>
     ensures read { IfOk result (λ names.
-        HasEntries (D.has disk.now) path.now.bytes.items (names_left names)) }
+        HasEntries (D.has disk.now) path.now.bytes (names_left names)) }
     ensures fault { IfErr result (IsFailure (D.fails disk.now)) }
 {
     let Some(text) = path.text() else {

@@ -8,12 +8,9 @@ ghost use Rattle.wq_walk.specs.Glance.{IsGlancedAt};
 ghost use Rattle.wq_walk.specs.Listed.{IsListed, IsRooted, IsUnread};
 ghost use Rattle.wq_walk.specs.System.{IsGlancedHere, IsListedHere, IsUnreadHere};
 
-use crate::disk::{Disk, FileDisk};
 use crate::glance::glanced;
 use crate::listing::{first_rows, rows_again};
-use crate::names::Block;
-use crate::path::with_slash;
-use crate::progress::{Progress, Way};
+use crate::progress::Progress;
 use crate::walkers::{SlowRoots, Walkers};
 use std::alloc::Global;
 use std::io;
@@ -23,6 +20,7 @@ use std::thread::Threads;
 use std::time::{Clock, CpuClock, Instant};
 use wq_base::Workers;
 use wq_crawl::{LeftOut, Listing, Recent, Tree, TreeFault};
+use wq_disk::{Block, Disk, FileDisk, Way, with_slash};
 use wq_view::{Seen, View};
 
 /// Walks the trees of a disk, and counts how often a root could not be read or no file handle was
@@ -121,9 +119,8 @@ impl<T: Threads + Clock + Drop, D: Disk + Drop> Walker<T, D> {
         ensures disk { self.new.disk ≡ self.old.disk }
         ensures failures { self.new.failures ≡ self.old.failures }
     {
-        let progress = Progress::new(Way::Keeps);
         let path = with_slash(self.alloc, root);
-        let (Ok(path), Ok(mut block)) = (path, Block::new(self.alloc, &progress)) else {
+        let (Ok(path), Ok(mut block)) = (path, Block::new(self.alloc, Way::Keeps)) else {
             return;
         };
         let Ok(began) = Instant::now(&self.threads) else {

@@ -3,9 +3,8 @@ ghost use Rattle.std.specs.Prelude.{◌≡◌, ◌<◌, ◌≤◌, IfErr, IfOk, 
 ghost use Rattle.std.specs.Thread.{IsSync};
 ghost use Rattle.wq_walk.specs.declared.walks.Walked.{Walked};
 ghost use Rattle.wq_walk.specs.Listed.{AreOfPieces, AreWalks, IsDrawn, IsWalkOfPiece, walked_pieces};
-ghost use Rattle.wq_walk.specs.Told.{IsRootFault};
+ghost use Rattle.wq_disk.specs.Told.{IsRootFault};
 
-use crate::disk::Disk;
 use crate::piece::Piece;
 use crate::progress::Progress;
 use crate::rows::Rows;
@@ -15,6 +14,7 @@ use std::alloc::{AllocError, Global};
 use std::thread::{Threads, join};
 use std::time::CpuClock;
 use wq_crawl::TreeFault;
+use wq_disk::Disk;
 
 /// Pieces of a tree that threads walk.
 #[derive(Clone, Copy)]

@@ -8,7 +8,8 @@ use std::time::{Clock, CpuClock};
 use wq_base::Workers;
 use wq_crawl::{LaneParts, MachineClock, SharedSeconds};
 use wq_daemon::MORE_LANES;
-use wq_walk::{FileDisk, Walker};
+use wq_disk::FileDisk;
+use wq_walk::Walker;
 
 /// A lane over the disk of this machine. All lanes share its clock.
 type DiskLane<R> = LaneParts<Walker<R, FileDisk>, SharedSeconds<R, MachineClock<R>>>;

@@ -3,7 +3,7 @@ use Rattle.std.proofs.Common.{◌≡◌, rules, string_bytes, subst, sym}
 use Rattle.wq_crawl.specs.Tree.{rows_listed}
 use Rattle.wq_walk.specs.Found.{found_rows}
 use Rattle.wq_walk.specs.Listed.{IsPathOf}
-use Rattle.wq_walk.specs.Told.{HasStat}
+use Rattle.wq_disk.specs.Told.{HasStat}
 use Rattle.wq_walk.proofs.Glancing.{glanced_at}
 use Rattle.wq_walk.proofs.Walked.{anyway, rooted}
 use Rattle.wq_walk.proofs.glance.glanced.Goals as goal

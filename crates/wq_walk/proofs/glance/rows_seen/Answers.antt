@@ -1,6 +1,6 @@
 -- the glance ended, and the records that were left changed no row
 use Rattle.std.proofs.Common.{ap, map}
-use Rattle.wq_walk.specs.Directory.{data_of}
+use Rattle.wq_disk.specs.Directory.{data_of}
 use Rattle.wq_walk.specs.Found.{found_rows}
 use Rattle.wq_walk.proofs.GlanceSeen.{glance_of}
 use Rattle.wq_walk.proofs.glance.rows_seen.Goals as goal

@@ -4,7 +4,7 @@ use Rattle.wq_crawl.specs.Tree.{rows_listed}
 use Rattle.wq_walk.specs.Listed.{IsPathOf}
 use Rattle.wq_walk.specs.Pieces.{IsSharedOut}
 use Rattle.wq_walk.specs.Tiles.{AreTiles}
-use Rattle.wq_walk.specs.Told.{HasStat}
+use Rattle.wq_disk.specs.Told.{HasStat}
 use Rattle.wq_walk.proofs.Walked.{anyway, listed, rooted, walked_all}
 use Rattle.wq_walk.proofs.listing.rows_again.Goals as goal
 

@@ -1,5 +1,5 @@
 -- the rows of pieces that were each walked once
-use Rattle.wq_walk.specs.Told.{HasStat}
+use Rattle.wq_disk.specs.Told.{HasStat}
 use Rattle.wq_walk.proofs.Walked.{anyway, walked_all}
 use Rattle.wq_walk.proofs.listing.rows_of.Goals as goal
 

@@ -11,7 +11,7 @@ returns-in_ok-push-clause-unchanged c =
     let at = c.args.self.now in
     let records = at.last.now.records in
     let rows = found_rows at.walk.rows.found in
-    let name : c.in-Ok.name.now ≡ name_of_path at.walk.path.root_len at.walk.path.bytes.items = search rules in
+    let name : c.in-Ok.name.now ≡ name_of_path at.walk.path.root_len at.walk.path.bytes = search rules in
     let known = c.get.result.now in
     subst (ListAll records rows) (sym c.in_ok-push.ensures.items)
     (noted records rows at.unchanged.items c.in-Some.at known _ c.args.stat.now c.requires.unchanged c.get.ensures

@@ -10,7 +10,7 @@ pub returns-clause-unchanged : goal.returns-clause-unchanged
 returns-clause-unchanged c =
     let at = c.args.self.now in
     let records = at.last.now.records in
-    let name : c.in_ok-name.name.now ≡ name_of_path at.walk.path.root_len at.walk.path.bytes.items = search rules in
+    let name : c.in_ok-name.name.now ≡ name_of_path at.walk.path.root_len at.walk.path.bytes = search rules in
     let noted : IsTrue c.is_unchanged.result = search rules in
     let is : IsTrue c.is_directory.result = search rules in
     unchanged records (found_rows at.walk.rows.found) _ c.in_ok-at.at c.get.result.now

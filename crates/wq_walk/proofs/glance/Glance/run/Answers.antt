@@ -1,7 +1,8 @@
 -- a glance that begins, has a next step, and has none
 use Rattle.std.proofs.Common.{◌∙◌, ap, map, refl, subst, sym}
 use Rattle.wq_view.specs.View.{ViewData}
-use Rattle.wq_walk.specs.Directory.{data_of, walk_of}
+use Rattle.wq_disk.specs.Directory.{data_of}
+use Rattle.wq_walk.specs.State.{walk_of}
 use Rattle.wq_walk.specs.Found.{found_rows}
 use Rattle.wq_walk.specs.Glance.{ListAll}
 use Rattle.wq_walk.proofs.Glancing.{begins, ended, further}

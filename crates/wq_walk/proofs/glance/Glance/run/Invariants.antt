@@ -1,7 +1,7 @@
 -- the last view and the recent directories stay the same, what is noted was listed, and so many steps
 -- led here
 use Rattle.std.proofs.Common.{◌≡◌, ℕ}
-use Rattle.wq_walk.specs.Directory.{walk_of}
+use Rattle.wq_walk.specs.State.{walk_of}
 use Rattle.wq_walk.specs.Found.{found_rows}
 use Rattle.wq_walk.specs.Glance.{AreGlanceSteps, ListAll}
 use Rattle.wq_walk.proofs.glance.Glance.run.Given as goal

@@ -4,7 +4,8 @@ use Rattle.std.proofs.lemmas.List.{map-append}
 use Rattle.wq_record.specs.Seen.{Stat}
 use Rattle.wq_walk.specs.declared.rows.Rows.{Rows}
 use Rattle.wq_walk.specs.declared.walk.Walk.{Walk}
-use Rattle.wq_walk.specs.Directory.{data_of, entry_at, walk_of}
+use Rattle.wq_disk.specs.Directory.{data_of, entry_at}
+use Rattle.wq_walk.specs.State.{walk_of}
 use Rattle.wq_walk.specs.Found.{found_rows}
 use Rattle.wq_walk.specs.Glance.{IsGlanceStep, ListAll}
 use Rattle.wq_walk.specs.Walk.{name_of_path, rows_of_file}
@@ -15,7 +16,7 @@ use Rattle.wq_walk.proofs.glance.Glance.take.Goals as goal
 pub note_directory-requires-clause-listed : goal.note_directory-requires-clause-listed
 note_directory-requires-clause-listed g c =
     let at = c.args.self.now in
-    let name = name_of_path c.look.new.self.path.root_len c.look.new.self.path.bytes.items in
+    let name = name_of_path c.look.new.self.path.root_len c.look.new.self.path.bytes in
     let old = found_rows at.walk.rows.found in
     let new = found_rows c.look.new.self.rows.found in
     listed_last at.walk.rows.piece.part name c.in-Some.stat old new at.part
@@ -83,9 +84,9 @@ returns-in_ok-keep-in-Some-range_kept-clause-goes g c goes =
     let has = g.D.Disk.has c.args.disk.now in
     let at = c.args.self.now in
     let name = entry_at c.step.new.self c.in-Enter.name in
-    let path = path_of c.set.new.self.bytes.items c.path.result.now (data_of c.step.new.self).path c.name.result.now name c.in_ok-set-in-Enter.ensures.path c.path.ensures c.name.ensures in
+    let path = path_of c.set.new.self.bytes c.path.result.now (data_of c.step.new.self).path c.name.result.now name c.in_ok-set-in-Enter.ensures.path c.path.ensures c.name.ensures in
     keeps says has at.last.now.records at.recent.now at.walk.path.root_len c.set.new.self.root_len (map data_of at.walk.above.items) (map data_of c.keep.new.self.walk.above.items)
-    (data_of c.args.here.now) (data_of c.step.new.self) name c.set.new.self.bytes.items c.in-Some-range_kept.start c.in-Some-range_kept.end (found_rows at.walk.rows.found) (found_rows c.keep.new.self.walk.rows.found)
+    (data_of c.args.here.now) (data_of c.step.new.self) name c.set.new.self.bytes c.in-Some-range_kept.start c.in-Some-range_kept.end (found_rows at.walk.rows.found) (found_rows c.keep.new.self.walk.rows.found)
     c.in-Enter.ensures (ap (λ above. map data_of above.items) c.in_ok-keep-in-Some-range_kept.ensures.above) c.in_ok-set-in-Enter.ensures.root path
     c.in-Some-range_kept.ensures.unchanged c.in-Some-range_kept.ensures.unasked c.in-Some-range_kept.ensures.range c.in_ok-keep-in-Some-range_kept.ensures.rows
 

@@ -1,6 +1,7 @@
 -- a walk that begins, has a next step, and has none
 use Rattle.std.proofs.Common.{◌∙◌, ap, map, refl}
-use Rattle.wq_walk.specs.Directory.{data_of, walk_of}
+use Rattle.wq_disk.specs.Directory.{data_of}
+use Rattle.wq_walk.specs.State.{walk_of}
 use Rattle.wq_walk.specs.declared.piece.Piece.{Piece}
 use Rattle.wq_walk.specs.Found.{found_rows}
 use Rattle.wq_walk.proofs.Walking.{begins, ended, further}

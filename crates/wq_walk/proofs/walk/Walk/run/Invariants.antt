@@ -1,6 +1,6 @@
 -- the piece that is listed stays the same, and so many steps led here
 use Rattle.std.proofs.Common.{◌≡◌, ℕ}
-use Rattle.wq_walk.specs.Directory.{walk_of}
+use Rattle.wq_walk.specs.State.{walk_of}
 use Rattle.wq_walk.specs.Walk.{AreSteps}
 use Rattle.wq_walk.proofs.walk.Walk.run.Given as goal
 

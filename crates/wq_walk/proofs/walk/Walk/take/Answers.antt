@@ -1,7 +1,7 @@
 -- the walk looks at a name, or enters a directory
 use Rattle.std.proofs.Common.{inl, inr, ap, ◌∙◌, ◌∷◌, [], map}
 use Rattle.std.proofs.lemmas.List.{map-append}
-use Rattle.wq_walk.specs.Directory.{data_of, entry_at}
+use Rattle.wq_disk.specs.Directory.{data_of, entry_at}
 use Rattle.wq_walk.specs.Found.{found_rows}
 use Rattle.wq_walk.proofs.Walking.{enters, looks}
 use Rattle.wq_walk.proofs.walk.Walk.take.Goals as goal

@@ -1,0 +1,5 @@
+mod Below
+pub mod Entries
+mod Distinct
+mod EachOnce
+mod Cuts

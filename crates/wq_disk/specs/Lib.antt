@@ -1,0 +1,10 @@
+pub mod Stat
+pub mod Part
+pub mod Path
+pub mod Unseen
+pub mod Told
+pub mod Entries
+pub mod Names
+pub mod HeldNames
+pub mod Directory
+pub mod System
