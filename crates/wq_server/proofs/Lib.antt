@@ -1,4 +1,3 @@
 mod Cycles
 mod Levels
 mod Shares
-mod Due

@@ -1,19 +1,16 @@
 //! The two threads of one client: one reads its stream, and one runs its session.
 
 use crate::host::Host;
-use crate::link::Link;
-use crate::link_inbox::LinkInbox;
 use crate::recipient::{Recipient, ReplyWriter};
 use crate::refusal::refuse;
 use crate::server::Server;
-use crate::stream_reader::read_all;
-use crate::turnstile::Ticket;
 use std::alloc::Global;
 use std::os::unix::net::UnixStream;
 use std::sync::{Arc, Wait};
 use std::thread::{self, JoinHandle, Threads};
 use std::time::Clock;
 use wq_ask::Refusal;
+use wq_inbox::{Link, LinkInbox, Ticket, read_all};
 
 /// Runs a client's session to its end, with a thread that reads its stream. If the session asked
 /// for it, the server ends. The handle of the client's stream is given back when the session has
@@ -63,7 +60,7 @@ where
 {
     let (theirs, stream) = (link.clone().ok()?, stream.clone().ok()?);
     thread::spawn(&rt, move || {
-        read_all(&rt, alloc, &mut &*stream, &theirs.queue)
+        read_all(&rt, alloc, &mut &*stream, &theirs)
     })
     .ok()
 }

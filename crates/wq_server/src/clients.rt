@@ -2,7 +2,6 @@
 
 use crate::client::run_client;
 use crate::host::Host;
-use crate::link::Link;
 use crate::patience::Patience;
 use crate::refusal::refuse;
 use crate::server::Server;
@@ -13,6 +12,7 @@ use std::sync::{Arc, Wait};
 use std::thread::{self, JoinHandle, Threads};
 use std::time::{Clock, Duration};
 use wq_ask::Refusal;
+use wq_inbox::Link;
 
 /// How many clients may be connected at once.
 pub const MAX_SESSIONS: usize = 32;

@@ -1,5 +1,5 @@
-//! The threads of a running server and what they share: the socket, clients and their queues, the pace of crawls, and
-//! how all of it ends. A [`Host`] does their work: it runs sessions, crawls roots and has rounds of triggers.
+//! The threads of a running server and what they share: the socket, the links to clients, the pace of crawls, and how
+//! all of it ends. A [`Host`] does their work: it runs sessions, crawls roots and has rounds of triggers.
 #![tactic(auto)]
 
 mod attendance;
@@ -9,29 +9,23 @@ mod crawls;
 mod hand;
 mod hands;
 mod host;
-mod intake;
 mod latch;
 mod law;
 mod lines;
-mod link;
-mod link_inbox;
 mod links;
 mod moments;
 mod pace;
 mod patience;
 mod pulse;
-mod queue;
 mod recipient;
 mod refusal;
 mod server;
 mod service;
 mod socket;
 mod stop;
-mod stream_reader;
 mod task;
 mod times;
 mod told_tree;
-mod turnstile;
 mod walks;
 
 pub use clients::MAX_SESSIONS;

@@ -1,10 +1,10 @@
 //! The links to all clients, for the threads that wait for one, and for the thread that brings their idle moments.
 
 use crate::clients::MAX_SESSIONS;
-use crate::link::Link;
 use crate::stop::Stop;
 use std::alloc::{AllocError, Global};
 use std::sync::{Arc, Condvar, Mutex, Wait};
+use wq_inbox::Link;
 
 /// The links, and how many there ever were.
 #[derive(Drop)]
@@ -94,7 +94,7 @@ impl Links {
     pub(crate) fn put_moments<R: Wait>(&self, rt: &R, numbers: &[u64]) -> bool {
         let mut is_all = true;
         for link in &self.held.lock(rt).links {
-            is_all &= link.queue.put_moments(rt, numbers);
+            is_all &= link.put_moments(rt, numbers);
         }
         is_all
     }

@@ -1,12 +1,12 @@
 //! The client that gets the replies of a session.
 
-use crate::turnstile::Ticket;
 use std::io::{self, ErrorKind, Write};
 use std::os::unix::net::UnixStream;
 use std::sync::Wait;
 use std::time::Clock;
 use wq_base::Asker;
 use wq_crawl::Caller;
+use wq_inbox::Ticket;
 
 /// A client as the recipient of replies. It has gone when nothing can be written to it any more: it reads no more, or its
 /// session was told to end. A client that only sends no more still reads.

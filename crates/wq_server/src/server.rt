@@ -6,8 +6,8 @@ use crate::links::Links;
 use crate::pace::Pace;
 use crate::pulse::Pulse;
 use crate::stop::Stop;
-use crate::turnstile::Turnstile;
 use std::sync::Wait;
+use wq_inbox::Turnstile;
 
 /// A running server.
 #[derive(Drop)]

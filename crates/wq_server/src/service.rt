@@ -13,12 +13,12 @@ use crate::pulse::Pulse;
 use crate::server::Server;
 use crate::socket::Listening;
 use crate::stop::Stop;
-use crate::turnstile::Turnstile;
 use std::alloc::Global;
 use std::io;
 use std::sync::{Arc, Wait};
 use std::thread::{self, JoinHandle, Threads};
 use std::time::{Clock, CpuClock, Duration};
+use wq_inbox::Turnstile;
 use wq_launch::Notices;
 
 /// How many milliseconds the server waits after a connection that it could not accept.

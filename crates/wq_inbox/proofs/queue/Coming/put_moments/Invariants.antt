@@ -1,7 +1,7 @@
 -- the moments that were due stay, and those of the numbers so far are due
 use Rattle.std.proofs.Common.{◌≡◌, ◌++◌, ℕ, List, All, take}
 use Rattle.std.specs.List.{Contains}
-use Rattle.wq_server.proofs.queue.Coming.put_moments.Given as goal
+use Rattle.wq_inbox.proofs.queue.Coming.put_moments.Given as goal
 
 abbrev pub invariant-loop-number : goal.invariant-loop-number
 invariant-loop-number l =

@@ -10,7 +10,7 @@ use std::time::{Clock, Duration};
 
 /// A client's stream, the events that came from it, and whether its session is over.
 #[derive(Drop)]
-pub(crate) struct Link {
+pub struct Link {
     pub(crate) queue: Queue,
     /// The stream, until the session is over. The last share of it gives its handle back.
     stream: Mutex<Option<Arc<UnixStream>>>,
@@ -21,7 +21,7 @@ pub(crate) struct Link {
 
 impl Link {
     /// The link to a client from which nothing has come.
-    pub(crate) fn new(alloc: Global, stream: Arc<UnixStream>) -> Result<Link, AllocError> {
+    pub fn new(alloc: Global, stream: Arc<UnixStream>) -> Result<Link, AllocError> {
         Ok(Link {
             queue: Queue::new(alloc)?,
             stream: Mutex::new(Some(stream)),
@@ -32,7 +32,7 @@ impl Link {
 
     /// Ends the session, and the reads and writes for it. Bytes that were written before still
     /// reach the client.
-    pub(crate) fn end<R: Wait>(&self, rt: &R) {
+    pub fn end<R: Wait>(&self, rt: &R) {
         self.queue.close(rt);
         if let Some(stream) = &*self.stream.lock(rt) {
             // A client that has gone already leaves a stream that cannot be shut down.
@@ -40,15 +40,21 @@ impl Link {
         }
     }
 
+    /// Makes an idle moment of each of these roots due, and says whether memory sufficed. It waits
+    /// for no session. A root of which one is due already has no second one.
+    pub fn put_moments<R: Wait>(&self, rt: &R, numbers: &[u64]) -> bool {
+        self.queue.put_moments(rt, numbers)
+    }
+
     /// Lets go of the stream, and says that the session's thread does nothing more.
-    pub(crate) fn set_over<R: Wait>(&self, rt: &R) {
+    pub fn set_over<R: Wait>(&self, rt: &R) {
         *self.stream.lock(rt) = None;
         self.is_over.store(true, Ordering::SeqCst);
         self.over.notify_all();
     }
 
     /// Waits so long, but no longer than until the session is over. Says whether it is.
-    pub(crate) fn wait_over<R: Wait + Clock>(&self, rt: &R, time: Duration) -> bool {
+    pub fn wait_over<R: Wait + Clock>(&self, rt: &R, time: Duration) -> bool {
         let lock = self.stream.lock(rt);
         let (stream, _) = self
             .over
@@ -57,7 +63,7 @@ impl Link {
     }
 
     /// Whether the session's thread does nothing more.
-    pub(crate) fn is_over(&self) -> bool {
+    pub fn is_over(&self) -> bool {
         self.is_over.load(Ordering::SeqCst)
     }
 }

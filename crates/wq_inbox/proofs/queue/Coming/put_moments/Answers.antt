@@ -1,9 +1,9 @@
 -- a number that is not due becomes due
 use Rattle.std.proofs.Common.{rules, ◌≡◌, ◌≤◌, ◌+◌, ◌++◌, ◌∷◌, ◌==◌, [], true, get_or, length, ap, subst, sym, ◌∙◌}
 use Rattle.std.specs.List.{list_any}
-use Rattle.wq_server.proofs.Due.{SoFar, all_due, becomes_due, due_already}
-use Rattle.wq_server.proofs.queue.Coming.put_moments.Goals as goal
-use Rattle.wq_server.proofs.queue.Coming.put_moments.Goals.{then-not-contains+in_ok-push_back, else-not-contains}
+use Rattle.wq_inbox.proofs.Due.{SoFar, all_due, becomes_due, due_already}
+use Rattle.wq_inbox.proofs.queue.Coming.put_moments.Goals as goal
+use Rattle.wq_inbox.proofs.queue.Coming.put_moments.Goals.{then-not-contains+in_ok-push_back, else-not-contains}
 
 pub loop-number-preserved : goal.loop-number-preserved
 loop-number-preserved c =

@@ -1,11 +1,11 @@
 //! The reader that brings the events of a client's stream into its session's queue. It does not
 //! look at what they ask.
 ghost use Rattle.std.specs.Prelude.{◌≡◌, ℕ, List, IfSome, IsTrue};
-ghost use Rattle.wq_server.specs.Intake.{PutsPiece};
+ghost use Rattle.wq_inbox.specs.Intake.{PutsPiece};
 ghost use Rattle.wq_stream.specs.Stream.{Adds, kept_of};
 
 use crate::intake::{Intake, QueueIntake};
-use crate::queue::Queue;
+use crate::link::Link;
 use std::alloc::{AllocError, Global};
 use std::io::{ErrorKind, Read};
 use std::sync::Wait;
@@ -18,17 +18,15 @@ const PIECE: usize = 65_536;
 /// How many milliseconds it waits after memory ran out, before it tries again.
 const PAUSE: u64 = 50;
 
-/// Reads a stream to its end, as long as the queue is open. The last event that it puts is the
-/// stream's end or its fault.
+/// Reads a client's stream to its end, as long as its link's queue is open. The last event that it
+/// puts is the stream's end or its fault.
 ///
 /// If memory runs out, it waits and tries the same bytes again.
-pub(crate) fn read_all<R: Wait + Clock, S: Read>(
-    rt: &R,
-    alloc: Global,
-    stream: &mut S,
-    queue: &Queue,
-) {
-    let mut intake = QueueIntake { rt, queue };
+pub fn read_all<R: Wait + Clock, S: Read>(rt: &R, alloc: Global, stream: &mut S, link: &Link) {
+    let mut intake = QueueIntake {
+        rt,
+        queue: &link.queue,
+    };
     let room: Result<Vec<u8>, AllocError> = vec![in alloc; 0; PIECE];
     let Ok(mut piece) = room else {
         intake.put(Event::Fault);

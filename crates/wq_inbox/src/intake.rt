@@ -9,7 +9,7 @@ use wq_stream::Event;
 /// Takes in the events of a client. It may show those that were put so far.
 pub(crate) trait Intake {
     ghost use Rattle.std.specs.Prelude.{List, Option};
-    ghost use Rattle.wq_server.specs.Intake.{PutsEvent};
+    ghost use Rattle.wq_inbox.specs.Intake.{PutsEvent};
     ghost use Rattle.wq_stream.specs.declared.event.Event.{Event};
 
     // The events that were put so far, if they are shown.

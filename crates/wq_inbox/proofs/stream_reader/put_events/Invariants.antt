@@ -1,8 +1,8 @@
 -- the events so far were put
 use Rattle.std.proofs.Common.{◌≡◌, ◌++◌}
 use Rattle.std.specs.Vec.Iter.{into_iter_items}
-use Rattle.wq_server.specs.Intake.{Appended}
-use Rattle.wq_server.proofs.stream_reader.put_events.Given as goal
+use Rattle.wq_inbox.specs.Intake.{Appended}
+use Rattle.wq_inbox.proofs.stream_reader.put_events.Given as goal
 
 abbrev pub invariant-loop-event : goal.invariant-loop-event
 invariant-loop-event g l =

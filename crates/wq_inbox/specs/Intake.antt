@@ -5,7 +5,7 @@ use Rattle.wq_stream.specs.declared.event.Event.{Event}
 use Rattle.wq_stream.specs.declared.event.Event.TheVariants.{Idle}
 use Rattle.wq_stream.specs.Queue.{TakesFirst}
 use Rattle.wq_stream.specs.Stream.{Adds}
-use Rattle.wq_server.specs.declared.queue.Coming.{Coming}
+use Rattle.wq_inbox.specs.declared.queue.Coming.{Coming}
 
 -- these events were put after those that an intake shows
 abbrev pub Appended : Option (List Event) → List Event → Option (List Event) → Type 0

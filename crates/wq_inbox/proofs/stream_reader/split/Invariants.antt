@@ -1,6 +1,6 @@
 -- the splitter and the intake stay as they were
 use Rattle.std.proofs.Common.{◌≡◌}
-use Rattle.wq_server.proofs.stream_reader.split.Given as goal
+use Rattle.wq_inbox.proofs.stream_reader.split.Given as goal
 
 abbrev pub invariant-loop : goal.invariant-loop
 invariant-loop g l =

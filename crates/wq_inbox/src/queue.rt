@@ -2,7 +2,7 @@
 //! contract promises that an event arrives.
 ghost use Rattle.std.specs.Prelude.{◌≡◌, ◌++◌, All, List, OnOk, false, ℕ};
 ghost use Rattle.std.specs.List.{Contains};
-ghost use Rattle.wq_server.specs.Intake.{TakesNext};
+ghost use Rattle.wq_inbox.specs.Intake.{TakesNext};
 
 use std::alloc::{AllocError, Global};
 use std::collections::VecDeque;

@@ -17,7 +17,7 @@ const PATIENCE: u64 = 10;
 
 /// The sessions that read a long line now. Threads share it.
 #[derive(Drop)]
-pub(crate) struct Turnstile {
+pub struct Turnstile {
     inside: Mutex<Inside>,
     left: Condvar,
 }
@@ -31,7 +31,7 @@ struct Inside {
 
 impl Turnstile {
     /// A turnstile behind which nobody is.
-    pub(crate) fn new() -> Turnstile {
+    pub fn new() -> Turnstile {
         Turnstile {
             inside: Mutex::new(Inside {
                 count: 0,
@@ -42,7 +42,7 @@ impl Turnstile {
     }
 
     /// Lets nobody in any more, and nobody wait.
-    pub(crate) fn close<R: Wait>(&self, rt: &R) {
+    pub fn close<R: Wait>(&self, rt: &R) {
         self.inside.lock(rt).is_closed = true;
         self.left.notify_all();
     }
@@ -72,7 +72,7 @@ impl Turnstile {
 
 /// A session's ticket for the turnstile.
 #[derive(Drop)]
-pub(crate) struct Ticket<'a, R: Wait + Clock> {
+pub struct Ticket<'a, R: Wait + Clock> {
     rt: &'a R,
     turnstile: &'a Turnstile,
     is_inside: AtomicBool,
@@ -80,7 +80,7 @@ pub(crate) struct Ticket<'a, R: Wait + Clock> {
 
 impl<'a, R: Wait + Clock> Ticket<'a, R> {
     /// The ticket of a session that is outside.
-    pub(crate) fn new(rt: &'a R, turnstile: &'a Turnstile) -> Ticket<'a, R> {
+    pub fn new(rt: &'a R, turnstile: &'a Turnstile) -> Ticket<'a, R> {
         Ticket {
             rt,
             turnstile,
@@ -102,7 +102,7 @@ impl<'a, R: Wait + Clock> Ticket<'a, R> {
     }
 
     /// The session has read its line, and goes out if it is inside.
-    pub(crate) fn leave(&self) {
+    pub fn leave(&self) {
         if self.is_inside.swap(false, Ordering::SeqCst) {
             self.turnstile.leave(self.rt);
         }

@@ -9,10 +9,10 @@ use wq_stream::{Event, Inbox};
 /// The events of a client, in their order. A long line comes when few others are read. The contract does not show the
 /// events.
 #[derive(Drop)]
-pub(crate) struct LinkInbox<'a, R: Wait + Clock + Drop> {
-    pub(crate) link: Arc<Link>,
-    pub(crate) rt: R,
-    pub(crate) ticket: &'a Ticket<'a, R>,
+pub struct LinkInbox<'a, R: Wait + Clock + Drop> {
+    pub link: Arc<Link>,
+    pub rt: R,
+    pub ticket: &'a Ticket<'a, R>,
 }
 
 impl<R: Wait + Clock + Drop> Inbox for LinkInbox<'_, R> {

@@ -1,0 +1,17 @@
+//! What brings the events of a client to its session: the reader of its stream, the queue that threads share, and the
+//! turnstile before long lines.
+//!
+//! A link to a client has its queue. Other crates run the threads, and write the replies.
+#![tactic(auto)]
+
+mod intake;
+mod link;
+mod link_inbox;
+mod queue;
+mod stream_reader;
+mod turnstile;
+
+pub use link::Link;
+pub use link_inbox::LinkInbox;
+pub use stream_reader::read_all;
+pub use turnstile::{Ticket, Turnstile};
