@@ -16,7 +16,7 @@ MOST = {
     "docs/DECISIONS.md": 920,
     "crates/*/DECISIONS.md": 7600,
     "docs/PROGRAMS.md": 3250,
-    "docs/PROOFS.md": 2280,
+    "docs/PROOFS.md": 2300,
     "docs/PROTOCOL.md": 5000,
     "docs/REFERENCE.md": 2500,
     "docs/RECIPES.md": 1620,

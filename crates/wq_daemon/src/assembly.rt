@@ -4,16 +4,15 @@ ghost use Rattle.std.specs.Prelude.{◌≡◌};
 use crate::lock_host::LockHost;
 use std::alloc::{AllocError, Global};
 use std::io;
-use std::sync::{Arc, Wait};
-use std::thread::Threads;
-use std::time::{Clock, CpuClock};
+use std::sync::Arc;
+use std::time::Clock;
 use wq_base::Workers;
 use wq_clock::Run;
 use wq_crawl::{LaneParts, Seconds, Tree};
 use wq_launch::{Notices, Spawn};
 use wq_live::{Blank, Named};
 use wq_registry::Cache;
-use wq_server::{Listening, Pace, ToldTree, run};
+use wq_server::{Listening, Pace, Runtime, ToldTree, run};
 use wq_session::SharedShelf;
 
 /// How many seats a server has: one for each session, one for idle moments, one for rounds of triggers, and a few more.
@@ -57,7 +56,7 @@ pub fn serve_clients<N, R, T, S, O, P>(
 ) -> io::Result<()>
 where
     N: Named + Send + Sync + 'static,
-    R: Threads + Wait + Clock + CpuClock + Copy + Drop + Send + Sync + 'static,
+    R: Runtime,
     T: Tree + Drop + Send + 'static,
     S: Seconds + Drop + Send + 'static,
     O: Notices + Drop + Send + Sync + 'static,

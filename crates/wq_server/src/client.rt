@@ -3,12 +3,12 @@
 use crate::host::Host;
 use crate::recipient::{Recipient, ReplyWriter};
 use crate::refusal::refuse;
+use crate::runtime::Runtime;
 use crate::server::Server;
 use std::alloc::Global;
 use std::os::unix::net::UnixStream;
-use std::sync::{Arc, Wait};
-use std::thread::{self, JoinHandle, Threads};
-use std::time::Clock;
+use std::sync::Arc;
+use std::thread::{self, JoinHandle};
 use wq_ask::Refusal;
 use wq_inbox::{Link, LinkInbox, Ticket, read_all};
 
@@ -25,7 +25,7 @@ pub(crate) fn run_client<R, H>(
     server: &Arc<Server<H>>,
 )
 where
-    R: Threads + Wait + Clock + Copy + Drop + Send + Sync + 'static,
+    R: Runtime,
     H: Host + Drop + Send + Sync + 'static,
 {
     let has_asked = match begin_reading(rt, alloc, &link, &stream) {
@@ -49,15 +49,12 @@ where
 }
 
 /// Starts the thread that reads a client's stream.
-fn begin_reading<R>(
+fn begin_reading<R: Runtime>(
     rt: R,
     alloc: Global,
     link: &Arc<Link>,
     stream: &Arc<UnixStream>,
-) -> Option<JoinHandle<()>>
-where
-    R: Threads + Wait + Clock + Copy + Drop + Send + Sync + 'static,
-{
+) -> Option<JoinHandle<()>> {
     let (theirs, stream) = (link.clone().ok()?, stream.clone().ok()?);
     thread::spawn(&rt, move || {
         read_all(&rt, alloc, &mut &*stream, &theirs)
@@ -68,7 +65,7 @@ where
 /// Runs a client's session, and says whether it asked that the server ends.
 fn run_session<R, H>(rt: R, link: &Arc<Link>, mut stream: &UnixStream, server: &Server<H>) -> bool
 where
-    R: Threads + Wait + Clock + Copy + Drop + Sync,
+    R: Runtime,
     H: Host + Drop,
 {
     let Ok(theirs) = link.clone() else {

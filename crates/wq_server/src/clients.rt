@@ -4,6 +4,7 @@ use crate::client::run_client;
 use crate::host::Host;
 use crate::patience::Patience;
 use crate::refusal::refuse;
+use crate::runtime::Runtime;
 use crate::server::Server;
 use std::alloc::{AllocError, Global};
 use std::io;
@@ -51,7 +52,7 @@ impl Clients {
         server: &Arc<Server<H>>,
     )
     where
-        R: Threads + Wait + Clock + Copy + Drop + Send + Sync + 'static,
+        R: Runtime,
         H: Host + Drop + Send + Sync + 'static,
     {
         self.forget_ended(&rt);
@@ -104,7 +105,7 @@ fn begin<R, H>(
     server: &Arc<Server<H>>,
 ) -> Option<ConnectedClient>
 where
-    R: Threads + Wait + Clock + Copy + Drop + Send + Sync + 'static,
+    R: Runtime,
     H: Host + Drop + Send + Sync + 'static,
 {
     let Ok(spare) = with_patience(&stream) else {
@@ -134,7 +135,7 @@ fn start_session<R, H>(
     server: &Arc<Server<H>>,
 ) -> Result<ConnectedClient, AllocError>
 where
-    R: Threads + Wait + Clock + Copy + Drop + Send + Sync + 'static,
+    R: Runtime,
     H: Host + Drop + Send + Sync + 'static,
 {
     let stream = Arc::new(alloc, stream)?;

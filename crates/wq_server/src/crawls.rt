@@ -4,14 +4,15 @@ use crate::attendance::attend_all;
 use crate::hand::Hand;
 use crate::hands::Hands;
 use crate::host::Host;
+use crate::runtime::Runtime;
 use crate::server::Server;
 use crate::task::Task;
 use crate::times::Took;
 use crate::walks::{DueRoot, LastWalks};
 use std::alloc::Global;
-use std::sync::{Arc, Wait};
-use std::thread::{self, Threads};
-use std::time::{Clock, CpuClock, Duration};
+use std::sync::Arc;
+use std::thread;
+use std::time::Duration;
 use wq_launch::Notices;
 
 /// For how many milliseconds a round waits for the crawl of a root, before it goes on with the next root.
@@ -24,7 +25,7 @@ const END: u64 = 500;
 /// there is no round while nobody needs one.
 pub(crate) fn crawl_always<R, H, O>(rt: R, alloc: Global, server: &Arc<Server<H>>, notices: &Arc<O>)
 where
-    R: Threads + Wait + Clock + CpuClock + Copy + Drop + Send + Sync + 'static,
+    R: Runtime,
     H: Host + Drop + Send + Sync + 'static,
     O: Notices + Drop + Send + Sync + 'static,
 {
@@ -64,7 +65,7 @@ struct Crawling<'a, R, H: Host + Drop, O> {
 
 impl<R, H, O> Crawling<'_, R, H, O>
 where
-    R: Threads + Wait + Clock + CpuClock + Copy + Drop + Send + Sync + 'static,
+    R: Runtime,
     H: Host + Drop + Send + Sync + 'static,
     O: Notices + Drop + Send + Sync + 'static,
 {
@@ -195,7 +196,7 @@ where
 /// Does the tasks that a thread is given, until it is to end.
 fn work_always<R, H, O>(rt: R, alloc: Global, server: &Server<H>, notices: &Arc<O>, hand: &Hand)
 where
-    R: Threads + Wait + Clock + CpuClock + Copy + Drop + Send + Sync + 'static,
+    R: Runtime,
     H: Host + Drop,
     O: Notices + Drop + Send + Sync + 'static,
 {

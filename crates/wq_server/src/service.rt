@@ -10,14 +10,15 @@ use crate::moments::bring_moments;
 use crate::pace::Pace;
 use crate::patience::Patience;
 use crate::pulse::Pulse;
+use crate::runtime::Runtime;
 use crate::server::Server;
 use crate::socket::Listening;
 use crate::stop::Stop;
 use std::alloc::Global;
 use std::io;
-use std::sync::{Arc, Wait};
-use std::thread::{self, JoinHandle, Threads};
-use std::time::{Clock, CpuClock, Duration};
+use std::sync::Arc;
+use std::thread::{self, JoinHandle};
+use std::time::Duration;
 use wq_inbox::Turnstile;
 use wq_launch::Notices;
 
@@ -46,7 +47,7 @@ pub fn run<R, H, O>(
     pace: Pace,
 ) -> io::Result<()>
 where
-    R: Threads + Wait + Clock + CpuClock + Copy + Drop + Send + Sync + 'static,
+    R: Runtime,
     H: Host + Drop + Send + Sync + 'static,
     O: Notices + Drop + Send + Sync + 'static,
 {
@@ -103,7 +104,7 @@ fn begin_crawling<R, H, O>(
     notices: &Arc<O>,
 ) -> io::Result<JoinHandle<()>>
 where
-    R: Threads + Wait + Clock + CpuClock + Copy + Drop + Send + Sync + 'static,
+    R: Runtime,
     H: Host + Drop + Send + Sync + 'static,
     O: Notices + Drop + Send + Sync + 'static,
 {
@@ -117,7 +118,7 @@ where
 /// Starts the thread that brings idle moments.
 fn begin_idling<R, H>(rt: R, alloc: Global, server: &Arc<Server<H>>) -> io::Result<JoinHandle<()>>
 where
-    R: Threads + Wait + Clock + Copy + Drop + Send + Sync + 'static,
+    R: Runtime,
     H: Host + Drop + Send + Sync + 'static,
 {
     let server = server.clone()?;

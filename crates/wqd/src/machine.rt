@@ -4,15 +4,13 @@ use std::alloc::Global;
 use std::io;
 use std::marker::Brand;
 use std::process::ExitCode;
-use std::sync::Wait;
-use std::thread::Threads;
-use std::time::{Clock, CpuClock, Duration};
+use std::time::Duration;
 use wq_command_line::Settings;
 use wq_crawl::{LaneParts, Seconds, Tree};
 use wq_daemon::{Parts, SEATS, serve_clients};
 use wq_launch::{Notices, Spawn};
 use wq_live::Blank;
-use wq_server::{Listening, Pace, listen, remove};
+use wq_server::{Listening, Pace, Runtime, listen, remove};
 
 /// Lines on standard error.
 #[derive(Drop)]
@@ -46,7 +44,7 @@ pub(crate) fn serve<R, T, S, O, P>(
     settings: Settings,
 ) -> ExitCode
 where
-    R: Threads + Wait + Clock + CpuClock + Copy + Drop + Send + Sync + 'static,
+    R: Runtime,
     T: Tree + Drop + Send + 'static,
     S: Seconds + Drop + Send + 'static,
     O: Notices + Drop + Send + Sync + 'static,
@@ -77,7 +75,7 @@ fn serve_socket<R, T, S, O, P>(
     settings: Settings,
 ) -> io::Result<()>
 where
-    R: Threads + Wait + Clock + CpuClock + Copy + Drop + Send + Sync + 'static,
+    R: Runtime,
     T: Tree + Drop + Send + 'static,
     S: Seconds + Drop + Send + 'static,
     O: Notices + Drop + Send + Sync + 'static,
