@@ -169,7 +169,6 @@ impl<'a, 'p> Walk<'a, 'p> {
 
     /// Looks at the name at a place in the directory in which the walk is, and adds its row. Returns the stat of a
     /// directory that the walk enters later.
-    #[tactic(auto, using(crate::proofs::SameDirectory::entered))]
     pub(crate) fn look<D: Disk>(
         &mut self,
         disk: &D,

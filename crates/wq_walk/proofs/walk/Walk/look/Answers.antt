@@ -1,8 +1,9 @@
 -- the result at the path of the name
-use Rattle.std.proofs.Common.{ap, false}
+use Rattle.std.proofs.Common.{ap, false, true}
 use Rattle.std.specs.Prelude.{is_some}
-use Rattle.wq_disk.specs.Directory.{data_of, entry_at}
+use Rattle.wq_disk.specs.Directory.{data_of, entry_at, text_of_entries}
 use Rattle.wq_walk.specs.Found.{found_rows}
+use Rattle.wq_walk.proofs.SameDirectory.{entered}
 use Rattle.wq_walk.proofs.Walking.{found_at, path_of}
 use Rattle.wq_walk.proofs.walk.Walk.look.Goals as goal
 
