@@ -115,5 +115,5 @@ GROUPS: Dict[str, Group] = {
 }
 # The names of terms that have terms in them. A head that is no text may be looked for in it.
 GROUP_NAMES = tuple(GROUPS)
-# What each term takes.
+# Each term, with the words for its arguments.
 TERMS: Dict[str, str] = {name: term.takes for table in (PLAIN, GROUPS) for name, term in table.items()}

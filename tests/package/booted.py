@@ -9,7 +9,7 @@ from typing import List, NamedTuple
 RELEASE, MIRROR = "bookworm", "http://deb.debian.org/debian"
 # The base has systemd with the managers of users; the others are what a person has who tries wqd.
 BASE = ["systemd-sysv", "dbus-user-session", "libpam-systemd", "python3", "man-db", "git", "bash-completion", "fish"]
-# What commands of triggers may use that lines of the unit could take from them.
+# Commands of triggers may use these, and lines of the unit could take them away.
 BESIDE = ["sudo", "uidmap", "iputils-ping", "nodejs", "strace"]
 USER = "stranger"
 # In seconds: until it has booted, and until a command has ended.
