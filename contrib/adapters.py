@@ -69,8 +69,11 @@ def node_files() -> List[File]:
 def python_files() -> List[File]:
     """The files of the package for Python, by their paths beside other packages. It has the client of wqd in it."""
     homes = {PYTHON: TOP / "clients" / "watchdog" / PYTHON, f"{PYTHON}/wqclient": TOP / "clients" / "wqclient"}
-    return [File(f"{name}/{module.relative_to(home)}", 0o644, module.read_bytes())
-            for name, home in homes.items() for module in sorted(home.rglob("*.py"))]
+    return [
+        File(f"{name}/{module.relative_to(home)}", 0o644, module.read_bytes())
+        for name, home in homes.items()
+        for module in sorted(home.rglob("*.py"))
+    ]
 
 
 def files_of_adapters(prefix: str) -> List[File]:
@@ -134,5 +137,7 @@ def digest(data: bytes) -> str:
 
 def packages() -> List[File]:
     """The two packages, by their names."""
-    return [File(f"{NODE}-{version()}.tgz", 0o644, npm_package()),
-            File(f"{PYTHON}-{version()}-py3-none-any.whl", 0o644, wheel())]
+    return [
+        File(f"{NODE}-{version()}.tgz", 0o644, npm_package()),
+        File(f"{PYTHON}-{version()}-py3-none-any.whl", 0o644, wheel()),
+    ]

@@ -16,11 +16,23 @@ from wq.words import FORMS, NEEDS_DASHES, Option, options_of
 
 # Values of some options.
 VALUES = {
-    "-t": "f d l", "--type": "file dir link", "--newer": "10min 1h 1d 1w", "--changed-within": "10min 1h 1d 1w",
-    "--older": "1d 1w", "--changed-before": "1d 1w", "--size": "+1M -1k 0", "-d": "1 2 3", "--max-depth": "1 2 3",
-    "--min-depth": "1 2 3", "--quiet": "100 500",
-    "--on-busy": "wait restart ignore signal", "--stop-signal": "TERM INT HUP USR1 USR2 QUIT", "--delay": "500 1000",
-    "--share": "5 10 25 50 100", "--interval": "100 1000 60000 600000", "--workers": "1 2 4",
+    "-t": "f d l",
+    "--type": "file dir link",
+    "--newer": "10min 1h 1d 1w",
+    "--changed-within": "10min 1h 1d 1w",
+    "--older": "1d 1w",
+    "--changed-before": "1d 1w",
+    "--size": "+1M -1k 0",
+    "-d": "1 2 3",
+    "--max-depth": "1 2 3",
+    "--min-depth": "1 2 3",
+    "--quiet": "100 500",
+    "--on-busy": "wait restart ignore signal",
+    "--stop-signal": "TERM INT HUP USR1 USR2 QUIT",
+    "--delay": "500 1000",
+    "--share": "5 10 25 50 100",
+    "--interval": "100 1000 60000 600000",
+    "--workers": "1 2 4",
 }
 
 # Options and commands that take names of the server, by `wq --names KIND`, and the commands that run another one.

@@ -110,8 +110,9 @@ def files(prefix: str) -> List[File]:
         File("share/bash-completion/completions/wqd", 0o644, text("contrib/wqd.bash").encode()),
         File("share/bash-completion/completions/wqasm", 0o644, text("contrib/wqasm.bash").encode()),
         File("share/doc/wqd/CHANGELOG.md", 0o644, text("CHANGELOG.md").encode()),
-        File("share/doc/wqd/copyright", 0o644,
-             (LICENCES + text("LICENSE-MIT") + "\n" + text("LICENSE-APACHE")).encode()),
+        File(
+            "share/doc/wqd/copyright", 0o644, (LICENCES + text("LICENSE-MIT") + "\n" + text("LICENSE-APACHE")).encode()
+        ),
     ]
 
 
@@ -120,8 +121,10 @@ def files_as_watchman() -> List[File]:
     modules = [module for package in BRIDGE_PACKAGES for module in sorted((TOP / "clients" / package).glob("*.py"))]
     return [
         File("bin/watchman", 0o755, text("clients/watchman").encode()),
-        *(File(f"lib/wqd/clients/{module.parent.name}/{module.name}", 0o644, module.read_bytes())
-          for module in modules),
+        *(
+            File(f"lib/wqd/clients/{module.parent.name}/{module.name}", 0o644, module.read_bytes())
+            for module in modules
+        ),
     ]
 
 
@@ -133,8 +136,11 @@ def archive(packages: List[str], main: str) -> bytes:
     """A tool as one file: an archive of its packages, of which Python runs this text. Beside each module is what this
     Python compiled from it, and a Python of another version takes the module itself."""
     written = io.BytesIO()
-    modules = {f"{module.parent.name}/{module.name}": module
-               for package in packages for module in sorted((TOP / "clients" / package).glob("*.py"))}
+    modules = {
+        f"{module.parent.name}/{module.name}": module
+        for package in packages
+        for module in sorted((TOP / "clients" / package).glob("*.py"))
+    }
     with zipfile.ZipFile(written, "w") as found:
         for path, data in compiled(modules).items():
             found.writestr(zipfile.ZipInfo(path), modules[path].read_bytes())
@@ -168,7 +174,7 @@ def usage() -> str:
 def without(page: str, heading: str) -> str:
     """A page without one of its sections."""
     begin = page.index(f"\n## {heading}\n")
-    return page[:begin] + page[page.index("\n## ", begin + 1):]
+    return page[:begin] + page[page.index("\n## ", begin + 1) :]
 
 
 def wq_manual() -> str:
@@ -178,8 +184,9 @@ def wq_manual() -> str:
 
 def wqasm_manual() -> str:
     summary = "writes, reads, explains and tries programs for wqd"
-    usage = subprocess.run([sys.executable, "-I", str(TOP / "clients" / "wqasm"), "--help"], stdout=subprocess.PIPE,
-                           check=True)
+    usage = subprocess.run(
+        [sys.executable, "-I", str(TOP / "clients" / "wqasm"), "--help"], stdout=subprocess.PIPE, check=True
+    )
     return manual.page(text("docs/WQASM.md"), "wqasm", 1, summary, version(), usage.stdout.decode())
 
 

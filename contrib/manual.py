@@ -50,7 +50,7 @@ def page(text: str, name: str, section: int, summary: str, version: str, usage: 
 def synopsis(usage: str) -> List[str]:
     """The lines of a usage up to the first blank one, without the word before them."""
     front = usage.split("\n\n")[0].rstrip("\n").split("\n")
-    return [line[len("usage: "):] for line in front]
+    return [line[len("usage: ") :] for line in front]
 
 
 def body(lines: List[str]) -> Iterator[str]:
@@ -147,7 +147,7 @@ def prose(text: str) -> str:
     """A line of text, with what is marked in it."""
     written, place = "", 0
     for found in INLINE.finditer(text):
-        written += escaped(text[place:found.start()]) + marked(found)
+        written += escaped(text[place : found.start()]) + marked(found)
         place = found.end()
     return at_start(written + escaped(text[place:]))
 
@@ -162,7 +162,7 @@ def marked(found: "re.Match[str]") -> str:
     if slanted is not None:
         return f"\\fI{escaped(slanted)}\\fR"
     other = target.rpartition("/")[2].partition("#")[0]
-    return prose(PAGES.get(other, words) if words in (other, other[:-len(".md")]) else words)
+    return prose(PAGES.get(other, words) if words in (other, other[: -len(".md")]) else words)
 
 
 def breaking(written: str) -> str:

@@ -70,8 +70,9 @@ def proof() -> File:
     digest = hashlib.sha256(program).hexdigest()
     note = NOTE.read_text("utf-8") if NOTE.is_file() else ""
     if f"program {digest}\n" not in note:
-        raise ValueError(f"the program with the SHA-256 {digest} is not the one that ./wqd --build proved and built "
-                         f"here")
+        raise ValueError(
+            f"the program with the SHA-256 {digest} is not the one that ./wqd --build proved and built " f"here"
+        )
     return File(f"wqd-{version()}.proof", 0o644, note.encode())
 
 

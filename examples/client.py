@@ -21,8 +21,9 @@ class Client:
     def __init__(self, sockname: str) -> None:
         stream = socket.socket(socket.AF_UNIX)
         stream.connect(sockname)
-        _, user, _ = struct.unpack("3i",
-                                   stream.getsockopt(socket.SOL_SOCKET, socket.SO_PEERCRED, struct.calcsize("3i")))
+        _, user, _ = struct.unpack(
+            "3i", stream.getsockopt(socket.SOL_SOCKET, socket.SO_PEERCRED, struct.calcsize("3i"))
+        )
         if user not in (os.getuid(), 0):
             sys.exit(f"the server at {sockname} is that of user {user}")
         self.lines = stream.makefile("rw", encoding="utf-8")

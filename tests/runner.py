@@ -65,7 +65,7 @@ class Result(unittest.TextTestResult):
     def add_output(self, name: str, output: str) -> None:
         """Counts what a test counted that ran in a process of its own, and prints what it said."""
         last = LAST_LINES.search(output)
-        self.stream.write(output[:last.start()] if last else f"{output}failed: {name} counted nothing\n")
+        self.stream.write(output[: last.start()] if last else f"{output}failed: {name} counted nothing\n")
         self.passed += int(last[1]) if last else 0
         self.failed_beside += int(last[2]) if last else 1
 

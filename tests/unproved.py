@@ -36,8 +36,16 @@ def names_of_tests(directory: Path) -> List[str]:
 
 
 def what_is_said(directory: Path) -> str:
-    command = [str(built.TOP / "bench" / "apart"), str(directory), "try", "--test", "--steps", "1", "--seconds",
-               str(ENDS)]
+    command = [
+        str(built.TOP / "bench" / "apart"),
+        str(directory),
+        "try",
+        "--test",
+        "--steps",
+        "1",
+        "--seconds",
+        str(ENDS),
+    ]
     ended = subprocess.run(command, stdin=subprocess.DEVNULL, stdout=subprocess.PIPE, stderr=subprocess.STDOUT)
     return ended.stdout.decode(errors="replace")
 

@@ -131,15 +131,17 @@ def long_names(number: int) -> object:
 
 def subscriptions(root: str) -> List[bytes]:
     """As many subscriptions as a session may have, each of a mebibyte."""
-    return [line("subscribe", root, f"s{number}", {**NAMES, "expression": long_names(number)})
-            for number in range(FOLLOWS)]
+    return [
+        line("subscribe", root, f"s{number}", {**NAMES, "expression": long_names(number)}) for number in range(FOLLOWS)
+    ]
 
 
 def triggers(roots: List[str]) -> List[bytes]:
     """As many triggers as these roots may have, each of a mebibyte."""
     return [
         line("trigger", root, {"name": f"t{number}", "command": ["true"], "expression": long_names(number)})
-        for root in roots for number in range(FOLLOWS)
+        for root in roots
+        for number in range(FOLLOWS)
     ]
 
 
@@ -151,9 +153,14 @@ def cursors(roots: List[str]) -> List[bytes]:
 def pipelined(root: str) -> Dict[str, bytes]:
     """A line of each kind, the replies to which are short."""
     return {
-        "version": line("version"), "clock": line("clock", root), "watch-list": line("watch-list"),
-        "watch": line("watch", root), "trigger-list": line("trigger-list", root), "program-list": line("program-list"),
-        "query": query(root, path=["x"]), "no JSON": b"[\n",
+        "version": line("version"),
+        "clock": line("clock", root),
+        "watch-list": line("watch-list"),
+        "watch": line("watch", root),
+        "trigger-list": line("trigger-list", root),
+        "program-list": line("program-list"),
+        "query": query(root, path=["x"]),
+        "no JSON": b"[\n",
     }
 
 
@@ -167,16 +174,19 @@ def cases(root: str, roots: List[str], paths: int) -> Dict[str, Callable[[], Cas
         "63 not": lambda: Case([nots(root)]),
         "a name list of 65,535 entries": lambda: Case([query(root, expression=["name", texts(MOST_ENTRIES, 12)])]),
         "a name list of 262,000 entries": lambda: Case(
-            [filled(f'["query","{root}",{{"expression":["name",[', '"a",', "]]}]")]),
+            [filled(f'["query","{root}",{{"expression":["name",[', '"a",', "]]}]")]
+        ),
         "1,000 patterns of 255 atoms": lambda: Case([patterns(root, PATTERNS)]),
         "1,000 patterns of 127 stars": lambda: Case([stars(root, PATTERNS)]),
         "1,000 patterns of a star and 254 marks": lambda: Case([marks(root, PATTERNS)]),
         f"{paths:,} empty paths": lambda: Case([query(root, path=[""] * paths, expression="false")]),
         "262,000 suffixes": lambda: Case([filled(f'["query","{root}",{{"sync_timeout":0,"suffix":[', '"a",', "]}]")]),
         "a program of 1,365 patterns": lambda: Case(
-            [query(root, program="p")], before=[line("program-add", "p", dear_program())]),
+            [query(root, program="p")], before=[line("program-add", "p", dear_program())]
+        ),
         "20,000 matches of a star and 254 marks": lambda: Case(
-            [query(root, program="p")], before=[line("program-add", "p", matching("wholename", MARKS, MORE_MATCHES))]),
+            [query(root, program="p")], before=[line("program-add", "p", matching("wholename", MARKS, MORE_MATCHES))]
+        ),
         "256 programs of 1,365 patterns": lambda: Case(added(dear_program())),
         "256 programs of a mebibyte": lambda: Case(added(large_program())),
         "256 programs of a mebibyte of sets": lambda: Case(added(sets_program())),
@@ -189,8 +199,18 @@ def cases(root: str, roots: List[str], paths: int) -> Dict[str, Callable[[], Cas
         "64 triggers of a mebibyte at 16 roots": lambda: Case(triggers(roots), before=watches),
         "16 expressions of 1,000 patterns": lambda: Case([patterns(root, PATTERNS, n, path=["x"]) for n in range(16)]),
         "256 cursors at 16 roots": lambda: Case(cursors(roots), before=watches),
-        "all files with all fields": lambda: Case([line("query", root, {"sync_timeout": 0, "fields": [
-            "name", "exists", "new", "size", "type", "cclock", "oclock", "mtime", "mtime_ms"]})]),
+        "all files with all fields": lambda: Case(
+            [
+                line(
+                    "query",
+                    root,
+                    {
+                        "sync_timeout": 0,
+                        "fields": ["name", "exists", "new", "size", "type", "cclock", "oclock", "mtime", "mtime_ms"],
+                    },
+                )
+            ]
+        ),
     }
     for name, one in pipelined(root).items():
         for reads in ("late", "never"):

@@ -41,7 +41,8 @@ def trigger_cases(root: str) -> Dict[str, Callable[[], List[bytes]]]:
         "a trigger of 1,000 patterns of 255 atoms": lambda: [trigger(root, 0, letters)],
         "a trigger of 1,000 patterns of a star and 254 marks": lambda: [trigger(root, 0, marks)],
         f"{TRIGGERS} triggers of 1,000 patterns of 255 atoms": lambda: [
-            trigger(root, number, letters) for number in range(TRIGGERS)],
+            trigger(root, number, letters) for number in range(TRIGGERS)
+        ],
     }
 
 

@@ -47,8 +47,10 @@ def commands(tree: Tree) -> List[Tuple[str, List[object]]]:
     return [
         ("`clock`", ["clock", root]),
         ("a query for a directory", query(path=flat, fields=["name"])),
-        ("the same by `relative_root`",
-         query(path=[{"path": "", "depth": 0}], relative_root=tree.directories[0], fields=["name"])),
+        (
+            "the same by `relative_root`",
+            query(path=[{"path": "", "depth": 0}], relative_root=tree.directories[0], fields=["name"]),
+        ),
         ("all names", query(fields=["name"])),
         ("all names below a directory, by `relative_root`", query(relative_root=tree.directories[0], fields=["name"])),
         ("four fields of all", query(fields=["name", "exists", "new", "size"])),

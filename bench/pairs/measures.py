@@ -38,12 +38,16 @@ class Load:
         self.program = room / "load"
         subprocess.run(["cc", "-O2", "-pthread", "-o", str(self.program), str(HERE / "load.c")], check=True)
 
-    def press(self, sockname: str, request: bytes, clients: int, seconds: float,
-              encoding: str = "json") -> Dict[str, float]:
+    def press(
+        self, sockname: str, request: bytes, clients: int, seconds: float, encoding: str = "json"
+    ) -> Dict[str, float]:
         path = self.room / "request"
         path.write_bytes(request)
-        said = subprocess.run([str(self.program), sockname, str(clients), str(seconds), str(path), encoding],
-                              stdout=subprocess.PIPE, check=True).stdout
+        said = subprocess.run(
+            [str(self.program), sockname, str(clients), str(seconds), str(path), encoding],
+            stdout=subprocess.PIPE,
+            check=True,
+        ).stdout
         found: Dict[str, float] = json.loads(said)
         if found["errors"] or found["failed"] or not found["replies"]:
             raise ValueError(f"{request[:200]!r}: {found}")
@@ -123,7 +127,7 @@ class Run:
         none = ["anyof", ["dirname", self.tree.directories[1]], ["imatch", "main*"], ["name", ["Makefile", "f1.c"]]]
         digits = ["match", "**/*[0-9]_[0-9]*7?.?", "wholename"]
         heavy = ["allof", ["type", "f"], some, ["not", none], ["size", "gt", 32], digits]
-        listed = ["name", self.tree.files[::max(1, len(self.tree.files) // LISTED)][:LISTED], "wholename"]
+        listed = ["name", self.tree.files[:: max(1, len(self.tree.files) // LISTED)][:LISTED], "wholename"]
         for name, query in (
             ("names", {"fields": ["name"]}),
             ("four fields", {"fields": ["name", "exists", "new", "size"]}),
@@ -153,8 +157,11 @@ class Run:
             self.clock(peer)
         time.sleep(1)  # the sessions of the clients before end, so that 32 have places
         for clients in (1, 32):
-            self.each(lambda peer: self.median("recent clock", peer, {"since": clocks[peer.name], "fields": ["name"]},
-                                               clients))
+            self.each(
+                lambda peer: self.median(
+                    "recent clock", peer, {"since": clocks[peer.name], "fields": ["name"]}, clients
+                )
+            )
 
     def clock(self, peer: Peer) -> object:
         with peer.client() as client:

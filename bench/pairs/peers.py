@@ -20,7 +20,9 @@ TICKS = os.sysconf("SC_CLK_TCK")
 AN_HOUR = 3_600_000
 # The variables that ./wqd adds to the environment.
 MALLOC = {
-    "MALLOC_ARENA_MAX": "2", "MALLOC_MMAP_THRESHOLD_": "131072", "GLIBC_TUNABLES": "glibc.malloc.tcache_count=0",
+    "MALLOC_ARENA_MAX": "2",
+    "MALLOC_MMAP_THRESHOLD_": "131072",
+    "GLIBC_TUNABLES": "glibc.malloc.tcache_count=0",
 }
 
 
@@ -83,20 +85,44 @@ class Peer:
 
 
 def watchman(room: Path) -> Peer:
-    words = ["watchman", "--foreground", f"--sockname={room}/w", f"--logfile={room}/w.log",
-             f"--statefile={room}/w.state",
-             f"--pidfile={room}/w.pid", "--no-save-state", "--log-level=0"]
+    words = [
+        "watchman",
+        "--foreground",
+        f"--sockname={room}/w",
+        f"--logfile={room}/w.log",
+        f"--statefile={room}/w.state",
+        f"--pidfile={room}/w.pid",
+        "--no-save-state",
+        "--log-level=0",
+    ]
     return Peer("watchman", words, f"{room}/w", room)
 
 
 def wqd(room: Path, interval: int = AN_HOUR) -> Peer:
     program = os.environ.get("WQD") or str(TOP / "crates" / "wqd" / "out" / "wqd")
-    words = [program, "serve", "--sockname", f"{room}/q", "--start", str(int(time.time())), "--pid", str(os.getpid()),
-             "--interval", str(interval)]
+    words = [
+        program,
+        "serve",
+        "--sockname",
+        f"{room}/q",
+        "--start",
+        str(int(time.time())),
+        "--pid",
+        str(os.getpid()),
+        "--interval",
+        str(interval),
+    ]
     return Peer("wqd", words, f"{room}/q", room)
 
 
 def bridge(room: Path, server: Peer, python: Optional[str] = None) -> Peer:
-    words = [python or sys.executable, "-B", str(TOP / "clients" / "bridge"), "--server", server.sockname, "--sockname",
-             f"{room}/b"]
+    words = [
+        python or sys.executable,
+        "-B",
+        str(TOP / "clients" / "bridge"),
+        "--server",
+        server.sockname,
+        "--sockname",
+        f"{room}/b",
+    ]
     return Peer("bridge", words, f"{room}/b", room)

@@ -32,7 +32,7 @@ def bars_of(text: str) -> List[Bar]:
     if HEAD not in lines:
         return []
     bars = []
-    for line in lines[lines.index(HEAD) + 2:]:
+    for line in lines[lines.index(HEAD) + 2 :]:
         if not line.startswith("|"):
             break
         cells = [cell.strip() for cell in line.strip("|").split("|")]

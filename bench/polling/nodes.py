@@ -17,4 +17,5 @@ def served_chokidar() -> Poller:
 
     def start(root: Path, room: Path) -> Watch:
         return Served(["node", str(HERE / "chokidar.js"), str(root), INTERVAL, str(PACKAGE)], room)
+
     return Poller(SERVED, missing, start)

@@ -31,8 +31,9 @@ class Watch:
 
     def __init__(self, command: List[str]) -> None:
         environment = {**MALLOC, "NODE_PATH": MODULES, **os.environ}
-        self.process = subprocess.Popen(command, stdin=subprocess.DEVNULL, stdout=subprocess.PIPE,
-                                        stderr=subprocess.DEVNULL, env=environment)
+        self.process = subprocess.Popen(
+            command, stdin=subprocess.DEVNULL, stdout=subprocess.PIPE, stderr=subprocess.DEVNULL, env=environment
+        )
 
     def facts(self) -> Facts:
         found = facts_of(self.process.pid)
@@ -103,8 +104,11 @@ class Poller(NamedTuple):
 
 
 def pollers() -> List[Poller]:
-    return [*(chokidar(interval) for interval in (100, 1000)), *(fswatch(seconds) for seconds in ("1", "0.1")),
-            *(wqd(words) for words in ("", "--share 10", "--share 10 --interval 100"))]
+    return [
+        *(chokidar(interval) for interval in (100, 1000)),
+        *(fswatch(seconds) for seconds in ("1", "0.1")),
+        *(wqd(words) for words in ("", "--share 10", "--share 10 --interval 100")),
+    ]
 
 
 def chokidar(interval: int) -> Poller:
@@ -115,6 +119,7 @@ def chokidar(interval: int) -> Poller:
         watch = Printed(["node", str(HERE / "chokidar.js"), str(root), str(interval)])
         watch.wait_for("ready\n")
         return watch
+
     return Poller(f"chokidar, `usePolling`, `interval: {interval}`", missing, start)
 
 
@@ -126,10 +131,12 @@ def fswatch(seconds: str) -> Poller:
         watch = Printed(["fswatch", "--recursive", "--monitor=poll_monitor", f"--latency={seconds}", str(root)])
         time.sleep(5)
         return watch
+
     return Poller(f"fswatch, `poll_monitor`, {seconds} s", missing, start)
 
 
 def wqd(words: str) -> Poller:
     def start(root: Path, room: Path) -> Watch:
         return Subscribed(root, room / "socket", words.split())
+
     return Poller(f"`{f'wqd serve {words}'.strip()}`", None, start)

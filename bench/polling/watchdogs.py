@@ -41,8 +41,9 @@ class Served(Ready):
 
     def facts(self) -> Facts:
         own, served = super().facts(), self.server.facts()
-        return own._replace(memory=own.memory + served.memory,
-                            processor_seconds=own.processor_seconds + served.processor_seconds)
+        return own._replace(
+            memory=own.memory + served.memory, processor_seconds=own.processor_seconds + served.processor_seconds
+        )
 
     def end(self) -> None:
         super().end()
@@ -71,11 +72,12 @@ def missing() -> bool:
 def polling(seconds: str) -> Poller:
     def start(root: Path, room: Path) -> Watch:
         return Ready(observed("polling", root, seconds))
+
     return Poller(f"watchdog, `PollingObserver`, {seconds} s", PACKAGE if missing() else None, start)
 
 
 def adapted(seconds: str) -> Poller:
     def start(root: Path, room: Path) -> Watch:
         return Served(observed("wqd", root, seconds), room)
-    return Poller(SERVED, PACKAGE if missing() else None, start)
 
+    return Poller(SERVED, PACKAGE if missing() else None, start)

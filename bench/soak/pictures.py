@@ -141,7 +141,7 @@ class TriggerLog:
 
     def register(self) -> None:
         """Registers the trigger, or replaces it: then it tells all files again."""
-        script = f"{{ echo \"${{WATCHMAN_SINCE:-fresh}}\"; cat; }} >> {shlex.quote(str(self.file))}"
+        script = f'{{ echo "${{WATCHMAN_SINCE:-fresh}}"; cat; }} >> {shlex.quote(str(self.file))}'
         trigger = {"name": self.name, "command": ["sh", "-c", script], "stdin": FIELDS}
         reply = self.client.ask("trigger", self.root, trigger)
         if "error" in reply:

@@ -6,7 +6,12 @@ from bridge.expressions import TERMS
 from bridge.fields import KEPT, READ
 
 OF_QUERIES = (
-    "relative_root", "glob_generator", "wildmatch", "wildmatch-multislash", "dedup_results", "clock-sync-timeout",
+    "relative_root",
+    "glob_generator",
+    "wildmatch",
+    "wildmatch-multislash",
+    "dedup_results",
+    "clock-sync-timeout",
     "suffix-set",
 )
 BSER = "bser-v2"

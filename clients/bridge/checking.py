@@ -154,5 +154,8 @@ CHECKS: Dict[str, Callable[[str, object], None]] = {
     **dict.fromkeys(NAMES, check_name),
     **dict.fromkeys(PATTERNS, check_match),
     **dict.fromkeys(DIRECTORIES, check_directory),
-    "size": check_size, "type": check_kind, "suffix": check_suffix, "since": check_since,
+    "size": check_size,
+    "type": check_kind,
+    "suffix": check_suffix,
+    "since": check_since,
 }

@@ -32,13 +32,33 @@ Watchman's options of its own server are taken and change nothing: --logfile, --
 # The options, as getopt takes them: those with a value end in a colon or an equals sign.
 SHORT = "hvU:o:pnjf"
 LONG = [
-    "help", "version", "sockname=", "json-command", "persistent", "no-pretty", "output-encoding=", "no-spawn",
+    "help",
+    "version",
+    "sockname=",
+    "json-command",
+    "persistent",
+    "no-pretty",
+    "output-encoding=",
+    "no-spawn",
     "no-local",
-    "logfile=", "pidfile=", "statefile=", "no-save-state", "log-level=", "server-encoding=", "foreground", "inetd",
+    "logfile=",
+    "pidfile=",
+    "statefile=",
+    "no-save-state",
+    "log-level=",
+    "server-encoding=",
+    "foreground",
+    "inetd",
 ]
 LETTERS = {
-    "-h": "--help", "-v": "--version", "-U": "--sockname", "-o": "--logfile", "-p": "--persistent",
-    "-n": "--no-save-state", "-j": "--json-command", "-f": "--foreground",
+    "-h": "--help",
+    "-v": "--version",
+    "-U": "--sockname",
+    "-o": "--logfile",
+    "-p": "--persistent",
+    "-n": "--no-save-state",
+    "-j": "--json-command",
+    "-f": "--foreground",
 }
 NOT_BUILT = ("--foreground", "--inetd")
 ENCODINGS = {"json": 0, "bser": 1, "bser-v1": 1, "bser-v2": 2}
@@ -127,6 +147,7 @@ def start(sockname: str, home: str) -> None:
     then."""
     if not is_listened_on(sockname) or not is_listened_on(server_behind(sockname)):
         from bridge.starting import Start
+
         Start(sockname, home).start()
 
 
@@ -157,6 +178,7 @@ def without_server(command: List[object], sockname: str, printer: "Printer", is_
     if is_remote:
         fail(sockname, "nobody listens there")
     from bridge.alone import answer_alone, refusal_of
+
     reply = answer_alone(command, sockname)
     if reply is None:
         printer.print({"version": VERSION, "error": refusal_of(command)})
@@ -192,6 +214,7 @@ class Printer:
 
     def in_bser(self, reply: Dict[str, object]) -> bytes:
         from bridge.encodings import MISSING, Encoding, Writer, find_codec
+
         codec = find_codec()
         if codec is None:
             sys.exit(f"watchman: {MISSING}")

@@ -20,9 +20,11 @@ ROOT_FILES = (OF_A_ROOT, ".hg", ".git", ".svn")
 ADVICE = "relocate the dir to an allowed filesystem type"
 # A longer file, and one with a longer number, holds no settings. A number counts as at most a day of milliseconds.
 LONGEST, MOST_DIGITS, MOST_NUMBER = 1_048_576, 18, 86_400_000
-FORBIDDEN = ("Your watchman administrator has configured watchman to prevent watching this path.  None of the files "
-             "listed in "
-             "global config root_files are present and enforce_root_files is set to true")
+FORBIDDEN = (
+    "Your watchman administrator has configured watchman to prevent watching this path.  None of the files "
+    "listed in "
+    "global config root_files are present and enforce_root_files is set to true"
+)
 
 
 def read(path: str, say: Callable[[str], None]) -> Dict[str, object]:
@@ -133,8 +135,10 @@ class Configurations:
         kind = kind_of(root)
         if kind in texts_in(self.system.get("illegal_fstypes")):
             advice = self.system.get("illegal_fstypes_advice")
-            raise Refused(f'unable to resolve root {root}: path uses the "{kind}" filesystem and is disallowed by '
-                          f'global config '
-                          f"illegal_fstypes: {advice if isinstance(advice, str) else ADVICE}")
+            raise Refused(
+                f'unable to resolve root {root}: path uses the "{kind}" filesystem and is disallowed by '
+                f"global config "
+                f"illegal_fstypes: {advice if isinstance(advice, str) else ADVICE}"
+            )
         if self.enforces() and not any(os.path.lexists(os.path.join(root, name)) for name in self.root_files()):
             raise Refused(f"unable to resolve root {root}: {FORBIDDEN}")

@@ -53,7 +53,7 @@ class Cutter:
         if b"\\" in text:
             return self.read(text)
         if self.keys == ["name"]:
-            names = text[1 + len(self.above):-1].split(BETWEEN_NAMES + self.above)
+            names = text[1 + len(self.above) : -1].split(BETWEEN_NAMES + self.above)
             return {"name": names}, len(names)
         if self.is_alone:
             return self.read(text)
@@ -62,7 +62,7 @@ class Cutter:
         return columns, len(parts) // self.period
 
     def column(self, parts: List[bytes], key: str) -> Column:
-        found = parts[self.places[key]::self.period]
+        found = parts[self.places[key] :: self.period]
         if key in TEXTS:
             return self.shortened(found) if key == "name" else found
         values: Column = json.loads("[%s]" % b"".join(found).translate(None, MARKS).rstrip(b",").decode())
@@ -79,7 +79,7 @@ class Cutter:
         return columns, len(rows)
 
     def shortened(self, names: List[bytes]) -> List[bytes]:
-        return [name[len(self.above):] for name in names] if self.above else names
+        return [name[len(self.above) :] for name in names] if self.above else names
 
 
 def places_of(keys: List[str]) -> Tuple[Dict[str, int], int]:

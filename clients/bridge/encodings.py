@@ -93,7 +93,7 @@ class Writer:
         """The values of an array in BSER, without its beginning."""
         data = self.bytes_of(values, encoding)
         start = head_length(data) + len(ARRAY)
-        return data[start + 1 + INTEGER_SIZES[data[start]]:]
+        return data[start + 1 + INTEGER_SIZES[data[start]] :]
 
     def files(self, fields: List[str], columns: List[Column], count: int, encoding: Encoding) -> bytes:
         """Some files of a list with these fields, of which there is a column each."""
@@ -102,16 +102,21 @@ class Writer:
         return self.values_of(mixed(columns, count) if fields else [{}] * count, encoding)
 
     def list_of(
-        self, value: Dict[str, object], fields: List[str], files: List[bytes], count: int, encoding: Encoding,
+        self,
+        value: Dict[str, object],
+        fields: List[str],
+        files: List[bytes],
+        count: int,
+        encoding: Encoding,
     ) -> List[bytes]:
         """A message in parts: an object with these keys, and with these files, of which there are so many."""
         if encoding == JSON:
             return [json_of(value).encode()[:-1], b',"files":[', b",".join(files), b"]}\n"]
         begin = self.bytes_of({**value, "files": []}, encoding)
-        head = begin[:LENGTH_AT[encoding.version]]
-        begin = begin[head_length(begin):]
+        head = begin[: LENGTH_AT[encoding.version]]
+        begin = begin[head_length(begin) :]
         if count:
-            begin = begin[:-len(NO_VALUES)] + self.begin_of_list(fields, count, encoding)
+            begin = begin[: -len(NO_VALUES)] + self.begin_of_list(fields, count, encoding)
         length = len(begin) + sum(map(len, files))
         return [head + integer(length) + begin, *files]
 
@@ -135,7 +140,7 @@ def mixed(columns: Iterable[Column], count: int) -> List[object]:
     columns = list(columns)
     values: List[object] = [None] * (len(columns) * count)
     for place, column in enumerate(columns):
-        values[place::len(columns)] = column
+        values[place :: len(columns)] = column
     return values
 
 
@@ -224,8 +229,16 @@ class Inbox:
             raise Unreadable(encoding, "the value is too deep")
         except TooMany:
             raise Unreadable(encoding, "the value has more values in it than a command can have")
-        except (NoValue, ValueError, TypeError, LookupError, ArithmeticError, SystemError, MemoryError,
-                struct.error) as error:
+        except (
+            NoValue,
+            ValueError,
+            TypeError,
+            LookupError,
+            ArithmeticError,
+            SystemError,
+            MemoryError,
+            struct.error,
+        ) as error:
             raise Unreadable(encoding, f"this is no BSER: {error}")
 
     def length(self) -> Optional[int]:
@@ -244,7 +257,7 @@ class Inbox:
         begin = start + 1
         if len(self.held) < begin + size:
             return None
-        length = begin + size + int.from_bytes(self.held[begin:begin + size], sys.byteorder, signed=True)
+        length = begin + size + int.from_bytes(self.held[begin : begin + size], sys.byteorder, signed=True)
         if not begin + size < length <= LONGEST:
             raise Broken(encoding_of(bytes(self.held[:start])), "the message is empty or too long")
         return length

@@ -145,8 +145,12 @@ def of_globs(globs: List[object], place: Place, flags: Dict[str, bool]) -> Term:
     for pattern in globs:
         if not isinstance(pattern, str):
             raise Refused("expected json string object")
-        terms.append([
-            "match" if place.has_case else "imatch", place.pattern_of(pattern, not flags["noescape"]), "wholename",
-            flags,
-        ])
+        terms.append(
+            [
+                "match" if place.has_case else "imatch",
+                place.pattern_of(pattern, not flags["noescape"]),
+                "wholename",
+                flags,
+            ]
+        )
     return all_of(["exists", any_of(terms)])

@@ -38,8 +38,10 @@ def of_server(error: str, command: List[object]) -> str:
     if number == UNREADABLE:
         return f"unable to resolve root {root}: opendir_nofollow: {root}: {reason_of(str(root))}"
     if number == NO_PLACE:
-        return ("the 32 places of the server are taken: each client has one, and one more for each 64 subscriptions "
-                "(E17)")
+        return (
+            "the 32 places of the server are taken: each client has one, and one more for each 64 subscriptions "
+            "(E17)"
+        )
     if number in OF_ROOTS:
         return f"unable to resolve root {root}: {OF_ROOTS[number]}"
     if number == BAD_CLOCK:

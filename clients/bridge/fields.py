@@ -18,8 +18,13 @@ BY_DEFAULT = ["name", "exists", "new", "size", "mode"]
 TRUE_IF_FRESH = ("exists", "new")
 # Files are told to be directories or links by the mode, which a deleted file has no longer.
 MODES = {
-    b"f": stat.S_IFREG, b"d": stat.S_IFDIR, b"l": stat.S_IFLNK, b"b": stat.S_IFBLK, b"c": stat.S_IFCHR,
-    b"p": stat.S_IFIFO, b"s": stat.S_IFSOCK,
+    b"f": stat.S_IFREG,
+    b"d": stat.S_IFDIR,
+    b"l": stat.S_IFLNK,
+    b"b": stat.S_IFBLK,
+    b"c": stat.S_IFCHR,
+    b"p": stat.S_IFIFO,
+    b"s": stat.S_IFSOCK,
 }
 BILLION = 1_000_000_000
 PIECE = 1_048_576
@@ -29,6 +34,7 @@ Look = Callable[[bytes, os.stat_result], object]
 
 def times(letter: str) -> Dict[str, Look]:
     """The five forms of one of the times of a file."""
+
     def nanoseconds(found: os.stat_result) -> int:
         return int(getattr(found, f"st_{letter}time_ns"))
 
@@ -61,7 +67,9 @@ def target_of_link(path: bytes, found: os.stat_result) -> Optional[str]:
 
 # These are read of the file when the list has come, and not at the clock.
 READ: Dict[str, Look] = {
-    **times("a"), **times("c"), **times("m"),
+    **times("a"),
+    **times("c"),
+    **times("m"),
     "mode": lambda _, found: found.st_mode,
     "uid": lambda _, found: found.st_uid,
     "gid": lambda _, found: found.st_gid,

@@ -10,8 +10,15 @@ from wqclient.names import COMMANDS_OF_A_ROOT
 
 # The first argument of these is a root. The server has no command of the first names.
 OF_A_ROOT = (
-    "debug-get-subscriptions", "debug-recrawl", "find", "flush-subscriptions", "get-config", "since", "state-enter",
-    "state-leave", *COMMANDS_OF_A_ROOT,
+    "debug-get-subscriptions",
+    "debug-recrawl",
+    "find",
+    "flush-subscriptions",
+    "get-config",
+    "since",
+    "state-enter",
+    "state-leave",
+    *COMMANDS_OF_A_ROOT,
 )
 
 
@@ -39,6 +46,7 @@ def read_bser(data: bytes) -> Given:
     from bridge.encodings import Inbox, Unreadable, find_codec
     from bridge.faults import Ended
     from bridge.held import Held
+
     inbox = Inbox(find_codec(), Held(len(data)))
     try:
         inbox.add(data)

@@ -54,9 +54,10 @@ class Passing:
         return text.replace(self.before + self.above, self.before + b'"')
 
     def tell(self) -> None:
-        more = b"".join(b"%b:%b," % (json_of(key).encode(), json_of(value).encode())
-                        for key, value in self.more.items())
-        self.client.sendall(self.told(self.held[:-len(VERSION_LAST)]) + more + VERSION_TOLD)
+        more = b"".join(
+            b"%b:%b," % (json_of(key).encode(), json_of(value).encode()) for key, value in self.more.items()
+        )
+        self.client.sendall(self.told(self.held[: -len(VERSION_LAST)]) + more + VERSION_TOLD)
 
 
 class Listing:
@@ -85,7 +86,7 @@ class Listing:
         end = self.cutter.last_end(self.held)
         if end > 0:
             self.write(self.held[:end])
-            self.held = self.held[end + 1:]
+            self.held = self.held[end + 1 :]
 
     def end(self, rest: bytes) -> None:
         """Takes the last part of the line."""

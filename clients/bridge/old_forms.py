@@ -5,7 +5,20 @@ from typing import Dict, List, Optional
 from bridge.faults import Refused
 
 FIELDS = [
-    "name", "exists", "size", "mode", "uid", "gid", "mtime", "ctime", "ino", "dev", "nlink", "new", "cclock", "oclock",
+    "name",
+    "exists",
+    "size",
+    "mode",
+    "uid",
+    "gid",
+    "mtime",
+    "ctime",
+    "ino",
+    "dev",
+    "nlink",
+    "new",
+    "cclock",
+    "oclock",
 ]
 # A trigger of the old form gives its command these fields.
 INPUT = ["name", "exists", "new", "size", "mode"]
@@ -68,7 +81,7 @@ def query_of(command: List[object], start: int, since: Optional[object] = None) 
 def trigger_of(command: List[object]) -> Dict[str, object]:
     """The object of a trigger: its name, patterns, two dashes and the words that it runs."""
     rules = Rules(command, 3)
-    words = command[rules.end:]
+    words = command[rules.end :]
     if not words:
         raise Refused("no command was specified")
     trigger: Dict[str, object] = {"name": command[2], "command": words, "append_files": True, "stdin": INPUT}

@@ -81,10 +81,12 @@ def project_of(path: object, watched: List[str], root_files: List[str], enforces
     above = enclosing(directory, watched)
     root = above or project_root(directory, root_files) or ("" if enforces else directory)
     if not root:
-        raise Refused(f"resolve_projpath: none of the files listed in global config root_files are present in path "
-                      f"`{path}` or "
-                      "any of its parent directories")
-    return Project(root, directory[len(root):].strip("/"))
+        raise Refused(
+            f"resolve_projpath: none of the files listed in global config root_files are present in path "
+            f"`{path}` or "
+            "any of its parent directories"
+        )
+    return Project(root, directory[len(root) :].strip("/"))
 
 
 def enclosing(path: str, roots: List[str]) -> Optional[str]:

@@ -11,9 +11,18 @@ Query = Dict[str, object]
 GLOB_FLAGS = {"includedotfiles": "glob_includedotfiles", "noescape": "glob_noescape"}
 GENERATORS = ("suffix", "path", "glob")
 # Keys that the bridge says otherwise, or obeys by itself.
-OWN_KEYS = ("relative_root", "case_sensitive", "glob", *GLOB_FLAGS.values(), "settle_period", "settle_timeout", "defer",
-            "drop",
-            "defer_vcs", "lock_timeout")
+OWN_KEYS = (
+    "relative_root",
+    "case_sensitive",
+    "glob",
+    *GLOB_FLAGS.values(),
+    "settle_period",
+    "settle_timeout",
+    "defer",
+    "drop",
+    "defer_vcs",
+    "lock_timeout",
+)
 TRUTHS = ("case_sensitive", "dedup_results", "empty_on_fresh_instance", *GLOB_FLAGS.values())
 TIMES = ("sync_timeout", "lock_timeout", "settle_period", "settle_timeout")
 # A step of these in a path leads to no file.
@@ -28,7 +37,11 @@ class Asking(NamedTuple):
 
 
 def asking_of(
-    root: str, query: object, is_in_json: bool, left_out: Sequence[Term] = (), has_later_lists: bool = False,
+    root: str,
+    query: object,
+    is_in_json: bool,
+    left_out: Sequence[Term] = (),
+    has_later_lists: bool = False,
 ) -> Asking:
     """The query to the server for one of a client, without the files that the root's configuration leaves out. One for
     which the server has no words is refused."""

@@ -32,7 +32,10 @@ class Recrawls:
         count = self.counts.get(root)
         if count is None:
             return {}
-        return {"warning": (
-            f"Recrawled this watch {count} times, most recently because:\ndebug-recrawlTo resolve, please review the "
-            f"information on\n{ADVICE}\nTo clear this warning, run:\n"
-            f"`watchman watch-del {root} ; watchman watch-project {root}`\n")}
+        return {
+            "warning": (
+                f"Recrawled this watch {count} times, most recently because:\ndebug-recrawlTo resolve, please review the "
+                f"information on\n{ADVICE}\nTo clear this warning, run:\n"
+                f"`watchman watch-del {root} ; watchman watch-project {root}`\n"
+            )
+        }

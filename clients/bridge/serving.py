@@ -34,12 +34,19 @@ WAITING = 128
 
 
 def main(words: List[str]) -> None:
-    parser = argparse.ArgumentParser(prog="bridge", description=(
-        "Listens for clients of Watchman, which speak BSER or JSON, and asks a wqd that runs."))
+    parser = argparse.ArgumentParser(
+        prog="bridge",
+        description=("Listens for clients of Watchman, which speak BSER or JSON, and asks a wqd that runs."),
+    )
     parser.add_argument("--server", required=True, metavar="PATH", help="the socket of wqd")
     parser.add_argument("--sockname", required=True, metavar="PATH", help="where the bridge listens")
-    parser.add_argument("--grace", type=seconds, default=GRACE, metavar="SECONDS", help=(
-        f"how long a watched directory may be gone before its place is given back; {GRACE:.0f} if left out"))
+    parser.add_argument(
+        "--grace",
+        type=seconds,
+        default=GRACE,
+        metavar="SECONDS",
+        help=(f"how long a watched directory may be gone before its place is given back; {GRACE:.0f} if left out"),
+    )
     given = parser.parse_args(words)
     try:
         Serving(os.path.abspath(given.sockname), os.path.abspath(given.server), given.grace).run()

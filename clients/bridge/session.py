@@ -34,15 +34,18 @@ LIST_BEGIN = b'{"clock":'
 class Keeps(Protocol):
     """It gives back the place of a root whose directory has gone."""
 
-    def add(self, root: str) -> None: ...
+    def add(self, root: str) -> None:
+        ...
 
-    def remove(self, root: str) -> None: ...
+    def remove(self, root: str) -> None:
+        ...
 
 
 class Follows(Protocol):
     """It watches where the links of a root lead."""
 
-    def add(self, root: str) -> None: ...
+    def add(self, root: str) -> None:
+        ...
 
 
 class Bridge(Protocol):
@@ -74,7 +77,10 @@ class Session:
     """One client, and its own connections to the server, of which the first is made for its first message."""
 
     def __init__(
-        self, bridge: Bridge, client: socket.socket, codec: Optional[ModuleType],
+        self,
+        bridge: Bridge,
+        client: socket.socket,
+        codec: Optional[ModuleType],
         answer: Callable[["Session", object], "Reply"],
     ) -> None:
         self.bridge = bridge

@@ -123,7 +123,7 @@ class Walk:
             raise NoValue("a length is no integer")
         start = self.place
         self.skip(size)
-        count = int.from_bytes(self.data[start:self.place], sys.byteorder, signed=True)
+        count = int.from_bytes(self.data[start : self.place], sys.byteorder, signed=True)
         if not 0 <= count <= len(self.data) - self.place:
             raise NoValue(f"a length is {count}, and {len(self.data) - self.place} bytes follow")
         return count

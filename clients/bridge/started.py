@@ -15,12 +15,23 @@ import sys
 
 # The letters of kinds, as the server tells them, and the bits of a mode.
 MODES = {
-    "f": stat.S_IFREG, "d": stat.S_IFDIR, "l": stat.S_IFLNK, "b": stat.S_IFBLK, "c": stat.S_IFCHR, "p": stat.S_IFIFO,
+    "f": stat.S_IFREG,
+    "d": stat.S_IFDIR,
+    "l": stat.S_IFLNK,
+    "b": stat.S_IFBLK,
+    "c": stat.S_IFCHR,
+    "p": stat.S_IFIFO,
     "s": stat.S_IFSOCK,
 }
 OF_STAT = {
-    "mode": "st_mode", "uid": "st_uid", "gid": "st_gid", "ino": "st_ino", "dev": "st_dev", "nlink": "st_nlink",
-    "ctime": "st_ctime", "atime": "st_atime",
+    "mode": "st_mode",
+    "uid": "st_uid",
+    "gid": "st_gid",
+    "ino": "st_ino",
+    "dev": "st_dev",
+    "nlink": "st_nlink",
+    "ctime": "st_ctime",
+    "atime": "st_atime",
 }
 UNITS = {"_ms": 1_000_000, "_us": 1_000, "_ns": 1}
 # The bridge is not waited for longer than this, in seconds: the line of the log is the less important thing.
@@ -31,7 +42,7 @@ def main() -> None:
     definition, sockname, names = json.loads(sys.argv[1]), sys.argv[2], sys.argv[3:]
     root, below = os.environ["WATCHMAN_ROOT"], definition.get("relative_root", "").strip("/")
     above = f"{below}/" if below else ""
-    command = [*definition["command"], *(as_argument(name[len(above):]) for name in names)]
+    command = [*definition["command"], *(as_argument(name[len(above) :]) for name in names)]
     os.environ["WATCHMAN_SOCK"] = sockname
     if below:
         os.environ["WATCHMAN_RELATIVE_ROOT"] = os.path.join(root, below)
@@ -57,8 +68,9 @@ def give_input(style: object, root: str, above: str) -> None:
     if style == "NAME_PER_LINE":
         text = "".join(f"{line[len(above):]}\n" for line in text.split("\n") if line)
     else:
-        text = json.dumps([row_of(found, style, root, above) for found in json.loads(text)],
-                          separators=(",", ":")) + "\n"
+        text = (
+            json.dumps([row_of(found, style, root, above) for found in json.loads(text)], separators=(",", ":")) + "\n"
+        )
     number = os.memfd_create("input")
     with open(number, "wb", closefd=False) as file:
         file.write(text.encode("utf-8", "surrogateescape"))
@@ -69,7 +81,7 @@ def give_input(style: object, root: str, above: str) -> None:
 def row_of(found: dict, fields: list, root: str, above: str) -> object:
     """A file as the definition wants it: with one field it is the bare value. What the server keeps, it has told."""
     file = looked_at(os.path.join(root, found["name"])) if found["exists"] else None
-    found["name"] = found["name"][len(above):]
+    found["name"] = found["name"][len(above) :]
     row = {field: found[field] if field in found else value_of(field, file, found["type"]) for field in fields}
     return row if len(fields) > 1 else row[fields[0]]
 
@@ -98,7 +110,7 @@ def redirect(target: str, number: int) -> None:
     """Sends an output to a file, as `>path`, or to its end, as `>>path`."""
     is_added = target.startswith(">>")
     flags = os.O_CREAT | os.O_WRONLY | (os.O_APPEND if is_added else os.O_TRUNC)
-    file = os.open(target[2 if is_added else 1:], flags, 0o666)
+    file = os.open(target[2 if is_added else 1 :], flags, 0o666)
     os.dup2(file, number)
 
 

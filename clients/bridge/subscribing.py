@@ -26,8 +26,9 @@ def subscribe(session: Session, command: Command) -> Reply:
     settings = session.bridge.configurations.of(root)
     asking = asking_of_subscription(root, command[3], settings.terms())
     assert isinstance(command[3], dict)
-    subscription = Subscription(root, name, asking.query, asking.lister, Policy(command[3]),
-                                settings.number("settle") / 1000)
+    subscription = Subscription(
+        root, name, asking.query, asking.lister, Policy(command[3]), settings.number("settle") / 1000
+    )
     first = list_of_cursor(session, root, asking)
     link = session.links.for_one_more((root, name))
     try:
@@ -140,5 +141,8 @@ def set_paused(session: Session, command: Command) -> Reply:
 def get_subscriptions(session: Session, command: Command) -> Reply:
     """Those of this client: no client sees those of another."""
     root = resolved(command[1])
-    return {"subscribers": [{"info": each.name, "serial": 0} for each in of_root(session, root)], "items": [],
-            "next_serial": 1}
+    return {
+        "subscribers": [{"info": each.name, "serial": 0} for each in of_root(session, root)],
+        "items": [],
+        "next_serial": 1,
+    }

@@ -20,7 +20,8 @@ PAUSE = 1.0
 class Keeps(Protocol):
     """It gives back the place of a root whose directory has gone."""
 
-    def add(self, root: str) -> None: ...
+    def add(self, root: str) -> None:
+        ...
 
 
 class Follower:

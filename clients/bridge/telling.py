@@ -41,7 +41,7 @@ class Teller:
         if begin is None:
             self.cancel(json.loads(line))
             return
-        tail = json.loads(b"{" + line[line.rfind(FILES_END) + 2:])
+        tail = json.loads(b"{" + line[line.rfind(FILES_END) + 2 :])
         subscription = self.session.subscriptions.get((tail["root"], tail["subscription"]))
         if subscription is not None:
             self.take_list(subscription, line, begin.group(1).decode(), begin.group(2) is None)
@@ -60,8 +60,12 @@ class Teller:
         action = TELL if is_first else subscription.action()
         if action == DROP:
             subscription.drop(clock)
-        elif not is_next or subscription.has_more or action == HOLD or (has_files and subscription.settle
-                                                                        and not is_first):
+        elif (
+            not is_next
+            or subscription.has_more
+            or action == HOLD
+            or (has_files and subscription.settle and not is_first)
+        ):
             subscription.has_more = subscription.told != clock
             subscription.seen = clock
             subscription.due = time.monotonic() + (subscription.settle or PAUSE * (action == HOLD))
@@ -93,7 +97,7 @@ class Teller:
         has_files = begin.group(2) is None
         keys = {"root": subscription.root, "subscription": subscription.name, **BY_ITSELF}
         tail = json_of(keys)[1:-1].encode("utf-8", "surrogatepass") + b"," + VERSION_LAST
-        self.tell_list(subscription, line[:-len(VERSION_LAST)] + tail, begin.group(1).decode(), has_files)
+        self.tell_list(subscription, line[: -len(VERSION_LAST)] + tail, begin.group(1).decode(), has_files)
         return has_files
 
     def held_back(self) -> List[Subscription]:
@@ -138,8 +142,11 @@ class Teller:
     def tell_state(self, notice: Notice) -> None:
         """Tells each subscription of the root that a state was entered or left."""
         subscriptions = [each for each in self.session.subscriptions.values() if each.root == notice.root]
-        keys = notice.keys if "clock" in notice.keys or not subscriptions else {**notice.keys,
-                                                                                **self.clock_of(notice.root)}
+        keys = (
+            notice.keys
+            if "clock" in notice.keys or not subscriptions
+            else {**notice.keys, **self.clock_of(notice.root)}
+        )
         for subscription in subscriptions:
             if ENTERS in keys:
                 subscription.states.add(str(keys[ENTERS]))

@@ -52,7 +52,18 @@ def in_order(file: object) -> str:
 
 def start_watchman(room: Path) -> subprocess.Popen:
     """Watchman in the foreground, with all its files in a directory."""
-    words = ["--foreground", f"--sockname={room}/own", f"--logfile={room}/own.log", f"--statefile={room}/own.state",
-             f"--pidfile={room}/own.pid", "--no-save-state"]
-    return subprocess.Popen([WATCHMAN, *words], stdin=subprocess.DEVNULL, stdout=subprocess.DEVNULL,
-                            stderr=subprocess.DEVNULL, env={**os.environ, "HOME": str(room)})
+    words = [
+        "--foreground",
+        f"--sockname={room}/own",
+        f"--logfile={room}/own.log",
+        f"--statefile={room}/own.state",
+        f"--pidfile={room}/own.pid",
+        "--no-save-state",
+    ]
+    return subprocess.Popen(
+        [WATCHMAN, *words],
+        stdin=subprocess.DEVNULL,
+        stdout=subprocess.DEVNULL,
+        stderr=subprocess.DEVNULL,
+        env={**os.environ, "HOME": str(room)},
+    )

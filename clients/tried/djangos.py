@@ -73,7 +73,7 @@ class Site:
         end = time.monotonic() + seconds
         while True:
             page = self.page()
-            if page[place:place + 1] == [word] or time.monotonic() > end:
+            if page[place : place + 1] == [word] or time.monotonic() > end:
                 return page
             time.sleep(PAUSE)
 
@@ -85,7 +85,7 @@ class Site:
             put(attempt)
             self.again += attempt > 0
             page = self.shows(place, word, TOO_LONG)
-            if page[place:place + 1] == [word]:
+            if page[place : place + 1] == [word]:
                 return page
         return []
 
@@ -101,10 +101,12 @@ def try_django(room: Room) -> Outcome:
         found = [reloader, restarts, *with_new_module(site)]
     finally:
         end_of(server, room)
-    done = (f"`WatchmanReloader` is taken; {ROUNDS} rounds: it starts anew after an edit of a module and shows an "
-            f"edited "
-            f"template; it starts anew for a new module, and after an edit of that; {site.again} edits were too early "
-            f"and made again")
+    done = (
+        f"`WatchmanReloader` is taken; {ROUNDS} rounds: it starts anew after an edit of a module and shows an "
+        f"edited "
+        f"template; it starts anew for a new module, and after an edit of that; {site.again} edits were too early "
+        f"and made again"
+    )
     return outcome(done, found, [True, ROUNDS, "n0", "n1"])
 
 
@@ -125,13 +127,21 @@ def with_new_module(site: Site) -> List[str]:
     site.room.put("site/newer.py", "NEW = 'n0'\n")
     urls = URLS % ("import newer", "newer.NEW")
     page = site.shows_after(lambda attempt: site.room.put("site/urls.py", urls + " " * attempt) and None, 3, "n0")
-    later = site.shows_after(lambda attempt: site.room.put("site/newer.py", f"NEW = 'n1'{' ' * attempt}\n") and None, 3,
-                             "n1")
+    later = site.shows_after(
+        lambda attempt: site.room.put("site/newer.py", f"NEW = 'n1'{' ' * attempt}\n") and None, 3, "n1"
+    )
     return [*page[3:4], *later[3:4]]
 
 
 def end_of(server: Running, room: Room) -> None:
     """The server that serves is a child of the one that was started."""
-    room.run(["sh", "-c", 'for child in $(cat /proc/$1/task/$1/children); do kill "$child"; done', "sh",
-              str(server.process.pid)])
+    room.run(
+        [
+            "sh",
+            "-c",
+            'for child in $(cat /proc/$1/task/$1/children); do kill "$child"; done',
+            "sh",
+            str(server.process.pid),
+        ]
+    )
     server.end()

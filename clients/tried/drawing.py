@@ -5,13 +5,36 @@ import random
 from pathlib import Path
 from typing import Dict, List
 
-DIRECTORIES = ["", "src", "src/deep", "src/deep/er", "Lib", "Lib/deep", "src/out", "src/out/deep", ".hid", "src/.hid",
-               "s p"]
+DIRECTORIES = [
+    "",
+    "src",
+    "src/deep",
+    "src/deep/er",
+    "Lib",
+    "Lib/deep",
+    "src/out",
+    "src/out/deep",
+    ".hid",
+    "src/.hid",
+    "s p",
+]
 STEMS = ["a", "b", "A", "main", "x_test", "ü", "a.b", ".dot", "q1", "README"]
 SUFFIXES = ["", ".c", ".h", ".C", ".py", ".txt"]
-FIELDS = ["name", "exists", "type", "size", "mode", "mtime", "mtime_ms", "mtime_ns", "uid", "nlink", "ino",
-          "symlink_target",
-          "content.sha1hex"]
+FIELDS = [
+    "name",
+    "exists",
+    "type",
+    "size",
+    "mode",
+    "mtime",
+    "mtime_ms",
+    "mtime_ns",
+    "uid",
+    "nlink",
+    "ino",
+    "symlink_target",
+    "content.sha1hex",
+]
 # Watchman looks at these of a directory only when a file comes, and not when one goes.
 OF_DIRECTORIES = {"mtime", "mtime_ms", "mtime_ns", "nlink"}
 
@@ -98,18 +121,27 @@ class Queries:
         i, scope = draw.choice(["", "i"]), draw.choice([[], ["basename"], ["wholename"]])
         name = draw.choice(STEMS) + draw.choice(SUFFIXES)
         whole = draw.choice(["src/", "deep/", "SRC/Deep/"]) + name
-        return draw.choice([
-            "true", "false", "exists", "empty", ["type", draw.choice("fdl")],
-            ["suffix", draw.choice(["c", "C", "h", "py"])],
-            ["size", draw.choice(["eq", "ne", "gt", "ge", "lt", "le"]), draw.choice([0, 1, 10, 4096])],
-            [f"{i}name", draw.choice([name, whole, [name, whole, "main.c"]]), *scope],
-            [f"{i}match", *self.pattern(scope)],
-            [f"{i}dirname", draw.choice(["src", "src/deep", "SRC", "", "none"]),
-             *draw.choice([[], [["depth", "ge", 1]]])],
-            ["since", draw.choice([0, -1, 1_000_000_000, 4_000_000_000]), "mtime"],
-            # Watchman has the times of directories as they were when a file last came.
-            ["allof", ["not", ["type", "d"]], ["since", self.tree.second(), "mtime"]],
-        ])
+        return draw.choice(
+            [
+                "true",
+                "false",
+                "exists",
+                "empty",
+                ["type", draw.choice("fdl")],
+                ["suffix", draw.choice(["c", "C", "h", "py"])],
+                ["size", draw.choice(["eq", "ne", "gt", "ge", "lt", "le"]), draw.choice([0, 1, 10, 4096])],
+                [f"{i}name", draw.choice([name, whole, [name, whole, "main.c"]]), *scope],
+                [f"{i}match", *self.pattern(scope)],
+                [
+                    f"{i}dirname",
+                    draw.choice(["src", "src/deep", "SRC", "", "none"]),
+                    *draw.choice([[], [["depth", "ge", 1]]]),
+                ],
+                ["since", draw.choice([0, -1, 1_000_000_000, 4_000_000_000]), "mtime"],
+                # Watchman has the times of directories as they were when a file last came.
+                ["allof", ["not", ["type", "d"]], ["since", self.tree.second(), "mtime"]],
+            ]
+        )
 
     def pattern(self, scope: List[str]) -> List[object]:
         """Patterns without a star at their beginning that a dot alone could follow, and without two stars at their

@@ -91,9 +91,11 @@ def try_large_checkout(room: Room) -> Outcome:
     git(room, "checkout", "-q", "HEAD^")
     room.put("d1/e1/f1.c", "changed\n")
     found = [status(room), status(room, "-c", "core.fsmonitor=false")]
-    done = (f"a checkout that changes {DIRECTORIES // 2} of {DIRECTORIES * FILES:,} files; `git status` takes "
-            f"{with_hook:.2f} s "
-            f"with the hook and {without:.2f} s without it")
+    done = (
+        f"a checkout that changes {DIRECTORIES // 2} of {DIRECTORIES * FILES:,} files; `git status` takes "
+        f"{with_hook:.2f} s "
+        f"with the hook and {without:.2f} s without it"
+    )
     return outcome(done, found, [[" M d1/e1/f1.c"]] * 2)
 
 

@@ -42,6 +42,7 @@ def main(source: str, kind: str, results: str, part: str = "") -> None:
     os.environ["WATCHMAN_EMPTY_ENV_VAR"] = ""
     import TempDir
     import WatchmanInstance
+
     room = TempDir.get_temp_dir(False).get_dir()
     if kind == "bridge":
         put_command_on_path(room)
@@ -73,8 +74,17 @@ def start(self) -> None:
     server = f"{self.sock_file}.wqd"
     environment = {**os.environ, "PYTHONDONTWRITEBYTECODE": "1", "WATCHMAN_CONFIG_FILE": self.cfg_file}
     Path(self.log_file_name).touch()
-    words = ["serve", "--sockname", server, "--start", str(int(time.time())), "--pid", str(os.getpid()), "--interval",
-             INTERVAL]
+    words = [
+        "serve",
+        "--sockname",
+        server,
+        "--start",
+        str(int(time.time())),
+        "--pid",
+        str(os.getpid()),
+        "--interval",
+        INTERVAL,
+    ]
     log = self.cli_log_file
     self.server = subprocess.Popen([str(CLIENTS.parent / "wqd"), *words], env=environment, stdout=log, stderr=log)
     wait_for(server)

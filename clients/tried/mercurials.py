@@ -95,7 +95,14 @@ class Repository:
 
     def change(self) -> None:
         edits: List[Callable[[], None]] = [
-            self.put, self.put, self.put, self.delete, self.rename, self.rename, self.move_directory, self.ignore,
+            self.put,
+            self.put,
+            self.put,
+            self.delete,
+            self.rename,
+            self.rename,
+            self.move_directory,
+            self.ignore,
         ]
         for _ in range(self.draw.randrange(1, 5)):
             self.draw.choice(edits)()
@@ -118,8 +125,9 @@ def lists_of_an_update(room: Room, repository: Repository) -> List[object]:
         repository.hg("update", "--clean", "-q", ".^")
         while lines.has_line(SILENCE):
             value = json.loads(lines.line())
-            found.append(len(value["files"]) if "files" in value
-                         else next(key for key in value if key.startswith("state-")))
+            found.append(
+                len(value["files"]) if "files" in value else next(key for key in value if key.startswith("state-"))
+            )
     return found
 
 
@@ -137,8 +145,11 @@ def try_mercurial(room: Room) -> Outcome:
         own, plain = repository.status(), repository.status("--config", "extensions.fsmonitor=!")
         differing += own != plain
     update = lists_of_an_update(room, repository)
-    done = (f"`debuginstall`; the status is the same as without it over {ROUNDS} rounds of drawn edits, renames, "
-            f"deletions, "
-            f"directories, `.hgignore`, commit, update and revert; an update of {MANY} files comes in one list")
-    return outcome(done, [*found, differing, update],
-                   [True, "no problems detected", 0, ["state-enter", "state-leave", MANY]])
+    done = (
+        f"`debuginstall`; the status is the same as without it over {ROUNDS} rounds of drawn edits, renames, "
+        f"deletions, "
+        f"directories, `.hgignore`, commit, update and revert; an update of {MANY} files comes in one list"
+    )
+    return outcome(
+        done, [*found, differing, update], [True, "no problems detected", 0, ["state-enter", "state-leave", MANY]]
+    )

@@ -15,19 +15,30 @@ def try_fb_watchman(room: Room) -> Outcome:
     (room.project / ".git").mkdir()
     room.put("sub/a.c")
     said = script(room, "with_fb_watchman.js")
-    expected = ['{"relative_root":true,"nothing":false}', "sub", '["a.c"]', "unknown command frob",
-                '[["b.c",true,true]]',
-                '[["a.c",false,false]]']
-    return outcome("capabilities, watch-project, query below it, an error, a subscription: a file comes and one goes",
-                   said, expected)
+    expected = [
+        '{"relative_root":true,"nothing":false}',
+        "sub",
+        '["a.c"]',
+        "unknown command frob",
+        '[["b.c",true,true]]',
+        '[["a.c",false,false]]',
+    ]
+    return outcome(
+        "capabilities, watch-project, query below it, an error, a subscription: a file comes and one goes",
+        said,
+        expected,
+    )
 
 
 def try_sane(room: Room) -> Outcome:
     (room.project / ".git").mkdir()
     room.put("sub/a.js")
     said = script(room, "with_sane.js")
-    return outcome("a new file, a change, a deleted file; files that its patterns do not fit",
-                   said, ["ready", "add b.js", "change b.js", "delete a.js"])
+    return outcome(
+        "a new file, a change, a deleted file; files that its patterns do not fit",
+        said,
+        ["ready", "add b.js", "change b.js", "delete a.js"],
+    )
 
 
 def try_sane_restarts(room: Room) -> Outcome:
@@ -48,8 +59,12 @@ def ends_under_sane(room: Room) -> Outcome:
             found.append(is_told(room, sane, f"b{number}.js"))
     finally:
         sane.end()
-    return outcome("a new file before the server ends, after it, after it was killed, and after the bridge was killed, "
-                   "though no first process reaps", found, [True] * 5)
+    return outcome(
+        "a new file before the server ends, after it, after it was killed, and after the bridge was killed, "
+        "though no first process reaps",
+        found,
+        [True] * 5,
+    )
 
 
 def is_told(room: Room, sane: Running, name: str) -> bool:
@@ -85,8 +100,9 @@ def try_jest(room: Room) -> Outcome:
         found += [count_of_tests(jest, 2), failed_crawls(jest)]
     finally:
         jest.end()
-    return outcome("first crawl; watch mode: a change, a new test, a deleted one", found,
-                   [1, [str(room.project)], 2, 3, 2, []])
+    return outcome(
+        "first crawl; watch mode: a change, a new test, a deleted one", found, [1, [str(room.project)], 2, 3, 2, []]
+    )
 
 
 def try_jest_in_git(room: Room) -> Outcome:
@@ -107,8 +123,11 @@ def try_jest_in_git(room: Room) -> Outcome:
         found += [count_of_tests(jest, 3), room.watchman("watch-list")["roots"], failed_crawls(jest)]
     finally:
         jest.end()
-    return outcome("in a git repository: the tests of a changed module, of a second one, and a new test", found,
-                   [1, 2, 3, [str(room.project)], []])
+    return outcome(
+        "in a git repository: the tests of a changed module, of a second one, and a new test",
+        found,
+        [1, 2, 3, [str(room.project)], []],
+    )
 
 
 def failed_crawls(jest: Running) -> list:
@@ -118,6 +137,7 @@ def failed_crawls(jest: Running) -> list:
 
 def count_of_tests(jest: Running, expected: int) -> int:
     """How many tests the last run of jest had, as soon as it is the expected number."""
+
     def count(lines: list) -> int:
         runs = TOTAL.findall(COLOURS.sub("", "\n".join(lines)))
         return int(runs[-1][1]) if runs else 0

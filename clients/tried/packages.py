@@ -20,8 +20,9 @@ OVER_USR = 'mount -t overlay overlay -o lowerdir="$1":/usr /usr && shift && exec
 
 
 def is_installed(package: str) -> bool:
-    said = subprocess.run(["dpkg-query", "-W", "-f", "${Status}", package], stdout=subprocess.PIPE,
-                          stderr=subprocess.DEVNULL)
+    said = subprocess.run(
+        ["dpkg-query", "-W", "-f", "${Status}", package], stdout=subprocess.PIPE, stderr=subprocess.DEVNULL
+    )
     return said.stdout == b"install ok installed"
 
 
@@ -71,8 +72,9 @@ class Packages:
             self.faults.update(dict.fromkeys(apart, fault))
 
     def install(self, packages: List[str]) -> None:
-        ended = subprocess.run(["apt-get", "install", "-y", *packages], stdout=subprocess.PIPE,
-                               stderr=subprocess.STDOUT)
+        ended = subprocess.run(
+            ["apt-get", "install", "-y", *packages], stdout=subprocess.PIPE, stderr=subprocess.STDOUT
+        )
         if ended.returncode != 0:
             reason = ended.stdout.decode("utf-8", "replace").splitlines()[-1]
             self.faults.update(dict.fromkeys(packages, reason))
@@ -89,12 +91,27 @@ class Packages:
         status = self.room / "status"
         known = Path(STATUS).read_text(encoding="utf-8").split("\n\n")
         names = {entry: name_in(entry) for entry in known}
-        status.write_text("\n\n".join(entry for entry in known if names[entry] != NODE
-                                      and not is_of_node(names[entry])))
+        status.write_text(
+            "\n\n".join(entry for entry in known if names[entry] != NODE and not is_of_node(names[entry]))
+        )
         fetched = subprocess.run(
-            ["apt-get", "-y", "--download-only", "--no-install-recommends", "-o", f"Dir::State::status={status}",
-             "-o", f"Dir::Cache::archives={archives}", "-o", f"Dir::Etc::PreferencesParts={self.room}",
-             "install", NODE, *packages], stdout=subprocess.PIPE, stderr=subprocess.STDOUT,
+            [
+                "apt-get",
+                "-y",
+                "--download-only",
+                "--no-install-recommends",
+                "-o",
+                f"Dir::State::status={status}",
+                "-o",
+                f"Dir::Cache::archives={archives}",
+                "-o",
+                f"Dir::Etc::PreferencesParts={self.room}",
+                "install",
+                NODE,
+                *packages,
+            ],
+            stdout=subprocess.PIPE,
+            stderr=subprocess.STDOUT,
         )
         if fetched.returncode != 0:
             return fetched.stdout.decode("utf-8", "replace").splitlines()[-1]

@@ -24,12 +24,15 @@ def try_own_command(room: Room) -> Outcome:
         return json.loads(room.run([*words, *command], text).stdout)
 
     found = [
-        said("watch", root)["watch"], said("watch-list")["roots"],
+        said("watch", root)["watch"],
+        said("watch-list")["roots"],
         sorted(said("-j", text=json.dumps(["query", root, {"suffix": "c", "fields": ["name"]}]))["files"]),
         [row["name"] for row in said("--", "find", root, "*.c")["files"]],
         [row["name"] for row in said("--", "since", root, "c:0:0", "d/*.c")["files"]],
-        said("--server-encoding=json", "version")["version"], said("--server-encoding=bser-v2", "version")["version"],
-        said("frob")["error"], said("watch-del", root)["watch-del"],
+        said("--server-encoding=json", "version")["version"],
+        said("--server-encoding=bser-v2", "version")["version"],
+        said("frob")["error"],
+        said("watch-del", root)["watch-del"],
     ]
     expected = [root, [root], ["a.c", "d/b.c"], ["a.c"], ["d/b.c"], "4.9.0", "4.9.0", "unknown command frob", True]
     return outcome("watch, query, find, since; BSER 1, BSER 2 and JSON", found, expected)
@@ -37,6 +40,7 @@ def try_own_command(room: Room) -> Outcome:
 
 def try_killed_server(room: Room) -> Outcome:
     """The command names no bridge of a dead server, also while that server is still in the system's table."""
+
     def answers() -> list:
         """The socket is asked as clients do: by the command, and then by itself."""
         words = json.loads(room.run(["watchman", "--output-encoding=json", "--no-pretty", "get-sockname"]).stdout)
@@ -49,19 +53,32 @@ def try_killed_server(room: Room) -> Outcome:
         for kill in (room.kill_server, room.kill_bridge):
             kill()
             found.append(answers())
-    return outcome("get-sockname and a question after the server or the bridge was killed, though no first process "
-                   "reaps", found, [[], [], []])
+    return outcome(
+        "get-sockname and a question after the server or the bridge was killed, though no first process " "reaps",
+        found,
+        [[], [], []],
+    )
 
 
 def try_pywatchman(room: Room) -> Outcome:
     (room.project / ".git").mkdir()
     room.put("sub/a.c")
     said = room.python("with_pywatchman.py", str(room.project))
-    expected = ["{'relative_root': True}", "sub", "['a.c']", "is not watched", "['a.c']", "[('b.c', True, True)]",
-                "[('a.c', False)]"]
+    expected = [
+        "{'relative_root': True}",
+        "sub",
+        "['a.c']",
+        "is not watched",
+        "['a.c']",
+        "[('b.c', True, True)]",
+        "[('a.c', False)]",
+    ]
     found = said.stdout.splitlines() or said.stderr.splitlines()[-1:]
-    return outcome("capabilities, watch-project, query below it, an error, a subscription: a file comes and one goes",
-                   found, expected)
+    return outcome(
+        "capabilities, watch-project, query below it, an error, a subscription: a file comes and one goes",
+        found,
+        expected,
+    )
 
 
 def try_wait(room: Room) -> Outcome:
@@ -78,14 +95,18 @@ def try_wait(room: Room) -> Outcome:
     room.put("sub/new.c")
     waiting.waits_for(lambda lines: "new.c" in lines)
     waiting.end()
-    return outcome("silent before a change; a change, a new file; nothing of what its pattern does not fit",
-                   [is_silent, sorted(set(waiting.lines()))], [True, ["a.c", "new.c"]])
+    return outcome(
+        "silent before a change; a change, a new file; nothing of what its pattern does not fit",
+        [is_silent, sorted(set(waiting.lines()))],
+        [True, ["a.c", "new.c"]],
+    )
 
 
 def try_make(room: Room) -> Outcome:
     room.put("sub/a.c")
-    making = room.begin([PYTHON, "-u", "/usr/bin/watchman-make", "--root", "sub", "--pattern", "**/*.c", "--run",
-                         "echo built"], "make")
+    making = room.begin(
+        [PYTHON, "-u", "/usr/bin/watchman-make", "--root", "sub", "--pattern", "**/*.c", "--run", "echo built"], "make"
+    )
 
     def built(lines: list) -> int:
         return lines.count("built")
@@ -102,8 +123,9 @@ def try_make(room: Room) -> Outcome:
     making.waits_for(lambda lines: built(lines) == 2)
     third = built(making.lines())
     making.end()
-    return outcome("runs after a new file and after a deleted one, and not before", [at_first, second, third],
-                   [0, 1, 2])
+    return outcome(
+        "runs after a new file and after a deleted one, and not before", [at_first, second, third], [0, 1, 2]
+    )
 
 
 MAKEFILE = "all: a.o b.o\n%.o: %.c\n\tcp $< $@ && echo built $@\n"
@@ -134,6 +156,8 @@ def try_makefile(room: Room) -> Outcome:
     making.waits_for(lambda lines: len(built(lines)) == 4)
     found = [at_first, built(making.lines()), (room.project / "b.o").read_text(), (room.project / "c.o").exists()]
     making.end()
-    return outcome("a real Makefile: all of it after a first change, one file after another, and a target that is new",
-                   found,
-                   [[], ["a.o", "b.o", "b.o", "c.o"], "y\n", True])
+    return outcome(
+        "a real Makefile: all of it after a first change, one file after another, and a target that is new",
+        found,
+        [[], ["a.o", "b.o", "b.o", "c.o"], "y\n", True],
+    )

@@ -68,9 +68,13 @@ class Room:
         state.mkdir(mode=0o700)
         (bin_ / "watchman").symlink_to(COMMAND)
         self.environment: Dict[str, str] = {
-            **os.environ, "PATH": f"{bin_}:/usr/bin:/bin:/usr/sbin:/sbin", "XDG_RUNTIME_DIR": str(state),
+            **os.environ,
+            "PATH": f"{bin_}:/usr/bin:/bin:/usr/sbin:/sbin",
+            "XDG_RUNTIME_DIR": str(state),
             "HOME": str(path),
-            "WQD_INTERVAL": str(interval), "PYTHONDONTWRITEBYTECODE": "1", "GIT_CONFIG_NOSYSTEM": "1",
+            "WQD_INTERVAL": str(interval),
+            "PYTHONDONTWRITEBYTECODE": "1",
+            "GIT_CONFIG_NOSYSTEM": "1",
         }
         for name in ("WATCHMAN_SOCK", "WQD_SOCK"):
             self.environment.pop(name, None)
@@ -88,15 +92,25 @@ class Room:
 
     def run(self, command: List[str], text: str = "", at: Optional[Path] = None) -> "subprocess.CompletedProcess[str]":
         return subprocess.run(
-            self.packages.words(command), input=text, capture_output=True, env=self.environment,
-            cwd=at or self.project, timeout=PATIENCE * 5, encoding="utf-8", errors="replace",
+            self.packages.words(command),
+            input=text,
+            capture_output=True,
+            env=self.environment,
+            cwd=at or self.project,
+            timeout=PATIENCE * 5,
+            encoding="utf-8",
+            errors="replace",
         )
 
     def begin(self, command: List[str], name: str) -> Running:
         log = self.path / f"{name}.log"
         with open(log, "wb") as file:
             process = subprocess.Popen(
-                self.packages.words(command), stdin=subprocess.DEVNULL, stdout=file, stderr=file, env=self.environment,
+                self.packages.words(command),
+                stdin=subprocess.DEVNULL,
+                stdout=file,
+                stderr=file,
+                env=self.environment,
                 cwd=self.project,
             )
         return Running(process, log)

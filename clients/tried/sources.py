@@ -33,9 +33,15 @@ def options_of(room: Path) -> List[str]:
     """Words for apt that have it use the sources of this release alone, and directories of the room."""
     sources = room / "parts" / "here.sources"
     sources.write_text(f"Types: deb-src\nURIs: {SERVER}\nSuites: {release()}\nComponents: main\nSigned-By: {KEYS}\n")
-    places = {"Dir::Etc::SourceList": "/dev/null", "Dir::Etc::SourceParts": str(room / "parts"),
-              "Dir::State::Lists": str(room / "lists"), "Dir::Cache::Archives": str(room / "archives"),
-              "Dir::Cache::PkgCache": "", "Dir::Cache::SrcPkgCache": "", "APT::Sandbox::User": "root"}
+    places = {
+        "Dir::Etc::SourceList": "/dev/null",
+        "Dir::Etc::SourceParts": str(room / "parts"),
+        "Dir::State::Lists": str(room / "lists"),
+        "Dir::Cache::Archives": str(room / "archives"),
+        "Dir::Cache::PkgCache": "",
+        "Dir::Cache::SrcPkgCache": "",
+        "APT::Sandbox::User": "root",
+    }
     return [word for key, value in places.items() for word in ("-o", f"{key}={value}")]
 
 

@@ -28,5 +28,8 @@ def try_command_t(room: Room) -> Outcome:
     said = room.run(["vim", "-e", "-s", "-N", "-u", "NONE", "-S", str(script)])
     lines = found.read_text().splitlines() if found.exists() else (said.stdout + said.stderr).splitlines()
     watched = room.watchman("watch-list")["roots"]
-    return outcome("its scanner in vim lists the files, and a new one", [lines, watched],
-                   [["a.c", "deep/b.c", "a.c", "deep/b.c", "new.c"], [str(room.project)]])
+    return outcome(
+        "its scanner in vim lists the files, and a new one",
+        [lines, watched],
+        [["a.c", "deep/b.c", "a.c", "deep/b.c", "new.c"], [str(room.project)]],
+    )

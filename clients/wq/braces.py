@@ -29,8 +29,8 @@ def expanded(word: str) -> List[str]:
         elif word[place] == "{":
             cuts = cuts_of(word, place)
             if len(cuts) > 2:
-                choices = [word[begin + 1:end] for begin, end in zip(cuts, cuts[1:])]
-                rest = expanded(word[cuts[-1] + 1:])
+                choices = [word[begin + 1 : end] for begin, end in zip(cuts, cuts[1:])]
+                rest = expanded(word[cuts[-1] + 1 :])
                 return [word[:place] + inner + end for choice in choices for inner in expanded(choice) for end in rest]
         place += 1
     return [word]

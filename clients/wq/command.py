@@ -12,8 +12,14 @@ from .trouble import BROKEN_PIPE, FAILED, FOUND, INTERRUPTED, Trouble, WrongWord
 
 # The module of each command that is not named after it.
 MODULES: Dict[str, str] = {
-    "watch": "watches", "unwatch": "watches", "roots": "watches", "trigger": "triggers", "untrigger": "triggers",
-    "start": "serving", "stop": "serving", "restart": "serving",
+    "watch": "watches",
+    "unwatch": "watches",
+    "roots": "watches",
+    "trigger": "triggers",
+    "untrigger": "triggers",
+    "start": "serving",
+    "stop": "serving",
+    "restart": "serving",
 }
 
 
@@ -62,6 +68,7 @@ def run(words: List[str], home: Home) -> int:
     # What a command does not need is not read.
     if command in ("--help", "-h", "help"):
         from .usage import USAGE
+
         sys.stdout.write(USAGE)
         sys.stdout.flush()
         return FOUND
@@ -70,11 +77,14 @@ def run(words: List[str], home: Home) -> int:
         return FOUND
     if command == "--names":
         from .completing import print_names
+
         return print_names(words[1:], home)
     from .words import FORMS, read
+
     if command not in FORMS:
         from .foreign import COMMANDS
         from .vocabulary import meant
+
         is_option = command.startswith("-")
         known = ("--help", "--version") if is_option else FORMS
         hint = f"; use `wq {COMMANDS[command]}`" if command in COMMANDS else meant(command, known).replace('"', "")

@@ -80,8 +80,14 @@ def prepare(is_alone: bool, signals: Set[signal.Signals]) -> None:
 class Run:
     """A run of the command. If its names are too long for one process, several run one after the other."""
 
-    def __init__(self, command: Command, lines: List[List[str]], paths: List[str], environment: Dict[str, str],
-                 signals: Set[signal.Signals]) -> None:
+    def __init__(
+        self,
+        command: Command,
+        lines: List[List[str]],
+        paths: List[str],
+        environment: Dict[str, str],
+        signals: Set[signal.Signals],
+    ) -> None:
         self.command = command
         self.lines = lines
         self.paths = paths
@@ -99,7 +105,9 @@ class Run:
         stream = self.command.input_of(self.paths)
         try:
             self.process = subprocess.Popen(
-                words, stdin=stream, env=self.environment,
+                words,
+                stdin=stream,
+                env=self.environment,
                 preexec_fn=lambda: prepare(self.command.is_alone, self.signals),
             )
         except OSError as error:

@@ -139,7 +139,12 @@ def begin(command: List[str], directory: Path, log: str, signals: Set[signal.Sig
     """Begins a command, which blocks these signals alone."""
     with open(log, "wb") as output:
         return subprocess.Popen(
-            command, cwd=directory, start_new_session=True, stdin=subprocess.DEVNULL, stdout=output, stderr=output,
+            command,
+            cwd=directory,
+            start_new_session=True,
+            stdin=subprocess.DEVNULL,
+            stdout=output,
+            stderr=output,
             preexec_fn=lambda: signal.pthread_sigmask(signal.SIG_SETMASK, signals),
         )
 

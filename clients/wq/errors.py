@@ -5,8 +5,17 @@ import re
 from typing import Any, Callable, Dict, Iterator, List
 
 from wqprogram.compiler import LONGEST_CODE
-from wqprogram.limits import (MAX_CURSORS, MAX_JSON_DEPTH, MAX_LINE, MAX_PROGRAM_NAME, MAX_PROGRAMS, MAX_ROOT, MAX_ROWS,
-                              MAX_SUBSCRIPTIONS, MAX_TRIGGERS)
+from wqprogram.limits import (
+    MAX_CURSORS,
+    MAX_JSON_DEPTH,
+    MAX_LINE,
+    MAX_PROGRAM_NAME,
+    MAX_PROGRAMS,
+    MAX_ROOT,
+    MAX_ROWS,
+    MAX_SUBSCRIPTIONS,
+    MAX_TRIGGERS,
+)
 
 from .faults import sentences
 from .questions import Look
@@ -34,6 +43,7 @@ def object_of(command: List[Any]) -> Dict[str, Any]:
 
 # Lines and commands.
 
+
 def long_line(command: Any, look: Look) -> Iterator[str]:
     yield f"a line may have {MAX_LINE:,} bytes; ask in several"
 
@@ -44,7 +54,7 @@ def no_json(command: Any, look: Look) -> Iterator[str]:
 
 
 def no_command(command: Any, look: Look) -> Iterator[str]:
-    shape = "a line is a list that begins with the name of a command, such as [\"watch-list\"]"
+    shape = 'a line is a list that begins with the name of a command, such as ["watch-list"]'
     yield f"{shape}, and this is {kind_of(command)}"
 
 
@@ -61,17 +71,18 @@ def wrong_arguments(command: Any, look: Look) -> Iterator[str]:
     if len(arguments) not in range(shape.fewest, len(shape.kinds) + 1):
         noun = "argument" if counts == [1] else "arguments"
         kinds = ", ".join(shape.kinds) or "none"
-        yield f"\"{name}\" takes {takes} {noun} ({kinds}), and there are {len(arguments)}: {shape.example}"
+        yield f'"{name}" takes {takes} {noun} ({kinds}), and there are {len(arguments)}: {shape.example}'
         return
     for number, (kind, value) in enumerate(zip(shape.kinds, arguments), 1):
         wanted = dict if kind == "object" else str
         if not isinstance(value, wanted):
             word = "an object" if kind == "object" else "a text"
-            yield f"argument {number} of \"{name}\" is the {kind}, {word}, and not {kind_of(value)}: {shape.example}"
+            yield f'argument {number} of "{name}" is the {kind}, {word}, and not {kind_of(value)}: {shape.example}'
             return
 
 
 # Roots.
+
 
 def not_absolute(command: Any, look: Look) -> Iterator[str]:
     root = command[1]
@@ -108,18 +119,20 @@ def many_roots(command: Any, look: Look) -> Iterator[str]:
 def not_watched(command: Any, look: Look) -> Iterator[str]:
     root, roots = command[1], look("watch-list").get("roots", [])
     hint = meant(root, roots) or (f"; watched are {', '.join(roots)}" if roots else "; no root is")
-    yield f"{quoted(root)} is not watched{hint}. [\"watch\",{quoted(root)}] watches it"
+    yield f'{quoted(root)} is not watched{hint}. ["watch",{quoted(root)}] watches it'
 
 
 # Expressions, names and programs.
 
+
 def expression_and_program(command: Any, look: Look) -> Iterator[str]:
-    yield "\"expression\" and \"program\" are both there, and a program takes the place of the expression: take one out"
+    yield '"expression" and "program" are both there, and a program takes the place of the expression: take one out'
 
 
 def large_program(command: Any, look: Look) -> Iterator[str]:
     most = f"the program of an expression has at most {LONGEST_CODE:,} instructions, and a list of it as many texts"
-    yield f"{most}; name many files by one list: [\"name\",[..]]"
+    yield f'{most}; name many files by one list: ["name",[..]]'
+
 
 def no_program(command: Any, look: Look) -> Iterator[str]:
     name, names = object_of(command).get("program"), look("program-list").get("programs", [])
@@ -131,19 +144,18 @@ def no_program(command: Any, look: Look) -> Iterator[str]:
 def bad_name(command: Any, look: Look) -> Iterator[str]:
     name = object_of(command).get("name") if command[0] == "trigger" else command[1 if "program" in command[0] else 2]
     length = len(name.encode())
-    yield f"the name is empty, and has 1 to {MAX_PROGRAM_NAME} bytes" if not length else \
-        f"the name has {length:,} bytes, and at most {MAX_PROGRAM_NAME} may be: {quoted(name)}"
+    yield f"the name is empty, and has 1 to {MAX_PROGRAM_NAME} bytes" if not length else f"the name has {length:,} bytes, and at most {MAX_PROGRAM_NAME} may be: {quoted(name)}"
 
 
 def full_shelf(command: Any, look: Look) -> Iterator[str]:
     if command[0] == "program-add":
-        yield f"{MAX_PROGRAMS} programs are stored; [\"program-del\",NAME] takes one out"
+        yield f'{MAX_PROGRAMS} programs are stored; ["program-del",NAME] takes one out'
     else:
         yield f"the root has {MAX_CURSORS} cursors; they go with its watch: `wq unwatch DIR`"
 
 
 def many_subscriptions(command: Any, look: Look) -> Iterator[str]:
-    yield f"this connection has {MAX_SUBSCRIPTIONS} subscriptions; [\"unsubscribe\",ROOT,NAME] ends one"
+    yield f'this connection has {MAX_SUBSCRIPTIONS} subscriptions; ["unsubscribe",ROOT,NAME] ends one'
 
 
 def many_triggers(command: Any, look: Look) -> Iterator[str]:
@@ -165,8 +177,25 @@ def program_fault(command: Any, look: Look) -> Iterator[str]:
 # The requests about whose parts the server is asked.
 OF_OBJECTS = (20, 21, 22, 23, 24, 25, 26, 27, 28, 37, 43)
 OF_ERRORS: Dict[int, Callable[[Any, Look], Iterator[str]]] = {
-    1: long_line, 2: no_json, 3: no_command, 4: unknown_command, 5: wrong_arguments,
-    10: not_absolute, 11: unreadable, 12: many_files, 13: many_roots, 14: not_watched, 17: many_sessions,
-    29: expression_and_program, 30: large_program, 31: base64_fault, 32: program_fault, 33: program_fault,
-    34: no_program, 35: full_shelf, 36: bad_name, 41: many_subscriptions, 42: many_triggers,
+    1: long_line,
+    2: no_json,
+    3: no_command,
+    4: unknown_command,
+    5: wrong_arguments,
+    10: not_absolute,
+    11: unreadable,
+    12: many_files,
+    13: many_roots,
+    14: not_watched,
+    17: many_sessions,
+    29: expression_and_program,
+    30: large_program,
+    31: base64_fault,
+    32: program_fault,
+    33: program_fault,
+    34: no_program,
+    35: full_shelf,
+    36: bad_name,
+    41: many_subscriptions,
+    42: many_triggers,
 }

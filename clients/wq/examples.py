@@ -40,7 +40,7 @@ EXAMPLES: Dict[str, List[Example]] = {
     "start": [Example("wq start --share 5", "a server that takes at most 5 % of a processor")],
     "stop": [Example("wq stop", "ends the server")],
     "restart": [Example("wq restart --workers 4", "a server with four threads for each query")],
-    "explain": [Example("wq explain '[\"suffix\",\"c\"]'", "what this expression means, and what it costs")],
+    "explain": [Example('wq explain \'["suffix","c"]\'', "what this expression means, and what it costs")],
 }
 
 
@@ -51,6 +51,9 @@ def lines_of(command: str) -> str:
 
 def markdown() -> str:
     """A section with all examples, for the page of man."""
-    texts = [f"    {example.line}\n\n{example.does[0].upper()}{example.does[1:]}.\n"
-             for several in EXAMPLES.values() for example in several]
+    texts = [
+        f"    {example.line}\n\n{example.does[0].upper()}{example.does[1:]}.\n"
+        for several in EXAMPLES.values()
+        for example in several
+    ]
     return "\n## Examples\n\n" + "\n".join(texts)

@@ -27,7 +27,7 @@ def explain(options: argparse.Namespace, home: Home) -> int:
         show(f"{name:<9} {takes}" for name, takes in TERMS.items())
         return FOUND
     if options.expression is None:
-        raise WrongWords("explain takes an expression, such as '[\"suffix\",\"c\"]', or - for that of standard input")
+        raise WrongWords('explain takes an expression, such as \'["suffix","c"]\', or - for that of standard input')
     text = quoted_name(text_of(options.expression))
     value = read(text, "the expression")
     try:

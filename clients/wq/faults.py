@@ -10,8 +10,16 @@ from .mending import mended_term, mended_value
 from .questions import ErrorOf, Look, NoAnswer, Object, Questions, first_of
 from .sentences import TERMS
 from .term_order import wrong_term
-from .vocabulary import (LEFT_OUT_KEYS, LEFT_OUT_OF_SUBSCRIPTIONS, LEFT_OUT_OF_TRIGGERS, QUERY_KEYS, TERMS_OF_WATCHMAN,
-                         TRIGGER_KEYS, meant, quoted)
+from .vocabulary import (
+    LEFT_OUT_KEYS,
+    LEFT_OUT_OF_SUBSCRIPTIONS,
+    LEFT_OUT_OF_TRIGGERS,
+    QUERY_KEYS,
+    TERMS_OF_WATCHMAN,
+    TRIGGER_KEYS,
+    meant,
+    quoted,
+)
 
 LONGEST_PLACE = 60
 SUBSCRIPTION_KEYS = {**QUERY_KEYS, "since": 'a clock id that a reply gave ("c:.."), or a second, and no cursor'}
@@ -43,12 +51,12 @@ def faults_of(error: str, asked: Object, questions: Questions) -> Iterator[str]:
     for key, value in asked.items():
         error_of = questions.of_key(key, error[:3] == OF_VALUES)
         if key in left_out and error_of(value) == error:
-            yield f"a {noun} takes no \"{key}\"; {left_out[key]}"
+            yield f'a {noun} takes no "{key}"; {left_out[key]}'
         elif key in keys and key != "expression" and error_of(value) == error:
             yield of_key(error, key, value, taken(key, keys[key]), error_of)
     if error[:3] == OF_VALUES:
         yield from (told(key, taken(key, keys[key]), asked[key]) for key in left_over(asked))
-    yield from (f"there is no \"{key}\", which is {keys[key]}" for key in NEEDED if key in keys and key not in asked)
+    yield from (f'there is no "{key}", which is {keys[key]}' for key in NEEDED if key in keys and key not in asked)
 
 
 def left_over(asked: Object) -> Iterator[str]:
@@ -61,12 +69,13 @@ def left_over(asked: Object) -> Iterator[str]:
 
 # Keys.
 
+
 def of_key(error: str, key: str, value: Any, takes: str, error_of: ErrorOf) -> str:
     """The fault of a key alone. In a list it is the entry from which on the list is wrong."""
     if not isinstance(value, list) or not value:
         return of_part(error, key, takes, value, error_of)
     number = first_of(len(value), lambda count: bool(error_of(value[:count])))
-    before, part = value[:number - 1], value[number - 1]
+    before, part = value[: number - 1], value[number - 1]
     return of_part(error, f"{key}[{number - 1}]", takes, part, lambda entry: error_of([*before, entry]))
 
 
@@ -77,7 +86,7 @@ def of_part(error: str, place: str, takes: str, part: Any, error_of: ErrorOf) ->
 
 
 def taken(key: str, takes: str) -> str:
-    return f"\"{key}\" takes {takes}"
+    return f'"{key}" takes {takes}'
 
 
 def told(place: str, takes: str, part: Any) -> str:
@@ -85,6 +94,7 @@ def told(place: str, takes: str, part: Any) -> str:
 
 
 # Terms.
+
 
 def of_expression(error: str, expression: Any, error_of: ErrorOf) -> str:
     term = wrong_term(expression, error_of)
@@ -103,14 +113,14 @@ def head_of(term: Any) -> Any:
 def unknown(term: Any, error_of: ErrorOf) -> str:
     head = head_of(term)
     if head in TERMS_OF_WATCHMAN:
-        return f"the term \"{head}\" of Watchman is not built; take \"{TERMS_OF_WATCHMAN[head]}\" with a glob"
+        return f'the term "{head}" of Watchman is not built; take "{TERMS_OF_WATCHMAN[head]}" with a glob'
     return f"{quoted(head)} is no term{meant(head, TERMS) or '; wq explain --terms lists them'}"
 
 
 def wrong_arguments(term: Any, error_of: ErrorOf) -> str:
     head = head_of(term)
     if head not in TERMS:
-        return f"a term is a list that begins with its name, such as [\"suffix\",\"c\"], and this is {quoted(term)}"
+        return f'a term is a list that begins with its name, such as ["suffix","c"], and this is {quoted(term)}'
     return f"{taken(head, TERMS[head])}, and this is {quoted(term)}{mended_term(term, error_of)}"
 
 
@@ -119,8 +129,10 @@ def too_deep(term: Any, error_of: ErrorOf) -> str:
 
 
 def cursor(term: Any, error_of: ErrorOf) -> str:
-    return f"{quoted(term)} names a cursor, which the key \"since\" of a query takes, and no term; take a clock id, " \
-           "or a second as a whole number"
+    return (
+        f'{quoted(term)} names a cursor, which the key "since" of a query takes, and no term; take a clock id, '
+        "or a second as a whole number"
+    )
 
 
 def too_long(value: Any, error_of: object = None) -> str:
@@ -129,5 +141,10 @@ def too_long(value: Any, error_of: object = None) -> str:
 
 
 OF_TERMS: Dict[str, Callable[[Any, ErrorOf], str]] = {
-    "E23": wrong_arguments, "E24": unknown, "E25": wrong_arguments, "E26": too_deep, "E27": cursor, "E28": too_long,
+    "E23": wrong_arguments,
+    "E24": unknown,
+    "E25": wrong_arguments,
+    "E26": too_deep,
+    "E27": cursor,
+    "E28": too_long,
 }

@@ -26,6 +26,7 @@ def find(options: argparse.Namespace, home: Home) -> int:
             lists = [places.told(number, places.ask(places.places[number], query)) for number, query in asked]
     if options.each or options.batch:
         from .for_each import run_for_all, run_for_each
+
         names = [file["name"] for found in lists for file in found["files"]]
         return run_for_each(options.each, names) if options.each else run_for_all(options.batch, names)
     print_lists(lists, options)

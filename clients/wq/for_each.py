@@ -40,8 +40,11 @@ def run_for_all(command: List[str], names: List[str]) -> int:
     """Runs the command with all names, or several times if they are too long for one."""
     status = FOUND if names else NOTHING
     for some in pieces(names):
-        words = [one for word in with_place(command)
-                 for one in ([argument(word, name) for name in some] if has_place(word) else [word])]
+        words = [
+            one
+            for word in with_place(command)
+            for one in ([argument(word, name) for name in some] if has_place(word) else [word])
+        ]
         status = status_of(started(words, None).returncode) or status
     return status
 
@@ -65,7 +68,7 @@ def filled(word: str, name: str) -> str:
     for place in range(len(word)):
         for text, value in PLACES.items():
             if word.startswith(text, place):
-                return word[:place] + value(name) + filled(word[place + len(text):], name)
+                return word[:place] + value(name) + filled(word[place + len(text) :], name)
     return word
 
 

@@ -77,15 +77,31 @@ OF_RUN: Hints = [
     ("the command comes after --", "-x -X --exec --exec-batch"),
 ]
 TABLES: Dict[str, List[Hints]] = {
-    "find": [OF_FIND, OF_LISTS], "since": [OF_FIND, OF_LISTS], "follow": [OF_FOLLOW, OF_LISTS],
-    "run": [OF_RUN, OF_LISTS], "trigger": [OF_LISTS],
+    "find": [OF_FIND, OF_LISTS],
+    "since": [OF_FIND, OF_LISTS],
+    "follow": [OF_FOLLOW, OF_LISTS],
+    "run": [OF_RUN, OF_LISTS],
+    "trigger": [OF_LISTS],
 }
 # Commands of Watchman and others.
 COMMANDS: Dict[str, str] = {
-    "watch-project": "watch", "watch-list": "roots", "watch-del": "unwatch", "watch-del-all": "unwatch",
-    "trigger-list": "triggers", "trigger-del": "untrigger", "shutdown-server": "stop", "get-sockname": "status",
-    "version": "--version", "query": "ask", "subscribe": "follow", "clock": "ask", "list": "find", "ls": "find",
-    "search": "find", "exec": "run", "tail": "follow",
+    "watch-project": "watch",
+    "watch-list": "roots",
+    "watch-del": "unwatch",
+    "watch-del-all": "unwatch",
+    "trigger-list": "triggers",
+    "trigger-del": "untrigger",
+    "shutdown-server": "stop",
+    "get-sockname": "status",
+    "version": "--version",
+    "query": "ask",
+    "subscribe": "follow",
+    "clock": "ask",
+    "list": "find",
+    "ls": "find",
+    "search": "find",
+    "exec": "run",
+    "tail": "follow",
 }
 
 

@@ -50,9 +50,16 @@ def environment() -> Dict[str, str]:
 
 def answer(words: List[str], directory: str) -> bytes:
     import subprocess  # it is slow to read, and most searches do not ask git
+
     try:
-        ended = subprocess.run([*SAFELY, *words], cwd=directory, env=environment(), stdin=subprocess.DEVNULL,
-                               capture_output=True, timeout=PATIENCE)
+        ended = subprocess.run(
+            [*SAFELY, *words],
+            cwd=directory,
+            env=environment(),
+            stdin=subprocess.DEVNULL,
+            capture_output=True,
+            timeout=PATIENCE,
+        )
     except subprocess.TimeoutExpired:
         raise Unanswered(LATE) from None
     except OSError as error:
@@ -128,7 +135,7 @@ class Judge:
         written = memoryview(b"".join(b"./" + os.fsencode(name) + b"\0" for name in names))
         with contextlib.suppress(BrokenPipeError):
             while written:
-                written = written[os.write(self.process.stdin.fileno(), written):]
+                written = written[os.write(self.process.stdin.fileno(), written) :]
         held, left = b"", len(names)
         while left:
             poll = select.poll()
@@ -148,9 +155,17 @@ class Judge:
 
     def begun(self) -> "subprocess.Popen[bytes]":
         import subprocess
+
         try:
-            return subprocess.Popen(self.words, cwd=self.directory, env=environment(), stdin=subprocess.PIPE,
-                                    stdout=subprocess.PIPE, stderr=subprocess.DEVNULL, bufsize=0)
+            return subprocess.Popen(
+                self.words,
+                cwd=self.directory,
+                env=environment(),
+                stdin=subprocess.PIPE,
+                stdout=subprocess.PIPE,
+                stderr=subprocess.DEVNULL,
+                bufsize=0,
+            )
         except OSError as error:
             raise Unanswered(f"it does not start: {error.strerror}") from None
 

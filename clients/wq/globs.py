@@ -22,8 +22,16 @@ LEFT_OUT = (".git", ".hg", "node_modules", "target")
 WITH_DOTS = {"includedotfiles": True}
 SPECIAL = "*?[\\"
 NAMES_OF_KINDS = {
-    "file": "f", "dir": "d", "directory": "d", "link": "l", "symlink": "l", "block-device": "b", "char-device": "c",
-    "pipe": "p", "fifo": "p", "socket": "s",
+    "file": "f",
+    "dir": "d",
+    "directory": "d",
+    "link": "l",
+    "symlink": "l",
+    "block-device": "b",
+    "char-device": "c",
+    "pipe": "p",
+    "fifo": "p",
+    "socket": "s",
 }
 HINTS_OF_KINDS = {"x": "; the server sees no permissions", "e": "; --size 0 is for empty ones"}
 SIZE = re.compile(r"([+-]?)([0-9]+)([bkKmMgGtT]?)(i?[bB])?")
@@ -61,8 +69,15 @@ def restrictions(globs: List[str], options: argparse.Namespace) -> List[Any]:
     """What restricts a list, in the same form however it was written."""
     kinds = sorted(set(kinds_of(options.type))) if options.type else []
     lists = [sorted(set(found or [])) for found in (all_expanded(globs), kinds, options.ext, options.exclude)]
-    return [*lists, options.all, options.ignore, options.gitignore, options.ignore_case, options.max_depth,
-            options.min_depth]
+    return [
+        *lists,
+        options.all,
+        options.ignore,
+        options.gitignore,
+        options.ignore_case,
+        options.max_depth,
+        options.min_depth,
+    ]
 
 
 def any_of(terms: List[Any]) -> Any:
@@ -96,7 +111,7 @@ def glob_term(glob: str, place: Place, ignores_case: bool = False) -> Any:
     if glob.startswith("./"):
         glob = glob[1:]
     elif glob.startswith(directory) and len(glob) > len(directory):
-        glob = "/" + glob[len(directory):]
+        glob = "/" + glob[len(directory) :]
     if "/" not in glob:
         warn(of_glob(glob, "the glob", False, False, True))
         return [match, glob, "basename", WITH_DOTS]
@@ -122,8 +137,10 @@ def kinds_of(words: List[str]) -> List[str]:
     letters = [letter for part in parts for letter in NAMES_OF_KINDS.get(part, part)]
     for letter in letters:
         if letter not in KINDS:
-            raise WrongWords("-t takes letters of f (file), d (directory), l (link), b, c, p, s and D, and not "
-                             f"{quoted(letter)}{HINTS_OF_KINDS.get(letter, '')}")
+            raise WrongWords(
+                "-t takes letters of f (file), d (directory), l (link), b, c, p, s and D, and not "
+                f"{quoted(letter)}{HINTS_OF_KINDS.get(letter, '')}"
+            )
     if not letters:
         raise WrongWords("-t takes a letter: f (file), d (directory), l (link), b, c, p, s or D")
     return letters
@@ -138,8 +155,10 @@ def suffix_of(word: str) -> str:
         note(f"a suffix has no dot at its front: {quoted(word)} is taken as {quoted(word[1:])}")
         word = word[1:]
     if "." in word or "/" in word:
-        note(f"the suffix {quoted(word)} can match nothing: it is what follows the last dot; "
-             f"the glob {quoted('*.' + word)} finds such names")
+        note(
+            f"the suffix {quoted(word)} can match nothing: it is what follows the last dot; "
+            f"the glob {quoted('*.' + word)} finds such names"
+        )
     return word
 
 
@@ -148,8 +167,9 @@ def size_term(word: str) -> List[Any]:
     and `kB` is 1,000."""
     found = SIZE.fullmatch(word)
     if not found:
-        raise WrongWords("--size takes a number with a unit, such as +1M (at least), -10k (at most) or 0, and not "
-                         f"{quoted(word)}")
+        raise WrongWords(
+            "--size takes a number with a unit, such as +1M (at least), -10k (at most) or 0, and not " f"{quoted(word)}"
+        )
     sign, digits, unit, ending = found.groups()
     number = int(digits) * (1_000 if ending in ("b", "B") else 1_024) ** UNITS[unit.lower()]
     if number > 2**62:

@@ -19,6 +19,7 @@ class Home:
         if os.path.isfile(beside):
             return beside
         from shutil import which
+
         found = which("wqd")
         if found is None:
             raise Trouble("the command wqd is not installed beside wq, and is not on the PATH")
@@ -26,11 +27,13 @@ class Home:
 
     def is_built(self) -> bool:
         import subprocess
+
         return not self.is_clone or subprocess.run([self.wqd(), "--is-built"]).returncode == 0
 
     def version(self) -> str:
         """The version of the project, as the command wqd says it; nothing if it says none."""
         import subprocess
+
         try:
             ended = subprocess.run([self.wqd(), "--version"], stdout=subprocess.PIPE, stderr=subprocess.DEVNULL)
         except (OSError, Trouble):
@@ -41,4 +44,5 @@ class Home:
         """Starts a server at a socket, unless one listens there. Of several commands at once one does, and the others
         wait."""
         from .starting import start
+
         return start(self, sockname, words, tells)

@@ -55,10 +55,16 @@ class Rules:
         self.seen = self.state()
 
     def read(self, ask: Ask) -> None:
-        names: List[str] = ask({"suffix": ["git", "gitignore", "ignore"], "fields": ["name"],
-                                "expression": ["name", [".git", GITIGNORE, IGNORE]]})["files"]
+        names: List[str] = ask(
+            {
+                "suffix": ["git", "gitignore", "ignore"],
+                "fields": ["name"],
+                "expression": ["name", [".git", GITIGNORE, IGNORE]],
+            }
+        )["files"]
         if self.top is None:
             import tempfile  # it is slow to read, and seldom needed
+
             self.room = tempfile.TemporaryDirectory(prefix="wq-")
             self.repositories[""] = no_repository(self.root, self.room.name)
             self.tracked[""] = []
@@ -155,9 +161,9 @@ class Rules:
         directory = self.repository(name)
         if directory not in self.tracked:
             self.tracked[directory] = tracked_in(os.path.join(self.root, directory))
-        names, data = self.tracked[directory], os.fsencode(name[len(directory) + 1 if directory else 0:])
+        names, data = self.tracked[directory], os.fsencode(name[len(directory) + 1 if directory else 0 :])
         place = bisect.bisect_left(names, data)
-        if names[place:place + 1] == [data]:
+        if names[place : place + 1] == [data]:
             return True
         place = bisect.bisect_left(names, data + b"/")
         return place < len(names) and names[place].startswith(data + b"/")
@@ -165,8 +171,9 @@ class Rules:
     def is_beyond_link(self, directory: str, links: Dict[str, bool]) -> bool:
         """Whether a directory is one by a link now, or lies in one; `links` has what was found before."""
         if directory not in links:
-            links[directory] = self.is_beyond_link(directory.rpartition("/")[0], links) \
-                or os.path.islink(os.path.join(self.root, directory))
+            links[directory] = self.is_beyond_link(directory.rpartition("/")[0], links) or os.path.islink(
+                os.path.join(self.root, directory)
+            )
         return links[directory]
 
     def state(self) -> List[Any]:

@@ -12,8 +12,18 @@ SHOW = "journalctl --user -u wqd"
 def lines_of(process: int) -> Iterator[Tuple[int, str]]:
     """The lines that a process wrote itself, each with its time in microseconds. Nothing if this user may read no
     journal."""
-    command = ["journalctl", "--user", "--boot", "--quiet", "--no-pager", "--all", f"--lines={MOST_LINES}",
-               "--output=json", "--output-fields=MESSAGE", f"_PID={process}"]
+    command = [
+        "journalctl",
+        "--user",
+        "--boot",
+        "--quiet",
+        "--no-pager",
+        "--all",
+        f"--lines={MOST_LINES}",
+        "--output=json",
+        "--output-fields=MESSAGE",
+        f"_PID={process}",
+    ]
     try:
         ended = subprocess.run(command, stdout=subprocess.PIPE, stderr=subprocess.DEVNULL, timeout=PATIENCE)
     except (OSError, subprocess.TimeoutExpired):

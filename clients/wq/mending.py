@@ -41,7 +41,7 @@ def near(value: Any) -> Iterator[Any]:
         yield from unquoted(value)
     elif isinstance(value, list):
         for place, entry in enumerate(value[:MOST_ENTRIES]):
-            yield from ([*value[:place], other, *value[place + 1:]] for other in near(entry))
+            yield from ([*value[:place], other, *value[place + 1 :]] for other in near(entry))
     elif isinstance(value, dict):
         for key in list(value)[:MOST_ENTRIES]:
             for other in words_like(key):
@@ -51,6 +51,7 @@ def near(value: Any) -> Iterator[Any]:
 def words_like(word: str) -> Iterator[str]:
     """A kind may be written out, as `file`."""
     import difflib  # most requests are right
+
     if len(word) <= LONGEST_WORD:
         like = [*difflib.get_close_matches(word.lower(), VALUES, 2), word[:1].lower()]
         yield from (other for other in dict.fromkeys(like) if other in VALUES and other != word)

@@ -26,6 +26,7 @@ def second_of(word: str, option: str) -> int:
 def date_of(word: str, option: str) -> float:
     """A date, perhaps with a time of day and a zone; without a zone it is of here."""
     from datetime import datetime
+
     try:
         if word.startswith("@"):
             return float(word[1:])

@@ -38,4 +38,4 @@ def sentence(command: str, names: List[str], fronts: List[str]) -> str:
 def glob_of(name: str, fronts: List[str]) -> str:
     """The glob of a file, whose name begins with a directory as it was typed."""
     front = max((front for front in fronts if name.startswith(front)), key=len, default="")
-    return escaped(name[len(front):])
+    return escaped(name[len(front) :])

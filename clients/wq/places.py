@@ -114,6 +114,7 @@ class Places:
         text = getattr(self.options, "expression", None)
         if text is not None:
             from .questions import WRONG_FLAG  # few write one
+
             command = ["query", self.places[0].root, {"expression": user_expression(text), **WRONG_FLAG.refused}]
             found = self.server.reply(command)
             if not found.get("error", WRONG_FLAG.error).startswith(WRONG_FLAG.error):
@@ -127,8 +128,9 @@ class Places:
                 if os.path.isabs(word):
                     raise WrongWords(f"{word} is no directory here")
                 if os.path.lexists(word):
-                    raise WrongWords(f"{word} is a file here, and names are looked for below "
-                                     f"{', '.join(self.directories)}")
+                    raise WrongWords(
+                        f"{word} is a file here, and names are looked for below " f"{', '.join(self.directories)}"
+                    )
                 raise WrongWords(f"{word} is no directory here; write './{word}' for a file of that name")
 
     def is_known(self, word: str) -> bool:

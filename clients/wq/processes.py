@@ -27,9 +27,13 @@ def facts_of(process: int) -> Optional[Facts]:
         fields = text_of(process, "stat").rsplit(")", 1)[1].split()
         lines = dict(line.split(":", 1) for line in text_of(process, "status").splitlines() if ":" in line)
         return Facts(
-            process=process, program=program_of(process), started=boot_time() + int(fields[19]) / TICKS,
-            memory=int(lines["VmRSS"].split()[0]) * 1024, processor_seconds=(int(fields[11]) + int(fields[12])) / TICKS,
-            threads=int(lines["Threads"]), clients=clients_of(process),
+            process=process,
+            program=program_of(process),
+            started=boot_time() + int(fields[19]) / TICKS,
+            memory=int(lines["VmRSS"].split()[0]) * 1024,
+            processor_seconds=(int(fields[11]) + int(fields[12])) / TICKS,
+            threads=int(lines["Threads"]),
+            clients=clients_of(process),
         )
     except (OSError, KeyError, ValueError, IndexError):
         return None
@@ -131,7 +135,7 @@ def sockets_of(process: int) -> Set[str]:
         except OSError:
             continue
         if target.startswith("socket:[") and int(name) > 2:
-            found.add(target[len("socket:["):-1])
+            found.add(target[len("socket:[") : -1])
     return found
 
 

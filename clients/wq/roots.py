@@ -24,7 +24,7 @@ class Place(NamedTuple):
 
     def rest(self, name: str) -> str:
         """A name of the root, as it is from the directory on."""
-        return name[len(self.below) + 1:] if self.below else name
+        return name[len(self.below) + 1 :] if self.below else name
 
     def shown(self, name: str) -> str:
         """A name of the root, as it is from where the directory was typed."""

@@ -39,8 +39,10 @@ def manner_of(options: argparse.Namespace) -> Manner:
     if options.restart and on_busy != RESTART:
         raise WrongWords(f"--restart is --on-busy restart, and --on-busy {on_busy} is beside it: take one out")
     if options.no_self and on_busy in (RESTART, SIGNAL):
-        raise WrongWords("--no-self leaves out what changes while the command runs, and --on-busy "
-                         f"{on_busy} goes by that: take one out")
+        raise WrongWords(
+            "--no-self leaves out what changes while the command runs, and --on-busy "
+            f"{on_busy} goes by that: take one out"
+        )
     return Manner(on_busy, signal_of(options.stop_signal), options.no_self or on_busy == IGNORE)
 
 

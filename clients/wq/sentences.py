@@ -7,8 +7,14 @@ from wqclient import names
 from .vocabulary import quoted
 
 KINDS = {
-    "f": "a regular file", "d": "a directory", "l": "a symbolic link", "b": "a block device", "c": "a character device",
-    "p": "a FIFO", "s": "a socket", "D": "a door",
+    "f": "a regular file",
+    "d": "a directory",
+    "l": "a symbolic link",
+    "b": "a block device",
+    "c": "a character device",
+    "p": "a FIFO",
+    "s": "a socket",
+    "D": "a door",
 }
 RELATIONS = {"eq": "is", "ne": "is not", "gt": "is over", "ge": "is at least", "lt": "is under", "le": "is at most"}
 CLOCKS = {"oclock": "was last changed", "cclock": "came", "mtime": "was modified"}
@@ -67,6 +73,7 @@ def match_words(folds: bool) -> Callable[..., str]:
         dots = ", leading dots too" if flags.get("includedotfiles") else ""
         escapes = ", a backslash as any other letter" if flags.get("noescape") else ""
         return f"{part(scope)} fits the pattern {quoted(pattern)}{dots}{escapes}{case(folds)}"
+
     return words
 
 
@@ -75,6 +82,7 @@ def dirname_words(folds: bool) -> Callable[..., str]:
         where = f"below the directory {quoted(directory.rstrip('/'))}" if directory.rstrip("/") else "below the root"
         deep = f", and {RELATIONS[depth[1]]} {depth[2]} directories deep in it" if depth else ""
         return f"it lies {where}{deep}{case(folds)}"
+
     return words
 
 
@@ -87,25 +95,33 @@ NAME = 'a text or a list of texts, and "basename" or "wholename", such as ["%s",
 MATCH = 'a pattern, "basename" or "wholename", and flags, such as ["%s","*.c","basename",{"includedotfiles":true}]'
 DIRNAME = 'a directory, and a depth if you like, such as ["%s","src",["depth","eq",0]]'
 RELATION = f"a relation ({' '.join(names.RELATIONS)}) and a whole number without quotes or unit"
-SINCE = ('a clock id that a reply gave ("c:..") or a second, and "oclock", "cclock" or "mtime", which takes a second '
-         'alone, such as ["since",1700000000,"mtime"]')
+SINCE = (
+    'a clock id that a reply gave ("c:..") or a second, and "oclock", "cclock" or "mtime", which takes a second '
+    'alone, such as ["since",1700000000,"mtime"]'
+)
 PLAIN: Dict[str, Plain] = {
     "true": Plain("nothing", lambda: "whatever the file is"),
     "false": Plain("nothing", lambda: "never"),
     "exists": Plain("nothing", lambda: "it exists, so was not deleted"),
     "empty": Plain("nothing", lambda: "it exists, is a file or a directory, and has size 0"),
-    "type": Plain('one letter (f file, d directory, l link, b c p s D), such as ["type","f"]',
-                  lambda letter: f"it is {KINDS[letter]}"),
-    "size": Plain(f'{RELATION}, such as ["size","gt",1048576]',
-                  lambda relation, number: f"it exists, and its size {RELATIONS[relation]} {number:,} bytes"),
+    "type": Plain(
+        'one letter (f file, d directory, l link, b c p s D), such as ["type","f"]',
+        lambda letter: f"it is {KINDS[letter]}",
+    ),
+    "size": Plain(
+        f'{RELATION}, such as ["size","gt",1048576]',
+        lambda relation, number: f"it exists, and its size {RELATIONS[relation]} {number:,} bytes",
+    ),
     "name": Plain(NAME % "name", name_words(False)),
     "match": Plain(MATCH % "match", match_words(False)),
     "dirname": Plain(DIRNAME % "dirname", dirname_words(False)),
     "iname": Plain(NAME % "iname", name_words(True)),
     "imatch": Plain(MATCH % "imatch", match_words(True)),
     "idirname": Plain(DIRNAME % "idirname", dirname_words(True)),
-    "suffix": Plain('a text or a list of texts, such as ["suffix",["c","h"]]', lambda suffixes:
-                    f"what follows the last dot of its name is {one_of(suffixes)}, A to Z as a to z"),
+    "suffix": Plain(
+        'a text or a list of texts, such as ["suffix",["c","h"]]',
+        lambda suffixes: f"what follows the last dot of its name is {one_of(suffixes)}, A to Z as a to z",
+    ),
     "since": Plain(SINCE, since_words),
 }
 GROUPS: Dict[str, Group] = {

@@ -105,6 +105,7 @@ class Server:
                 progress.tell()
             if silence is None:
                 from .silence import Silence  # a reply is seldom late
+
                 silence = Silence(self.sockname, self.peer.process, A_SECOND)
             sentence = silence.sentence(is_at_work=progress is not None)
             if sentence:
@@ -127,6 +128,7 @@ class Server:
         """A reply that is no error."""
         if "error" in found:
             from .errors import culprits  # what is seldom needed is read only then
+
             raise Trouble(found["error"], *culprits(found["error"], command, self.look))
         return found
 

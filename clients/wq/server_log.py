@@ -73,7 +73,7 @@ class Log:
         if found:
             self.left_out[root] = (int(found[1]), int(found[2]))
         elif rest.startswith(TRIGGER):
-            name, rest = quoted_of(rest[len(TRIGGER):], " ")
+            name, rest = quoted_of(rest[len(TRIGGER) :], " ")
             self.add(root, name, rest, place)
 
     def add(self, root: str, name: str, said: str, place: int) -> None:
@@ -106,7 +106,7 @@ def quoted_of(line: str, separator: str = ": ") -> Tuple[str, str]:
         return "", ""
     if not isinstance(value, str) or not line.startswith(separator, end):
         return "", ""
-    return value, line[end + len(separator):]
+    return value, line[end + len(separator) :]
 
 
 def text_of(process: int) -> Tuple[bytes, int]:

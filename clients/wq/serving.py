@@ -48,7 +48,10 @@ def restart(options: argparse.Namespace, home: Home) -> int:
             roots = server.ask_within(LATE, "watch-list").get("roots", [])
             end(server)
         if roots:
-            say(f"{len(roots)} root{'' if len(roots) == 1 else 's'} with triggers and cursors went with it; "
-                "commands that need one watch it again", "yellow")
+            say(
+                f"{len(roots)} root{'' if len(roots) == 1 else 's'} with triggers and cursors went with it; "
+                "commands that need one watch it again",
+                "yellow",
+            )
     home.start(where, serve_words(where, words))
     return FOUND

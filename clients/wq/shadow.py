@@ -46,6 +46,7 @@ class Shadow:
     def __init__(self, top: str, directories: List[str]) -> None:
         """The directories are those with rules, by their whole paths."""
         import tempfile  # it is slow to read, and seldom needed
+
         self.top = top
         self.room = tempfile.TemporaryDirectory(prefix="wq-")
         try:
@@ -65,8 +66,9 @@ class Shadow:
             self.add(own)
             return
         texts = ["" if os.path.islink(own) else text_of(own), text_of(os.path.join(directory, IGNORE))]
-        with open(os.path.join(self.path(directory), GITIGNORE), "w", encoding="utf-8", errors="surrogateescape",
-                  newline="\n") as stream:
+        with open(
+            os.path.join(self.path(directory), GITIGNORE), "w", encoding="utf-8", errors="surrogateescape", newline="\n"
+        ) as stream:
             stream.write("\n".join(texts))
 
     def path(self, directory: str) -> str:

@@ -48,7 +48,7 @@ def open_at(text: str, end: int) -> str:
             ends.pop()
         elif letter in '"`' or letter == "'" and inner != '"':
             ends.append(letter)
-        elif letter == "(" and (inner != '"' or text[place - 1:place] == "$"):
+        elif letter == "(" and (inner != '"' or text[place - 1 : place] == "$"):
             ends.append(")")
         place += 1
     return ends[-1] if place == end else "\\"

@@ -105,6 +105,7 @@ def budget_of(server: Server, name: str) -> Optional[int]:
 
 # In words.
 
+
 def lines_of(found: Dict[str, Any]) -> Iterator[str]:
     yield row("server", f"{found['version'] or 'wqd'}, protocol {found['protocol']}")
     yield row("socket", found["socket"])
@@ -140,8 +141,11 @@ def root_lines(root: Dict[str, Any]) -> Iterator[str]:
     age = root["changed_within"]
     changed = f"within {duration(age)}" if age is not None else "over a week ago"
     yield row("root", root["root"])
-    yield row("", f"{files} and {directories}, tick {root['tick']}, a crawl takes {root['crawl_seconds']:.3f} s, "
-                  f"last change {changed}")
+    yield row(
+        "",
+        f"{files} and {directories}, tick {root['tick']}, a crawl takes {root['crawl_seconds']:.3f} s, "
+        f"last change {changed}",
+    )
     for what, count in zip(("names that are not UTF-8", "directories that cannot be read"), root["left_out"].values()):
         if count:
             yield row("", f"left out: {what}: {count:,}", "yellow")

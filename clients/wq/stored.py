@@ -14,9 +14,11 @@ def require_no_other(options: argparse.Namespace, globs: List[str]) -> None:
     require_utf8(options.program, "--program")
     others = ("expression", "type", "size", "newer", "older", "exclude", "ignore_case", "max_depth", "min_depth")
     if any(getattr(options, name) for name in others):
-        raise WrongWords("--program takes the place of -i, -t, --size, --newer, --older, --exclude, --max-depth, "
-                         "--min-depth "
-                         "and --expression; take them out")
+        raise WrongWords(
+            "--program takes the place of -i, -t, --size, --newer, --older, --exclude, --max-depth, "
+            "--min-depth "
+            "and --expression; take them out"
+        )
     if globs and options.ext:
         raise WrongWords("--program takes globs or -e beside it, and not both")
 

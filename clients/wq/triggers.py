@@ -18,7 +18,7 @@ from .values_shown import json_shown
 
 # The server hands names as they are. So a command that takes names is run by a shell, which puts `./` before each name,
 # as `wq run` does. Its text has the numbers of the words alone; after this the count of the command's own words comes.
-NUMBERS = r'''BEGIN { for (i = 2; i <= all; i++) printf " \"%s${%d}\"", (i > own + 1 ? "./" : ""), i }'''
+NUMBERS = r"""BEGIN { for (i = 2; i <= all; i++) printf " \"%s${%d}\"", (i > own + 1 ? "./" : ""), i }"""
 WITH_NAMES = ["/bin/sh", "-c", f"""words=$(awk -v own="$1" -v all="$#" '{NUMBERS}') && eval "exec $words\"""", "wq"]
 
 
@@ -69,8 +69,12 @@ def require_files(globs: List[str], directory: str) -> None:
     for word in globs:
         if is_directory(os.path.join(directory, word)):
             raise WrongWords(f"{word} is a directory; a trigger has one, which comes before its name")
-        if not (is_pattern(word) or has_braces(word) or word.startswith("./")
-                or os.path.lexists(os.path.join(directory, word))):
+        if not (
+            is_pattern(word)
+            or has_braces(word)
+            or word.startswith("./")
+            or os.path.lexists(os.path.join(directory, word))
+        ):
             raise WrongWords(f"{word} is no file here; write './{word}' for one that may come")
 
 
@@ -108,7 +112,7 @@ def row_of(found: Dict[str, Any]) -> str:
 def command_of(found: Dict[str, Any]) -> str:
     """The command of a trigger, as a person wrote it."""
     command, begin = found["command"], len(WITH_NAMES)
-    own = command[begin + 1:] if command[:begin] == WITH_NAMES else command
+    own = command[begin + 1 :] if command[:begin] == WITH_NAMES else command
     return shlex.join(own) + (f" {PLACE}" if found.get("append_files") else "")
 
 

@@ -7,8 +7,9 @@ import os
 from wqclient.client import Client
 from wqclient.files import opened_as_own
 
-NOT_PROVED = "not proved, and some 40 times slower a file, since it checks each access; " \
-             "./wqd --build proves and builds it"
+NOT_PROVED = (
+    "not proved, and some 40 times slower a file, since it checks each access; " "./wqd --build proves and builds it"
+)
 
 
 def note_of(sockname: str) -> str:

@@ -20,8 +20,11 @@ def read(text: str, what: str) -> Any:
         return value
     except json.JSONDecodeError as error:
         where = f"line {error.lineno}, column {error.colno}" if error.lineno > 1 else f"column {error.colno}"
-        hint = "; a text has double quotes, and the shell takes them away: put single quotes around the whole" \
-            if '"' not in text else ""
+        hint = (
+            "; a text has double quotes, and the shell takes them away: put single quotes around the whole"
+            if '"' not in text
+            else ""
+        )
         raise NotJson(NOT_JSON, f"{what}, {where}: {error.msg}{hint}") from None
     except UnicodeEncodeError:
         reason = "half a surrogate pair is no letter, and bytes that are not UTF-8 are none either"

@@ -43,10 +43,12 @@ LEFT_OUT_KEYS: Dict[str, str] = {
 }
 LEFT_OUT_OF_SUBSCRIPTIONS = dict.fromkeys(("suffix", "path", "glob"), "put it into the expression")
 LEFT_OUT_OF_TRIGGERS: Dict[str, str] = dict.fromkeys(
-    ("stdout", "stderr", "chdir", "relative_root"), 'the command can do that: ["sh","-c","cd src && make > log"]')
+    ("stdout", "stderr", "chdir", "relative_root"), 'the command can do that: ["sh","-c","cd src && make > log"]'
+)
 # The words that are values of keys and terms.
-VALUES = sorted({*FIELDS, *FIELDS_OF_SINCE, *SCOPES, *FLAGS_OF_MATCH, *RELATIONS, *KINDS, "depth", "/dev/null",
-                 "NAME_PER_LINE"})
+VALUES = sorted(
+    {*FIELDS, *FIELDS_OF_SINCE, *SCOPES, *FLAGS_OF_MATCH, *RELATIONS, *KINDS, "depth", "/dev/null", "NAME_PER_LINE"}
+)
 
 
 class Shape(NamedTuple):
@@ -81,6 +83,7 @@ COMMANDS: Dict[str, Shape] = {
 def meant(word: object, words: Iterable[str]) -> str:
     """The word that was probably meant, as the end of a sentence; nothing if no word is like it."""
     import difflib  # most words are right
+
     found = difflib.get_close_matches(str(word).lower(), list(words), 1)
     return f"; did you mean {json.dumps(found[0])}?" if found and found[0] != word else ""
 

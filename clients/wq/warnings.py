@@ -84,18 +84,18 @@ def of_path(path: Any, place: str) -> Iterator[str]:
     if path.startswith("/"):
         yield nothing(place, path, "names begin below the root, without a slash")
     elif path == ".":
-        yield nothing(place, path, "the root itself is \"\"")
+        yield nothing(place, path, 'the root itself is ""')
     elif path.startswith("./"):
-        yield nothing(place, path, f"no name begins with \"./\": {quoted(path[2:])}")
+        yield nothing(place, path, f'no name begins with "./": {quoted(path[2:])}')
     elif ".." in path.split("/"):
-        yield nothing(place, path, "no name has \"..\" in it")
+        yield nothing(place, path, 'no name has ".." in it')
 
 
 def of_name(name: Any, place: str, scope: Any) -> Iterator[str]:
     if not isinstance(name, str):
         return
     if "/" in name and scope == "basename":
-        yield nothing(place, name, "it has a slash, and the last part of a name has none; add \"wholename\"")
+        yield nothing(place, name, 'it has a slash, and the last part of a name has none; add "wholename"')
     elif scope == "wholename":
         yield from of_path(name, place)
 
@@ -107,9 +107,9 @@ def of_glob(glob: Any, place: str, is_whole: bool, has_no_escape: bool, knows_br
     if any(atom.kind == "nothing" for atom in atoms):
         yield nothing(place, glob, "a class in it has no end or an unknown name, or a backslash ends it")
     elif not is_whole and "/" in glob:
-        yield nothing(place, glob, "it has a slash, and the last part of a name has none; add \"wholename\"")
+        yield nothing(place, glob, 'it has a slash, and the last part of a name has none; add "wholename"')
     elif is_whole and glob.startswith("./"):
-        yield nothing(place, glob, f"no name begins with \"./\": {quoted(glob[2:])}")
+        yield nothing(place, glob, f'no name begins with "./": {quoted(glob[2:])}')
     elif is_whole and glob.startswith("/"):
         yield nothing(place, glob, "names begin below the root, without a slash")
     elif is_whole and glob.endswith("/"):

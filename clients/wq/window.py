@@ -35,8 +35,14 @@ SOON, MOST_SOON = 1.0, 5
 class Window:
     """Subscriptions to what matches below directories. When the server ends, another one is asked."""
 
-    def __init__(self, home: Home, options: argparse.Namespace, gap: str, takes_names: bool = False,
-                 fields: Sequence[str] = FIELDS) -> None:
+    def __init__(
+        self,
+        home: Home,
+        options: argparse.Namespace,
+        gap: str,
+        takes_names: bool = False,
+        fields: Sequence[str] = FIELDS,
+    ) -> None:
         self.home = home
         self.options = options
         # A sentence on what changed between the end of a server and the next one.
@@ -173,7 +179,7 @@ class Window:
         """A list with names as people are shown them. If what is ignored changed, git and the server are asked anew."""
         is_of_rules = found["subscription"].startswith(RULES)
         names = [name_of(number) for number in range(len(self.clocks))]
-        number = names.index(found["subscription"][len(RULES) if is_of_rules else 0:])
+        number = names.index(found["subscription"][len(RULES) if is_of_rules else 0 :])
         if not is_of_rules:
             self.clocks[number] = found["clock"]
         ignored = self.places.ignored[number]
@@ -216,16 +222,20 @@ class Window:
         """Gives up if no server stays."""
         self.ends_soon += 1
         if self.ends_soon > MOST_SOON:
-            raise Trouble(f"the server has ended {self.ends_soon} times, each too soon",
-                          f"its log is {journal.SHOW if self.is_of_unit else log_of(self.sockname)}")
+            raise Trouble(
+                f"the server has ended {self.ends_soon} times, each too soon",
+                f"its log is {journal.SHOW if self.is_of_unit else log_of(self.sockname)}",
+            )
 
     def search(self) -> None:
         """Reaches another server, which is started if nobody else is about to start one."""
         if self.is_started_by_others() and not is_listened_on(self.sockname):
             if not self.has_told and time.monotonic() - self.lost > TELL:
                 self.has_told = True
-                say("the server was stopped; this goes on as soon as another one listens, such as after `wq start`",
-                    "yellow")
+                say(
+                    "the server was stopped; this goes on as soon as another one listens, such as after `wq start`",
+                    "yellow",
+                )
             return
         try:
             server = Server(self.home, tells=False)

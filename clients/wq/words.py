@@ -23,6 +23,7 @@ class Parser(argparse.ArgumentParser):
 
     def format_help(self) -> str:
         from .examples import lines_of
+
         self.epilog = lines_of(self.prog.split()[1])
         return super().format_help()
 
@@ -46,19 +47,30 @@ ALL = flag("--all", help="leave nothing out, neither .git, .hg, node_modules and
 IGNORE_CASE = flag("--ignore-case", help="the case of A to Z does not count in globs")
 MAX_DEPTH = value("--max-depth", metavar="N", type=int, help="at most so deep; 1 is directly in DIR")
 OTHERS = [
-    value("-t", "--type", metavar="KINDS", dest="type", action="append",
-          help="kinds of files: f or file, d or dir, l or link, such as -t f,d"),
-    value("-e", "--extension", metavar="EXT", dest="ext", action="append",
-          help="suffixes, such as -e c,h or -e c -e h"),
-    value("-E", "--exclude", metavar="GLOB", dest="exclude", action="append",
-          help="leave out what fits, and all below it"),
+    value(
+        "-t",
+        "--type",
+        metavar="KINDS",
+        dest="type",
+        action="append",
+        help="kinds of files: f or file, d or dir, l or link, such as -t f,d",
+    ),
+    value(
+        "-e", "--extension", metavar="EXT", dest="ext", action="append", help="suffixes, such as -e c,h or -e c -e h"
+    ),
+    value(
+        "-E", "--exclude", metavar="GLOB", dest="exclude", action="append", help="leave out what fits, and all below it"
+    ),
     value("--min-depth", metavar="N", type=int, help="at least so deep"),
     ALL,
 ]
 # To watchexec and entr, `-i` and `-d` are other things than to fd. So a command that runs another one has neither.
 NARROWING = [IGNORE_CASE, MAX_DEPTH, *OTHERS]
-SEARCHING = [Option(("-i", *IGNORE_CASE.names), {**IGNORE_CASE.settings, "dest": "ignore_case"}),
-             Option(("-d", *MAX_DEPTH.names), {**MAX_DEPTH.settings, "dest": "max_depth"}), *OTHERS]
+SEARCHING = [
+    Option(("-i", *IGNORE_CASE.names), {**IGNORE_CASE.settings, "dest": "ignore_case"}),
+    Option(("-d", *MAX_DEPTH.names), {**MAX_DEPTH.settings, "dest": "max_depth"}),
+    *OTHERS,
+]
 ABSOLUTE = flag("-a", "--absolute-path", dest="absolute", help="names from / on")
 IGNORING = [
     Option(("--no-ignore",), {"dest": "ignore", "action": "store_false", "help": "lists also what git ignores"}),
@@ -85,70 +97,138 @@ class Form(NamedTuple):
 
 
 FORMS: Dict[str, Form] = {
-    "find": Form("[DIR|GLOB..]", "prints the names that match, one a line", [
-        *SEARCHING, *IGNORING, ABSOLUTE,
-        value("--size", metavar="SIZE", 
-              help="+1M at least, -10k at most, 0 exactly; k is 1,024 bytes, kB is 1,000"),
-        value("--newer", "--changed-within", metavar="WHEN", dest="newer",
-              help="modified within this time, such as 30s, 10min, 2h, 3d, 1w, or since a date, such as 2026-11-28"),
-        value("--older", "--changed-before", metavar="WHEN", dest="older", help="modified before that"),
-        value("--expression", metavar="JSON", help="an expression of the protocol, beside the other words"),
-        value("--program", metavar="NAME",
-              help="a stored program; globs or -e beside it say which files it is asked about"),
-        flag("-l", dest="long", help="the kind, size, time and name of each"), ZEROS, JSON, LINES,
-        flag("--count", help="how many there are"),
-        Option(("--no-sync",), {"dest": "sync", "action": "store_false", "help": "as the last crawl saw it"}),
-        flag("--keep", help="goes on to watch a root that was not watched before"),
-        value("-x", "--exec", metavar="CMD", dest="each",
-              help="runs CMD, which goes on to the end or to ;, for each name: {} is its place, {/} that of its last "
-                   "part, "
-                   "{//} of its directory, {.} and {/.} without a suffix"),
-        value("-X", "--exec-batch", metavar="CMD", dest="batch", help="runs CMD once, with all names"), WORDS]),
-    "since": Form("[NAME] [DIR|GLOB..]", "prints what changed since this was last asked, under a name or without", [
-        *SEARCHING, *IGNORING, ABSOLUTE, ZEROS, JSON, LINES,
-        flag("--peek", help="by the clock that the last call wrote; the name does not move"), WORDS]),
-    "follow": Form("[DIR|GLOB..]", "prints changes as they come, until you stop it", [
-        *SEARCHING, *IGNORING, ABSOLUTE, ZEROS, JSON, LINES, WORDS]),
-    "run": Form("[DIR|GLOB..] -- COMMAND..", "runs a command now and after each change; {} is for the names", [
-        *NARROWING, *IGNORING,
-        value("--quiet", metavar="MS", type=int, default=100, help="a burst ends when it is so long quiet; 100"),
-        value("--delay", metavar="MS", type=int, default=0, help="waits so long before a run for a change"),
-        flag("--restart", help="a change ends the running one by SIGTERM, and after 5 seconds by SIGKILL"),
-        value("--on-busy", metavar="HOW", help="what a change does to a running one: wait, restart, ignore, signal"),
-        value("--stop-signal", metavar="SIG", default="TERM",
-              help="the signal of restart and signal, such as INT; TERM"),
-        flag("--no-self", help="leaves out what changes while the command runs"),
-        flag("--shell", help="the words are a text for sh, in which {} is for the names"),
-        flag("--notify", help="the terminal says that a run ended, or rings"),
-        flag("--once", help="ends after one run, with its status"),
-        flag("--postpone", help="waits for the first change"),
-        flag("--clear", help="clears the terminal before each run"),
-        flag("--stdin", help="the names are lines on its standard input"),
-        flag("-0", dest="print0", help="with --stdin a byte 0 after each name"), WORDS]),
+    "find": Form(
+        "[DIR|GLOB..]",
+        "prints the names that match, one a line",
+        [
+            *SEARCHING,
+            *IGNORING,
+            ABSOLUTE,
+            value(
+                "--size", metavar="SIZE", help="+1M at least, -10k at most, 0 exactly; k is 1,024 bytes, kB is 1,000"
+            ),
+            value(
+                "--newer",
+                "--changed-within",
+                metavar="WHEN",
+                dest="newer",
+                help="modified within this time, such as 30s, 10min, 2h, 3d, 1w, or since a date, such as 2026-11-28",
+            ),
+            value("--older", "--changed-before", metavar="WHEN", dest="older", help="modified before that"),
+            value("--expression", metavar="JSON", help="an expression of the protocol, beside the other words"),
+            value(
+                "--program",
+                metavar="NAME",
+                help="a stored program; globs or -e beside it say which files it is asked about",
+            ),
+            flag("-l", dest="long", help="the kind, size, time and name of each"),
+            ZEROS,
+            JSON,
+            LINES,
+            flag("--count", help="how many there are"),
+            Option(("--no-sync",), {"dest": "sync", "action": "store_false", "help": "as the last crawl saw it"}),
+            flag("--keep", help="goes on to watch a root that was not watched before"),
+            value(
+                "-x",
+                "--exec",
+                metavar="CMD",
+                dest="each",
+                help="runs CMD, which goes on to the end or to ;, for each name: {} is its place, {/} that of its last "
+                "part, "
+                "{//} of its directory, {.} and {/.} without a suffix",
+            ),
+            value("-X", "--exec-batch", metavar="CMD", dest="batch", help="runs CMD once, with all names"),
+            WORDS,
+        ],
+    ),
+    "since": Form(
+        "[NAME] [DIR|GLOB..]",
+        "prints what changed since this was last asked, under a name or without",
+        [
+            *SEARCHING,
+            *IGNORING,
+            ABSOLUTE,
+            ZEROS,
+            JSON,
+            LINES,
+            flag("--peek", help="by the clock that the last call wrote; the name does not move"),
+            WORDS,
+        ],
+    ),
+    "follow": Form(
+        "[DIR|GLOB..]",
+        "prints changes as they come, until you stop it",
+        [*SEARCHING, *IGNORING, ABSOLUTE, ZEROS, JSON, LINES, WORDS],
+    ),
+    "run": Form(
+        "[DIR|GLOB..] -- COMMAND..",
+        "runs a command now and after each change; {} is for the names",
+        [
+            *NARROWING,
+            *IGNORING,
+            value("--quiet", metavar="MS", type=int, default=100, help="a burst ends when it is so long quiet; 100"),
+            value("--delay", metavar="MS", type=int, default=0, help="waits so long before a run for a change"),
+            flag("--restart", help="a change ends the running one by SIGTERM, and after 5 seconds by SIGKILL"),
+            value(
+                "--on-busy", metavar="HOW", help="what a change does to a running one: wait, restart, ignore, signal"
+            ),
+            value(
+                "--stop-signal",
+                metavar="SIG",
+                default="TERM",
+                help="the signal of restart and signal, such as INT; TERM",
+            ),
+            flag("--no-self", help="leaves out what changes while the command runs"),
+            flag("--shell", help="the words are a text for sh, in which {} is for the names"),
+            flag("--notify", help="the terminal says that a run ended, or rings"),
+            flag("--once", help="ends after one run, with its status"),
+            flag("--postpone", help="waits for the first change"),
+            flag("--clear", help="clears the terminal before each run"),
+            flag("--stdin", help="the names are lines on its standard input"),
+            flag("-0", dest="print0", help="with --stdin a byte 0 after each name"),
+            WORDS,
+        ],
+    ),
     "status": Form("", "prints what the server does and costs", [JSON]),
     "watch": Form("[DIR..]", "watches the projects of directories, and prints their roots", [WORDS]),
     "unwatch": Form("[DIR..]", "gives places of roots back, also of directories that are gone", [WORDS]),
     "roots": Form("", "prints the roots that are watched", [ZEROS, JSON]),
-    "trigger": Form("[DIR] NAME [GLOB..] -- COMMAND..", "has the server run a command in the root after changes", [
-        *NARROWING, flag("--stdin", help="the names are lines on its input; {} as its last word is for the names"),
-        WORDS]),
+    "trigger": Form(
+        "[DIR] NAME [GLOB..] -- COMMAND..",
+        "has the server run a command in the root after changes",
+        [
+            *NARROWING,
+            flag("--stdin", help="the names are lines on its input; {} as its last word is for the names"),
+            WORDS,
+        ],
+    ),
     "triggers": Form("[DIR]", "prints the triggers of a root", [JSON, DIRECTORY]),
     "untrigger": Form("[DIR] NAME", "takes a trigger out", [WORDS]),
     "ask": Form("LINE..", "sends lines of the protocol, and prints the replies", [WORDS]),
     "start": Form("", "starts a server, unless one listens", NUMBERS),
     "stop": Form("", "ends the server", []),
     "restart": Form("", "ends the server and starts one with the same words", NUMBERS),
-    "explain": Form("EXPRESSION", "says what an expression means, its program and what that costs", [
-        flag("--terms", help="lists the terms and what they take"),
-        value("expression", metavar="EXPRESSION", nargs="?", help=argparse.SUPPRESS)]),
+    "explain": Form(
+        "EXPRESSION",
+        "says what an expression means, its program and what that costs",
+        [
+            flag("--terms", help="lists the terms and what they take"),
+            value("expression", metavar="EXPRESSION", nargs="?", help=argparse.SUPPRESS),
+        ],
+    ),
 }
 
 
 def parser_of(command: str) -> Parser:
     form = FORMS[command]
     usage = f"wq {command}{' [OPTION..]' if options_of(command) else ''} {form.usage}".rstrip()
-    parser = Parser(prog=f"wq {command}", usage=usage, description=form.about, allow_abbrev=False,
-                    formatter_class=lambda prog: argparse.RawDescriptionHelpFormatter(prog, width=COLUMNS))
+    parser = Parser(
+        prog=f"wq {command}",
+        usage=usage,
+        description=form.about,
+        allow_abbrev=False,
+        formatter_class=lambda prog: argparse.RawDescriptionHelpFormatter(prog, width=COLUMNS),
+    )
     for option in form.options:
         parser.add_argument(*option.names, **option.settings)
     return parser
@@ -166,7 +246,7 @@ def read(command: str, words: List[str]) -> argparse.Namespace:
     words, commands = without_commands(command, words)
     if "--" in words:
         place = words.index("--")
-        words, rest = words[:place], words[place + 1:]
+        words, rest = words[:place], words[place + 1 :]
     words = with_joined_sizes(words)
     parser = parser_of(command)
     if command in NEEDS_DASHES:
@@ -187,6 +267,7 @@ def refuse_foreign(command: str, words: List[str]) -> None:
             return
         if word.startswith("-") and word.partition("=")[0] not in known:
             from .foreign import hint
+
             found = hint(command, word.partition("=")[0])
             if found:
                 raise WrongWords(f"no option {word.partition('=')[0]}; {found}")
@@ -199,7 +280,7 @@ def without_commands(command: str, words: List[str]) -> Tuple[List[str], Dict[st
     if command != "find" or place is None or place + 1 == len(words):
         return words, {}
     last = words.index(";", place) if ";" in words[place:] else len(words)
-    return words[:place] + words[last + 1:], {EXECUTING[words[place]]: words[place + 1:last]}
+    return words[:place] + words[last + 1 :], {EXECUTING[words[place]]: words[place + 1 : last]}
 
 
 def with_joined_sizes(words: List[str]) -> List[str]:
@@ -216,6 +297,7 @@ def with_joined_sizes(words: List[str]) -> List[str]:
 def no_option(command: str, word: str) -> str:
     """That there is no such option, with the one that was probably meant."""
     import difflib  # few are mistyped
+
     given = word.partition("=")[0]
     like = difflib.get_close_matches(given, [name for name in options_of(command) if name.startswith("--")], 1)
     return f"there is no option {given}" + (f"; did you mean {like[0]}?" if like else "")

@@ -61,6 +61,7 @@ def log_of(sockname: str) -> str:
 
 def path_of(kind: str, *parts: str) -> str:
     import hashlib  # most commands keep nothing
+
     name = hashlib.sha256("\0".join(parts).encode("utf-8", "surrogateescape")).hexdigest()
     return os.path.join(directory(), kind, name[:32])
 

@@ -78,15 +78,16 @@ class Lines:
         """Refuses a server of another user, who may have put a socket in the place of this user's."""
         user = self.peer().user
         if user not in (os.getuid(), SUPERUSER):
-            raise OSError(errno.EPERM, f"the server that answers there is that of user {user}, and not yours",
-                          self.sockname)
+            raise OSError(
+                errno.EPERM, f"the server that answers there is that of user {user}, and not yours", self.sockname
+            )
 
     def send_bytes(self, data: bytes) -> None:
         """Sends all of it, and reads meanwhile: the server may be in the middle of a list that it waits to be read."""
         left = memoryview(data)
         while left:
             try:
-                left = left[self.stream.send(left, socket.MSG_DONTWAIT):]
+                left = left[self.stream.send(left, socket.MSG_DONTWAIT) :]
             except BlockingIOError:
                 if self.ready(select.POLLIN | select.POLLOUT) & select.POLLIN:
                     self.receive()
@@ -132,7 +133,7 @@ class Lines:
         self.looked = 0
         with memoryview(self.held) as held:
             line = bytes(held[:end])
-        del self.held[:end + 1]
+        del self.held[: end + 1]
         return line
 
     def line(self) -> bytes:

@@ -61,7 +61,12 @@ def begin(command: List[str], sockname: str, environment: Optional[Dict[str, str
         with open(log, "ab", opener=opened_as_own) as output:
             output.truncate(0)
             process = subprocess.Popen(
-                command, stdin=subprocess.DEVNULL, stdout=output, stderr=output, cwd="/", env=environment,
+                command,
+                stdin=subprocess.DEVNULL,
+                stdout=output,
+                stderr=output,
+                cwd="/",
+                env=environment,
                 start_new_session=True,
             )
     except OSError as error:

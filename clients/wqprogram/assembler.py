@@ -11,7 +11,7 @@ from .program_file import LATEST, MAX_PATTERN, MAX_TEXT, VERSIONS, Operation, Pa
 from .source import TextFault, Token, Words, fault_of, one_of, text_of, tokens_of
 from .writing import PATTERN_FLAGS, TABLE_WORDS
 
-LEAST_NUMBER, GREATEST_NUMBER = -2**63, 2**63 - 1
+LEAST_NUMBER, GREATEST_NUMBER = -(2**63), 2**63 - 1
 CODE = "code"
 
 
@@ -91,7 +91,10 @@ class Assembler:
     def rows(self, name: str) -> List[Any]:
         """The rows of a table of constants."""
         kinds: Dict[str, Callable[[], Any]] = {
-            "numbers": self.number, "texts": self.text, "lists": self.entries, "patterns": self.pattern,
+            "numbers": self.number,
+            "texts": self.text,
+            "lists": self.entries,
+            "patterns": self.pattern,
             "sets": self.patterns,
         }
         rows: List[Any] = []
@@ -105,8 +108,9 @@ class Assembler:
 
     def too_many(self, counted: str, most: int, subject: str) -> TextFault:
         """The fault of a row or an entry for which the version has no room."""
-        return self.words.next.fault(f"too many {counted}",
-                                     f"at most {most:,} {subject} in version {self.version.number}")
+        return self.words.next.fault(
+            f"too many {counted}", f"at most {most:,} {subject} in version {self.version.number}"
+        )
 
     def is_at_table(self) -> bool:
         """Whether a table begins here, or the text ends."""
@@ -202,8 +206,9 @@ class Assembler:
         if instruction is not None and not self.version.knows(instruction):
             raise token.fault("not in this version", f"{later_version()}, or another instruction")
         if token.kind != "name" or instruction is None:
-            raise token.fault("unknown word",
-                              f"an instruction, as {one_of(near_instructions(token.word, self.version))}")
+            raise token.fault(
+                "unknown word", f"an instruction, as {one_of(near_instructions(token.word, self.version))}"
+            )
         a, b = 0, None
         if instruction.name == "cmp":
             a = self.relation()
@@ -264,4 +269,3 @@ def later_version() -> str:
 def table_words(table: str) -> str:
     """The word for a table, or for the code."""
     return f'"{TABLE_WORDS.get(table, table)}"'
-

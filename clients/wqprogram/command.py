@@ -138,6 +138,7 @@ def complain(line: str) -> None:
 
 # The commands.
 
+
 def assemble(arguments: argparse.Namespace) -> int:
     version: Optional[Version] = None
     if arguments.version is not None:
@@ -269,8 +270,9 @@ def program_of(text: bytes, instance: Instance, has_instance: bool) -> Program:
         raise Refused(NOT_JSON) from None
     read_term(value, instance)
     if names_tick(value) and not has_instance:
-        raise ValueError("the expression has a clock id; say with --clock a clock id of the server and root that it "
-                         "is for")
+        raise ValueError(
+            "the expression has a clock id; say with --clock a clock id of the server and root that it " "is for"
+        )
     try:
         return compiled(value, instance)
     except TooLarge:

@@ -116,6 +116,7 @@ def match_code(fold: int) -> Callable[..., Code]:
         flags = [scope == "wholename", *((asked or {}).get(key) for key in ("includedotfiles", "noescape")), fold]
         byte = sum(2**bit for bit, flag in enumerate(flags) if flag)
         return [Step(scope), Step("match", 0, (byte, pattern.encode()))]
+
     return code
 
 
@@ -134,6 +135,7 @@ def dirname_code(fold: int) -> Callable[..., Code]:
     def code(directory: str, *depth: List[Any]) -> Code:
         read = [Step("wholename"), Step("text", 0, directory.rstrip("/").encode()), Step("depth", fold)]
         return joined("jf", [compared(read, relation, number) for _, relation, number in [("depth", "ge", 0), *depth]])
+
     return code
 
 

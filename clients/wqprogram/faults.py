@@ -16,7 +16,7 @@ FILE_FAULTS: Dict[int, str] = {
     5: "no instruction of version {0.number} has this byte: take one of the table of instructions that it has",
     6: "this operand or these flags are none that may be: put 0 for an operand that the instruction has not",
     7: "this is over the limit of version {0.number}: a table has at most {0.most_rows:,} rows, a row "
-       f"{{0.most_entries:,}} entries, and a text {MAX_TEXT:,} bytes",
+    f"{{0.most_entries:,}} entries, and a text {MAX_TEXT:,} bytes",
 }
 
 
@@ -68,7 +68,7 @@ def few_cells(met: Met) -> str:
 
 def other_kind(met: Met) -> str:
     needs = met.operation.instruction.needs
-    top = met.stack[len(met.stack) - len(needs):]
+    top = met.stack[len(met.stack) - len(needs) :]
     remedy = OF_OTHER_KINDS.get((met.name, top), f"put {cells(needs)} there")
     return f'"{met.name}" takes {cells(needs)}, and the top of the stack is {cells(top)}; {remedy}'
 

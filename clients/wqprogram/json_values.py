@@ -72,7 +72,8 @@ def no_constant(name: str) -> None:
 
 
 DECODER = json.JSONDecoder(
-    object_pairs_hook=members_of, parse_int=integer, parse_float=number, parse_constant=no_constant)
+    object_pairs_hook=members_of, parse_int=integer, parse_float=number, parse_constant=no_constant
+)
 
 
 def depth_of(text: str) -> int:

@@ -149,7 +149,7 @@ def stars_at(pattern: bytes, place: int, may_cross: bool) -> Tuple[Atom, int]:
 
 def class_at(pattern: bytes, place: int, flags: Flags) -> Tuple[Atom, int]:
     """The class whose opening bracket stands before this place."""
-    is_negated = pattern[place:place + 1] in (b"!", b"^")
+    is_negated = pattern[place : place + 1] in (b"!", b"^")
     try:
         members, end = class_members(pattern, place + 1 if is_negated else place, flags)
     except NoEnd:
@@ -179,7 +179,7 @@ def item_at(pattern: bytes, place: int, flags: Flags) -> Tuple[Optional[FrozenSe
     if pattern.startswith(b"[:", place):
         close = pattern.find(b"]", place + 2)
         if close > place + 2 and pattern[close - 1] == ord(":"):
-            members = NAMED_CLASSES.get(pattern[place + 2:close - 1])
+            members = NAMED_CLASSES.get(pattern[place + 2 : close - 1])
             return None if members is None else frozenset(members), close + 1
     first, place = class_byte_at(pattern, place, flags)
     if byte_at(pattern, place) == DASH and byte_at(pattern, place + 1) != CLOSE:

@@ -83,7 +83,7 @@ class Reader:
 
     def bytes_of(self, length: int) -> bytes:
         """A part of so many bytes. F3: they are not there."""
-        part = self.data[self.place:self.place + length]
+        part = self.data[self.place : self.place + length]
         if len(part) < length:
             raise self.fault(3, self.place)
         self.place += length
@@ -146,8 +146,12 @@ def read(data: bytes) -> Program:
     reader = Reader(data)
     counts = reader.head()
     kinds = {
-        "numbers": reader.signed, "texts": reader.text, "lists": reader.entries, "patterns": reader.pattern,
-        "sets": reader.patterns, "code": reader.operation,
+        "numbers": reader.signed,
+        "texts": reader.text,
+        "lists": reader.entries,
+        "patterns": reader.pattern,
+        "sets": reader.patterns,
+        "code": reader.operation,
     }
     names = [*reader.version.tables, "code"]
     tables = {name: reader.rows(count, kinds[name]) for name, count in zip(names, counts)}
@@ -175,7 +179,10 @@ class Writer:
 
     def file(self, program: Program) -> bytes:
         kinds = {
-            "numbers": self.signed, "texts": self.text, "lists": self.entries, "patterns": self.pattern,
+            "numbers": self.signed,
+            "texts": self.text,
+            "lists": self.entries,
+            "patterns": self.pattern,
             "sets": self.patterns,
         }
         rows = [[kinds[name](row) for row in program.table(name)] for name in self.version.tables]

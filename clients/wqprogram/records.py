@@ -60,8 +60,9 @@ def record_of_row(row: bytes, clocks: Clocks, exists: bool) -> Record:
     letter, size, mtime_ms, name = parts
     if len(letter) != 1 or letter not in LETTERS:
         raise RowFault(f"the letter of a kind is one of {' '.join(LETTERS.decode())}")
-    record = Record(name, letter.decode(), number_of("the size", size), number_of("the time", mtime_ms), exists,
-                    *clocks)
+    record = Record(
+        name, letter.decode(), number_of("the size", size), number_of("the time", mtime_ms), exists, *clocks
+    )
     if not is_in_range(record.size, record.mtime_ms):
         raise RowFault("a size is a number from 0 to 2^62, and a time one from -2^62 to 2^62")
     if not is_valid_name(name):

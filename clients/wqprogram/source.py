@@ -81,7 +81,7 @@ def text_of(data: bytes) -> str:
     try:
         return data.decode("utf-8")
     except UnicodeDecodeError as error:
-        before = data[:error.start].decode("utf-8")
+        before = data[: error.start].decode("utf-8")
         line, column = before.count("\n") + 1, len(before) - before.rfind("\n")
         raise TextFault("not UTF-8", line, column, f"the byte {data[error.start]:02x}", "a text in UTF-8") from None
 
@@ -123,7 +123,7 @@ class Scanner:
 
     def token(self) -> Token:
         start = self.place
-        here = self.text[start:start + 1]
+        here = self.text[start : start + 1]
         if not here:
             return self.token_to(start, "end")
         if here == "\n":
@@ -139,19 +139,19 @@ class Scanner:
         return self.token_to(end, kind_of(self.text[start:end]))
 
     def token_to(self, end: int, kind: str, value: object = None) -> Token:
-        word, column = self.text[self.place:end], self.place - self.line_start + 1
+        word, column = self.text[self.place : end], self.place - self.line_start + 1
         self.place = end
         return Token(kind, word, self.line, column, number_of(word) if kind == "number" else value)
 
     def quoted(self) -> Token:
         """A text in quotes, and its bytes: those of its letters in UTF-8, and of its escapes."""
         place, parts = self.place + 1, []
-        while self.text[place:place + 1] != '"':
+        while self.text[place : place + 1] != '"':
             plain = PLAIN.match(self.text, place)
             if plain is not None:
                 parts.append(plain.group().encode("utf-8"))
                 place = plain.end()
-            elif self.text[place:place + 1] == "\\":
+            elif self.text[place : place + 1] == "\\":
                 place, data = self.escape(place + 1)
                 parts.append(data)
             else:
@@ -160,7 +160,7 @@ class Scanner:
 
     def escape(self, place: int) -> Tuple[int, bytes]:
         """The place after an escape, and its bytes."""
-        letter = self.text[place:place + 1]
+        letter = self.text[place : place + 1]
         if letter in ESCAPES:
             return place + 1, ESCAPES[letter]
         byte = BYTE.match(self.text, place)
@@ -168,7 +168,7 @@ class Scanner:
             return byte.end(), bytes([int(byte.group(1), 16)])
         self.place = place - 1
         found = self.token_to(place + len(letter.strip("\n")), "other")
-        raise found.fault("unknown escape", r'\", \\, \n, \t, or \x and two digits of a byte')
+        raise found.fault("unknown escape", r"\", \\, \n, \t, or \x and two digits of a byte")
 
 
 def number_of(word: str) -> int:

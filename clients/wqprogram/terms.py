@@ -5,8 +5,15 @@ from typing import Any, Callable, List, Optional
 
 from . import clocks
 from .clocks import FIRST, Bound, Instance
-from .errors import (BAD_CLOCK_SPEC, CURSOR_IN_TERM, PATTERN_TOO_LONG, TOO_DEEP, UNKNOWN_TERM, WRONG_TERM_ARGUMENTS,
-                     Refused)
+from .errors import (
+    BAD_CLOCK_SPEC,
+    CURSOR_IN_TERM,
+    PATTERN_TOO_LONG,
+    TOO_DEEP,
+    UNKNOWN_TERM,
+    WRONG_TERM_ARGUMENTS,
+    Refused,
+)
 from .json_values import is_whole_number
 from .limits import MAX_PATTERN, MAX_TERM_DEPTH, MAX_TEXT
 from .patterns import Flags, atoms_of, fits
@@ -15,7 +22,12 @@ from .records import Record
 Test = Callable[[Record], bool]
 
 RELATIONS = {
-    "eq": operator.eq, "ne": operator.ne, "gt": operator.gt, "ge": operator.ge, "lt": operator.lt, "le": operator.le,
+    "eq": operator.eq,
+    "ne": operator.ne,
+    "gt": operator.gt,
+    "ge": operator.ge,
+    "lt": operator.lt,
+    "le": operator.le,
 }
 TYPE_LETTERS = ["b", "c", "d", "f", "l", "p", "s", "D"]
 SINCE_FIELDS = ["oclock", "cclock", "mtime"]
@@ -43,6 +55,7 @@ def require(is_right: bool) -> None:
 
 # Terms with terms in them.
 
+
 def read_not(arguments: List[Any], instance: Instance, depth: int) -> Test:
     require(len(arguments) == 1)
     inner = read_term(arguments[0], instance, depth + 1)
@@ -61,10 +74,12 @@ def read_anyof(arguments: List[Any], instance: Instance, depth: int) -> Test:
 
 # Terms without arguments, and terms on kinds and sizes.
 
+
 def read_plain(test: Test) -> Callable[[List[Any]], Test]:
     def read(arguments: List[Any]) -> Test:
         require(not arguments)
         return test
+
     return read
 
 
@@ -91,6 +106,7 @@ def comparison(arguments: List[Any]) -> Callable[[int], bool]:
 
 
 # Terms on names. What folds compares A to Z as a to z.
+
 
 def is_short_text(value: Any) -> bool:
     return isinstance(value, str) and len(value.encode()) <= MAX_TEXT
@@ -120,6 +136,7 @@ def read_name(fold: bool) -> Callable[[List[Any]], Test]:
         names = {fold_case(name, fold) for name in texts_of(arguments[0])}
         part = part_of(arguments[1] if len(arguments) == 2 else "basename")
         return lambda record: fold_case(part(record), fold) in names
+
     return read
 
 
@@ -137,9 +154,11 @@ def read_dirname(fold: bool) -> Callable[[List[Any]], Test]:
         has_depth = depth_test(arguments[1]) if len(arguments) == 2 else (lambda depth: True)
 
         def is_below(record: Record) -> bool:
-            rest = record.name[len(start):]
+            rest = record.name[len(start) :]
             return fold_case(record.name, fold).startswith(start) and has_depth(rest.count(b"/"))
+
         return is_below
+
     return read
 
 
@@ -159,11 +178,14 @@ def read_match(fold: bool) -> Callable[[List[Any]], Test]:
         if len(pattern) > MAX_PATTERN:
             raise Refused(PATTERN_TOO_LONG)
         flags = Flags(
-            wholename=scope == "wholename", dotfiles=options.get("includedotfiles", False),
-            noescape=options.get("noescape", False), fold=fold,
+            wholename=scope == "wholename",
+            dotfiles=options.get("includedotfiles", False),
+            noescape=options.get("noescape", False),
+            fold=fold,
         )
         atoms = atoms_of(pattern, flags)
         return lambda record: fits(atoms, flags, part(record))
+
     return read
 
 
@@ -174,6 +196,7 @@ def are_match_options(value: Any) -> bool:
 
 
 # The term `since`.
+
 
 def read_since(arguments: List[Any], instance: Instance = FIRST) -> Test:
     require(1 <= len(arguments) <= 2)

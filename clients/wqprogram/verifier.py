@@ -51,7 +51,7 @@ def fault_at(program: Program, place: int, operation: Operation, reached: Dict[i
             return 10
     elif len(stack) < len(instruction.needs):
         return 2
-    elif not is_of_kinds(stack[len(stack) - len(instruction.needs):], instruction.needs):
+    elif not is_of_kinds(stack[len(stack) - len(instruction.needs) :], instruction.needs):
         return 3
     if instruction.b not in ("", "code") and operation.b >= len(program.table(instruction.b)):
         return 4
@@ -72,7 +72,7 @@ def is_of_kinds(cells: str, needs: str) -> bool:
 
 
 def stack_after(operation: Operation, stack: str) -> str:
-    return stack[:len(stack) - len(operation.instruction.needs)] + operation.instruction.leaves
+    return stack[: len(stack) - len(operation.instruction.needs)] + operation.instruction.leaves
 
 
 def goes_on(instruction: Instruction) -> bool:

@@ -65,13 +65,13 @@ def constant_words(program: Program, operation: Operation, longest: int) -> str:
     if table not in ROW_WORDS or operation.b >= len(program.table(table)):
         return ""
     words = ROW_WORDS[table](front_of(program.table(table)[operation.b], longest))
-    return words if len(words) <= longest else words[:longest - 2] + ".."
+    return words if len(words) <= longest else words[: longest - 2] + ".."
 
 
 def front_of(row: Any, longest: int) -> Any:
     """As much of a constant as makes so many letters, each of which has four bytes at most: a list may be very long."""
     if isinstance(row, bytes):
-        return row[:4 * longest]
+        return row[: 4 * longest]
     return [front_of(entry, longest) for entry in row[:longest]] if isinstance(row, list) else row
 
 

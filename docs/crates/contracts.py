@@ -88,7 +88,7 @@ def call_at(source: Source, at: int, name: str) -> Call:
     contract = contract_from(source.lines, at)
     found = list(CLAUSE.finditer(contract))
     ends = [clause.start() for clause in found[1:]] + [len(contract)]
-    texts = [(clause, contract[clause.end():end]) for clause, end in zip(found, ends)]
+    texts = [(clause, contract[clause.end() : end]) for clause, end in zip(found, ends)]
     requires = [" ".join(text.rsplit("}", 1)[0].split()) for clause, text in texts if clause["kind"] == "requires"]
     ensures = [(clause["name"], text) for clause, text in texts if clause["kind"] == "ensures"]
     words = [word for _, text in ensures for word in WORD.findall(text) if word in source.known]

@@ -20,8 +20,10 @@ class Table(NamedTuple):
 
 TABLES = [
     Table("COMMANDS", ["wq_ask/src/command.rt named"]),
-    Table("QUERY_KEYS", ["wq_query/src/query.rt read", "wq_query/src/options.rt read",
-                         "wq_query/src/key.rt has_left_out_key"]),
+    Table(
+        "QUERY_KEYS",
+        ["wq_query/src/query.rt read", "wq_query/src/options.rt read", "wq_query/src/key.rt has_left_out_key"],
+    ),
     Table("FIELDS", ["wq_query/src/field.rt named"]),
     Table("TERMS", ["wq_term/src/head.rt named"]),
     Table("KINDS", ["wq_term/src/parser/word.rt kind_named"]),
@@ -63,15 +65,18 @@ def body_of(text: str, function: str) -> str:
     begin = re.search(rf"^( *)(?:pub(?:\(\w+\))? )?fn {function}\(", text, re.MULTILINE)
     if begin is None:
         raise ValueError(f"there is no function {function}")
-    return text[begin.end():text.index(f"\n{begin[1]}}}", begin.end())]
+    return text[begin.end() : text.index(f"\n{begin[1]}}}", begin.end())]
 
 
 def commands_of_a_root(source: Path) -> List[str]:
     """The commands whose first argument is a root: the function of each names it."""
     table = (source / "command.rt").read_text(encoding="utf-8")
     text = "\n".join(path.read_text(encoding="utf-8") for path in sorted((source / "command").glob("*.rt")))
-    asked = [(kind.strip()[len("Command::"):], function)
-             for kinds, function in ASKED.findall(table) for kind in kinds.split("|")]
+    asked = [
+        (kind.strip()[len("Command::") :], function)
+        for kinds, function in ASKED.findall(table)
+        for kind in kinds.split("|")
+    ]
     of_a_root = {kind for kind, function in asked if NAMES_A_ROOT in body_of(text, function)}
     return [name for name, kind in NAMED.findall(table) if kind in of_a_root]
 

@@ -31,13 +31,29 @@ def environment(room: Path) -> Dict[str, str]:
     """That of a user of an own, whose server is the program that is tested."""
     found = {name: value for name, value in os.environ.items() if not name.startswith(("WQD", "CHOKIDAR", "NODE_"))}
     modules = os.pathsep.join(filter(None, (os.environ.get("NODE_PATH"), MODULES)))
-    return {**found, "WQD": str(built.program_path()), "HOME": str(room), "XDG_STATE_HOME": str(room / "state"),
-            "XDG_RUNTIME_DIR": str(room), "TMPDIR": str(room), "NODE_PATH": modules}
+    return {
+        **found,
+        "WQD": str(built.program_path()),
+        "HOME": str(room),
+        "XDG_STATE_HOME": str(room / "state"),
+        "XDG_RUNTIME_DIR": str(room),
+        "TMPDIR": str(room),
+        "NODE_PATH": modules,
+    }
 
 
 def ended_of(words: List[str], room: Path) -> "subprocess.CompletedProcess[str]":
-    return subprocess.run(words, env=environment(room), cwd=room, stdout=subprocess.PIPE, stderr=subprocess.STDOUT,
-                          stdin=subprocess.DEVNULL, timeout=PATIENCE, encoding="utf-8", errors="replace")
+    return subprocess.run(
+        words,
+        env=environment(room),
+        cwd=room,
+        stdout=subprocess.PIPE,
+        stderr=subprocess.STDOUT,
+        stdin=subprocess.DEVNULL,
+        timeout=PATIENCE,
+        encoding="utf-8",
+        errors="replace",
+    )
 
 
 class Versions(Beside):

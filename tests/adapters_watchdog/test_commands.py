@@ -19,8 +19,10 @@ class Commands(Case):
         for head, expected in (
             ("#!/usr/bin/python3\nimport x", ["/usr/bin/python3"]),
             ("#! /usr/bin/python3 -sE\n", ["/usr/bin/python3", "-sE"]),
-            ("#!/usr/bin/env python3\n", ["python3"]), ("#!/usr/bin/env -S python3 -I\n", ["python3", "-I"]),
-            ("import x\n", None), ("", None),
+            ("#!/usr/bin/env python3\n", ["python3"]),
+            ("#!/usr/bin/env -S python3 -I\n", ["python3", "-I"]),
+            ("import x\n", None),
+            ("", None),
             ("#!/bin/sh\n'''exec' \"/a b/python3\" \"$0\" \"$@\"\n' '''\n", ["/a b/python3"]),
         ):
             self.same(f"the words of {head!r}", words_of(head), expected)
@@ -30,7 +32,8 @@ class Commands(Case):
         linked.symlink_to(sys.executable)
         self.same("a Python of an environment", is_this_python(str(linked)), False)
         for name, text, expected in (
-            ("a.py", "pass\n", [sys.executable]), ("b", "#!/nowhere/python3.9 -s\n", ["/nowhere/python3.9", "-s"]),
+            ("a.py", "pass\n", [sys.executable]),
+            ("b", "#!/nowhere/python3.9 -s\n", ["/nowhere/python3.9", "-s"]),
         ):
             (self.room / name).write_text(text)
             self.same(f"the Python of {name}", python_of(str(self.room / name)), expected)
@@ -40,8 +43,11 @@ class Commands(Case):
 
     def test_words(self) -> None:
         status, output, errors = said("--help")
-        self.same("help", (status, output[:1], errors),
-                  (0, ["Runs a tool that watches files by Python's watchdog, and has wqd watch them."], []))
+        self.same(
+            "help",
+            (status, output[:1], errors),
+            (0, ["Runs a tool that watches files by Python's watchdog, and has wqd watch them."], []),
+        )
         for words in ([], ["--frob"], ["-m"]):
             status, output, errors = said(*words)
             self.same(f"the words {words}", (status, output, len(errors) > 3), (2, [], True))
@@ -56,9 +62,11 @@ class Commands(Case):
         command = [sys.executable, "-S", "-m", "wqd_watchdog", "--help"]
         ended = subprocess.run(command, env=environment, stdout=subprocess.PIPE, cwd=str(room))
         self.same("by its name", ended.returncode, 0)
-        built_in = subprocess.run([sys.executable, "-S", "-c",
-                                   "import wqd_watchdog; print(hasattr(wqd_watchdog, 'frob'))"],
-                                  env=environment, stdout=subprocess.PIPE)
+        built_in = subprocess.run(
+            [sys.executable, "-S", "-c", "import wqd_watchdog; print(hasattr(wqd_watchdog, 'frob'))"],
+            env=environment,
+            stdout=subprocess.PIPE,
+        )
         self.same("another name in it", built_in.stdout, b"False\n")
 
     def test_a_python_without_watchdog(self) -> None:
@@ -75,6 +83,7 @@ def reason_of(script: str) -> str:
 
 
 def said(*words: str, python: Tuple[str, ...] = (sys.executable, "-I", "-B")) -> Tuple[int, List[str], List[str]]:
-    ended = subprocess.run([*python, str(PACKAGE), *words], stdin=subprocess.DEVNULL, stdout=subprocess.PIPE,
-                           stderr=subprocess.PIPE)
+    ended = subprocess.run(
+        [*python, str(PACKAGE), *words], stdin=subprocess.DEVNULL, stdout=subprocess.PIPE, stderr=subprocess.PIPE
+    )
     return ended.returncode, ended.stdout.decode().splitlines(), ended.stderr.decode().splitlines()

@@ -42,8 +42,11 @@ class Recorder(FileSystemEventHandler):
 
     def said(self) -> Set[str]:
         """The events, but for directories whose time changed."""
-        return {f"{kind} {path}{'/' if is_directory else ''}" for kind, path, is_directory in list(self.events)
-                if not (kind == "modified" and is_directory)}
+        return {
+            f"{kind} {path}{'/' if is_directory else ''}"
+            for kind, path, is_directory in list(self.events)
+            if not (kind == "modified" and is_directory)
+        }
 
     def waits_for(self, expected: Set[str]) -> Set[str]:
         found = look_until(self.said, expected.issubset, PATIENCE / 4)
@@ -106,8 +109,11 @@ class Observers(Case):
             first, second = Recorder(observer, root / "d"), Recorder(observer, root)
             self.same("one root", client.ask("watch-list")["roots"], [str(root)])
             (root / "d" / "new").touch()
-            self.same("both hear", [first.waits_for({"created new"}), second.waits_for({"created d/new"})],
-                      [{"created new"}, {"created d/new"}])
+            self.same(
+                "both hear",
+                [first.waits_for({"created new"}), second.waits_for({"created d/new"})],
+                [{"created new"}, {"created d/new"}],
+            )
             observer.unschedule(second.watch)
             (root / "d" / "newer").touch()
             self.same("one hears", first.waits_for({"created newer"}), {"created newer"})

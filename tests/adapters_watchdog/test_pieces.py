@@ -16,25 +16,38 @@ class Pieces(Case):
         """Of several changes of a file one is left, and none if it is as before."""
         changes = Changes()
         self.same("no change", changes.taken(), [])
-        for path, before, now in (("b", None, A), ("b", A, B), ("a", A, B), ("c", None, A), ("c", A, None), ("d", A, B),
-                                  ("d", B, A)):
+        for path, before, now in (
+            ("b", None, A),
+            ("b", A, B),
+            ("a", A, B),
+            ("c", None, A),
+            ("c", A, None),
+            ("d", A, B),
+            ("d", B, A),
+        ):
             changes.note(path, before, now)
         self.same("each once", changes.taken(), [Change("a", A, B), Change("b", None, B)])
         self.same("taken once", changes.taken(), [])
         found = difference({"a": A, "b": A, "c": A}, {"a": A, "b": D, "e": B})
-        listed = json.loads('{"files":[{"exists":true,"mtime_ms":7,"name":"a","size":1,"type":"f"}]}',
-                            object_hook=file_of)
+        listed = json.loads(
+            '{"files":[{"exists":true,"mtime_ms":7,"name":"a","size":1,"type":"f"}]}', object_hook=file_of
+        )
         self.same("a file of a list", listed, {"files": [File("a", True, "f", 1, 7)]})
         self.same("a difference", found, [Change("b", A, D), Change("c", A, None), Change("e", None, B)])
 
     def test_roots(self) -> None:
         for directory, roots, expected in (
-            ("/a/b", [], (None, "/a/b")), ("/a/b", ["/a"], ("/a", "/a")), ("/a/b", ["/a", "/a/b"], ("/a/b", "/a")),
-            ("/ab", ["/a"], (None, "/ab")), ("/a", ["/"], ("/", "/")), ("/a", ["/a/b"], (None, "/a")),
+            ("/a/b", [], (None, "/a/b")),
+            ("/a/b", ["/a"], ("/a", "/a")),
+            ("/a/b", ["/a", "/a/b"], ("/a/b", "/a")),
+            ("/ab", ["/a"], (None, "/ab")),
+            ("/a", ["/"], ("/", "/")),
+            ("/a", ["/a/b"], (None, "/a")),
         ):
             self.same(f"{directory} in {roots}", (nearest(directory, roots), outermost(directory, roots)), expected)
-        self.check("no root is free",
-                   sentence("/a", "E13: too many roots").startswith("/a: 16 directories are watched"))
+        self.check(
+            "no root is free", sentence("/a", "E13: too many roots").startswith("/a: 16 directories are watched")
+        )
         self.same("another error", sentence("/a", "E60: no memory"), "/a: E60: no memory")
 
     def test_latency(self) -> None:
@@ -43,6 +56,7 @@ class Pieces(Case):
 
         def paths() -> Iterator[str]:
             return iter([str(self.room), str(self.room / "f"), str(self.room / "none")])
+
         latency = Latency(paths)
         self.same("nothing is known", latency.is_slow(), False)
         latency.look(2 * LOOKS)

@@ -10,7 +10,16 @@ from case import Case, needs
 from client import PATIENCE, Server
 from judged.served import Served
 from judged.tools import (
-    DETECTED, MKDOCS, READY, REBUILT, STRACE, WATCHMEDO, Tool, delayed, make_project, mkdocs_words,
+    DETECTED,
+    MKDOCS,
+    READY,
+    REBUILT,
+    STRACE,
+    WATCHMEDO,
+    Tool,
+    delayed,
+    make_project,
+    mkdocs_words,
 )
 from judged.tools import served as by_server
 from serving import needs_watchdog, served
@@ -39,9 +48,14 @@ for words in ([], ["-I"]):
 print("hidden" in sys.argv, sys.path[0])
 """
 
-WQD, INOTIFY, POLLING = (f"<class '{name}'>" for name in (
-    "wqd_watchdog.observer.WqdObserver", "watchdog.observers.inotify.InotifyObserver",
-    "watchdog.observers.polling.PollingObserver"))
+WQD, INOTIFY, POLLING = (
+    f"<class '{name}'>"
+    for name in (
+        "wqd_watchdog.observer.WqdObserver",
+        "watchdog.observers.inotify.InotifyObserver",
+        "watchdog.observers.polling.PollingObserver",
+    )
+)
 
 HIDDEN = "import sys; print('a sitecustomize of others', any('children' in each for each in sys.path), flush=True)\n"
 
@@ -55,9 +69,17 @@ class Tools(Case):
         environment = {**os.environ, "PYTHONPATH": str(others)}
         command = [*by_server(str(self.room / "tool.py")), "hidden"]
         ended = subprocess.run(command, env=environment, stdout=subprocess.PIPE)
-        self.same("processes that a tool starts", ended.stdout.decode().splitlines(), [
-            "a sitecustomize of others False", "a sitecustomize of others False", f"{WQD} {WQD}",
-            f"{INOTIFY} {POLLING}", f"True {self.room}"])
+        self.same(
+            "processes that a tool starts",
+            ended.stdout.decode().splitlines(),
+            [
+                "a sitecustomize of others False",
+                "a sitecustomize of others False",
+                f"{WQD} {WQD}",
+                f"{INOTIFY} {POLLING}",
+                f"True {self.room}",
+            ],
+        )
 
     @needs(MKDOCS)
     def test_mkdocs(self) -> None:
@@ -66,10 +88,16 @@ class Tools(Case):
         source = make_project(project, 20)
         with served(self.room) as running, Tool([*by_server(MKDOCS), *mkdocs_words()], project) as tool:
             tool.waits_for(READY)
-            self.same("its roots", sorted(running.client().ask("watch-list")["roots"]),
-                      [str(project / "docs"), str(project / "src")])
-            changes = [*saves(project / "docs" / "one.md"), lambda: source.write_text("a = 1\n"),
-                       lambda: (project / "mkdocs.yml").open("a").write("site_author: me\n")]
+            self.same(
+                "its roots",
+                sorted(running.client().ask("watch-list")["roots"]),
+                [str(project / "docs"), str(project / "src")],
+            )
+            changes = [
+                *saves(project / "docs" / "one.md"),
+                lambda: source.write_text("a = 1\n"),
+                lambda: (project / "mkdocs.yml").open("a").write("site_author: me\n"),
+            ]
             for number, save in enumerate(changes, 1):
                 save()
                 tool.waits_for(REBUILT, number)

@@ -60,8 +60,11 @@ class Trees(Case):
             server = Server()
             server.reach()
             tree = Tree(server, str(root), True)
-            self.same("all below it", kinds(tree, root),
-                      {".": True, "a": False, "d": True, "d/b": False, "d/e": True, "d/e/c": False})
+            self.same(
+                "all below it",
+                kinds(tree, root),
+                {".": True, "a": False, "d": True, "d/b": False, "d/e": True, "d/e/c": False},
+            )
             flat = Tree(server, str(root / "d"), False)
             self.same("what is directly in it", kinds(flat, root), {"d": True, "d/b": False, "d/e": True})
             (root / "d" / "b").write_text("longer")
@@ -91,10 +94,16 @@ class Trees(Case):
             server = Server()
             server.reach()
             tree = Tree(server, str(root), True)
-            found = {name: kind for name,
-                     kind in kinds(tree, root).items() if name.split("/")[0] not in (".", "a", "d")}
-            linked = {"directory": True, "directory/f": False, "directory/in": True, "directory/in/g": False,
-                      "directory/in/back": True}
+            found = {
+                name: kind for name, kind in kinds(tree, root).items() if name.split("/")[0] not in (".", "a", "d")
+            }
+            linked = {
+                "directory": True,
+                "directory/f": False,
+                "directory/in": True,
+                "directory/in/g": False,
+                "directory/in/back": True,
+            }
             self.same("links", found, {"file": False, "round": True, **linked})
             (outside / "in" / "g").write_text("longer")
             self.same("a file behind a link", changes_of(tree, 1), ["~ directory/in/g"])

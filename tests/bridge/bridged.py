@@ -29,12 +29,22 @@ SILENCE = 0.4
 class Bridge:
     """A server and a bridge, whose sockets are in a directory."""
 
-    def __init__(self, room: Path, interval: int = INTERVAL, grace: float = 60,
-                 words: Optional[List[str]] = None) -> None:
+    def __init__(
+        self, room: Path, interval: int = INTERVAL, grace: float = 60, words: Optional[List[str]] = None
+    ) -> None:
         self.sockname = str(room / "bridge")
         self.server = Server(room, interval)
-        command = [sys.executable, str(PROGRAM), "--server", self.server.sockname, "--sockname", self.sockname,
-                   "--grace", str(grace), *(words or [])]
+        command = [
+            sys.executable,
+            str(PROGRAM),
+            "--server",
+            self.server.sockname,
+            "--sockname",
+            self.sockname,
+            "--grace",
+            str(grace),
+            *(words or []),
+        ]
         self.process = subprocess.Popen(command, stderr=subprocess.PIPE)
         wait_for_socket(self.sockname, self.process)
 

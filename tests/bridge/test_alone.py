@@ -13,7 +13,11 @@ SHAPE = "invalid command (expected an array with some elements!)"
 NAME = "invalid command: expected element 0 to be the command name"
 # Commands on standard input that nobody is asked for, and why.
 REFUSED: List[Tuple[object, str]] = [
-    ({}, SHAPE), ([], SHAPE), ([7], NAME), ([None], NAME), (["clock"], "wrong number of arguments"),
+    ({}, SHAPE),
+    ([], SHAPE),
+    ([7], NAME),
+    ([None], NAME),
+    (["clock"], "wrong number of arguments"),
     (["clock", 7], "second argument must be a string"),
 ]
 
@@ -31,12 +35,22 @@ class Alone(Case):
         assert isinstance(capabilities, list)
         self.same("the list of capabilities", (status, "cmd-watch-project" in capabilities), (0, True))
         wishes = json.dumps(["version", {"optional": ["relative_root"], "required": ["none"]}]).encode()
-        self.same("capabilities that are asked for", said(self.room, "-j", given=wishes), (0, {
-            "version": VERSION, "capabilities": {"relative_root": True, "none": False},
-            "error": "client required capability `none` is not supported by this server"}))
+        self.same(
+            "capabilities that are asked for",
+            said(self.room, "-j", given=wishes),
+            (
+                0,
+                {
+                    "version": VERSION,
+                    "capabilities": {"relative_root": True, "none": False},
+                    "error": "client required capability `none` is not supported by this server",
+                },
+            ),
+        )
         self.same("the version", said(self.room, "version"), (0, {"version": VERSION}))
         for name, words in (
-            ("watch-list", "command watch-list not available in this mode"), ("frob", "unknown command frob"),
+            ("watch-list", "command watch-list not available in this mode"),
+            ("frob", "unknown command frob"),
         ):
             self.same(f"{name} without a server", said(self.room, name), (1, {"version": VERSION, "error": words}))
         ended = run(self.room, "--no-spawn", "--no-local", "list-capabilities")
@@ -46,8 +60,9 @@ class Alone(Case):
         for command, words in REFUSED:
             found = said(self.room, "-j", given=json.dumps(command).encode())
             self.same(f"{command}", found, (1, {**VALIDATED, "error": words}))
-        self.same("a clock of no root", said(self.room, "clock"),
-                  (1, {**VALIDATED, "error": "wrong number of arguments"}))
+        self.same(
+            "a clock of no root", said(self.room, "clock"), (1, {**VALIDATED, "error": "wrong number of arguments"})
+        )
         for data in (b"7", b"null", b"[", b"", b"\x00\x03"):
             ended = run(self.room, "--no-spawn", "-j", given=data)
             is_said = ended.stderr.startswith(b"failed to parse command from stdin: ")
@@ -60,8 +75,14 @@ class Alone(Case):
 
     def test_options(self) -> None:
         """They may be anywhere before two dashes, joined with their values, and long ones shortened."""
-        for words in (["version", "--no-p"], ["--output-enc=json", "version"], ["-U", "none", "version"],
-                      ["-pUnone", "version"], ["version", "--sockname=none", "--log-level", "2"], ["--", "version"]):
+        for words in (
+            ["version", "--no-p"],
+            ["--output-enc=json", "version"],
+            ["-U", "none", "version"],
+            ["-pUnone", "version"],
+            ["version", "--sockname=none", "--log-level", "2"],
+            ["--", "version"],
+        ):
             self.same(f"{words}", said(self.room, *words), (0, {"version": VERSION}))
         for words, reason in (
             (["--frob"], "Unknown or invalid option! option --frob not recognized"),

@@ -49,6 +49,8 @@ class Clocks(Case):
         rows = client.ask("since", str(root), "c:0:0", "new")["files"]
         began = rows[0]["mtime"]
         for field in ("oclock", "cclock"):
-            fits = [names_of(client, root, {"expression": ["allof", ["name", "new"], ["since", second, field]]})
-                    for second in (began, began + 3600)]
+            fits = [
+                names_of(client, root, {"expression": ["allof", ["name", "new"], ["since", second, field]]})
+                for second in (began, began + 3600)
+            ]
             self.same(f"the second of {field}", fits, [["new"], []])

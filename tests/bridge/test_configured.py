@@ -54,8 +54,9 @@ class Configured(Case):
             self.same("settings that changed", client.ask("get-config", str(root))["config"], {"a": 1})
             client.ask("watch-del", str(root))
             client.ask("watch", str(root))
-            self.same("settings of a root that is watched anew", client.ask("get-config", str(root))["config"],
-                      {"a": 2})
+            self.same(
+                "settings of a root that is watched anew", client.ask("get-config", str(root))["config"], {"a": 2}
+            )
             client.ask("watch-del", str(root))
             (root / ".watchmanconfig").write_text("{")
             client.ask("watch", str(root))
@@ -69,21 +70,28 @@ class Configured(Case):
             ({"root_files": [".foo"]}, "a/b/c", ("a", "b/c")),
             ({"root_files": [".foo"]}, "d/e", ("d/e", None)),
             ({"root_files": [".foo"]}, "g", ("g", None)),
-            ({"root_files": [".foo"], "enforce_root_files": True}, "d/e",
-             "none of the files listed in global config root_files"),
+            (
+                {"root_files": [".foo"], "enforce_root_files": True},
+                "d/e",
+                "none of the files listed in global config root_files",
+            ),
             ({"root_restrict_files": [".git"]}, "g", ("g", None)),
             ({"root_restrict_files": [".git"]}, "a", "none of the files listed in global config root_files"),
         ):
             with configured(self.room, settings) as bridge, bridge.client() as client:
                 reply = client.ask("watch-project", str(trees / path))
-                found = reply["error"] if "error" in reply else (os.path.relpath(reply["watch"], trees),
-                                                                 reply.get("relative_path"))
+                found = (
+                    reply["error"]
+                    if "error" in reply
+                    else (os.path.relpath(reply["watch"], trees), reply.get("relative_path"))
+                )
                 name = f"{settings}: {path}"
                 self.check(name, expected in found if isinstance(expected, str) else expected == found, [f"{reply}"])
         with configured(self.room, {"root_restrict_files": [".git"]}) as bridge, bridge.client() as client:
             reply = client.ask("watch", str(trees / "a"))
-            self.same("a directory that may not be watched", "Your watchman administrator" in reply.get("error", ""),
-                      True)
+            self.same(
+                "a directory that may not be watched", "Your watchman administrator" in reply.get("error", ""), True
+            )
             self.same("one that may", client.ask("watch", str(trees / "g")).get("watch"), str(trees / "g"))
 
     def test_file_systems(self) -> None:
@@ -97,9 +105,11 @@ class Configured(Case):
         ):
             with configured(self.room, settings) as bridge, bridge.client() as client:
                 error = client.ask("watch", str(root)).get("error")
-                expected = words and (f'unable to resolve root {root}: path uses the "unknown" filesystem and is '
-                                      f'disallowed by global '
-                                      f"config {words}")
+                expected = words and (
+                    f'unable to resolve root {root}: path uses the "unknown" filesystem and is '
+                    f"disallowed by global "
+                    f"config {words}"
+                )
                 self.same(f"{settings}", error, expected)
 
     def test_links_that_are_followed(self) -> None:
@@ -124,8 +134,9 @@ class Configured(Case):
                 self.same("debug-recrawl", client.ask("debug-recrawl", str(path)).get("recrawl"), True)
                 for fields in (["name"], ["name", "mode"]):
                     warning = client.ask("query", str(path), {"fields": fields}).get("warning", "")
-                    self.same(f"the warning of {path.name}", warning.startswith("Recrawled this watch 1 times"),
-                              is_warned)
+                    self.same(
+                        f"the warning of {path.name}", warning.startswith("Recrawled this watch 1 times"), is_warned
+                    )
                 self.same(f"that of since {path.name}", "warning" in client.ask("since", str(path), "c:0:0"), is_warned)
                 for name in ("find", "clock"):
                     self.same(f"none of {name} {path.name}", "warning" in client.ask(name, str(path)), False)

@@ -52,8 +52,11 @@ class Keeping(Case):
             found = client.reply()
             while "canceled" not in found:
                 found = client.reply()
-            self.same("subscribers are told", (found["canceled"], found["root"], found["subscription"]),
-                      (True, str(root), "s"))
+            self.same(
+                "subscribers are told",
+                (found["canceled"], found["root"], found["subscription"]),
+                (True, str(root), "s"),
+            )
             self.same("the root is watched no longer", client.ask("watch-list")["roots"], [])
 
     def test_a_root_that_goes_without_a_place(self) -> None:
@@ -116,8 +119,12 @@ class Keeping(Case):
         """Commands that start at once make one server and one bridge, which the last command ends."""
         root = self.room / "root"
         make_files(root, ["a.c"])
-        environment = {**os.environ, "WATCHMAN_SOCK": str(self.room / "sock"), "WQD": str(built.program_path()),
-                       "XDG_STATE_HOME": str(self.room / "state")}
+        environment = {
+            **os.environ,
+            "WATCHMAN_SOCK": str(self.room / "sock"),
+            "WQD": str(built.program_path()),
+            "XDG_STATE_HOME": str(self.room / "state"),
+        }
         environment.pop("WQD_SOCK", None)
 
         def begin(*words: str, script: bytes = b"") -> subprocess.Popen:
@@ -126,14 +133,17 @@ class Keeping(Case):
         try:
             pids = [said(process) for process in [begin("get-pid") for _ in range(4)]]
             self.same("four commands have one server", len({json.dumps(pid) for pid in pids}), 1)
-            self.same("watch", said(begin("watch", str(root))),
-                      {"version": "4.9.0", "watch": str(root), "watcher": "poll"})
+            self.same(
+                "watch", said(begin("watch", str(root))), {"version": "4.9.0", "watch": str(root), "watcher": "poll"}
+            )
             query = json.dumps(["query", str(root), {"fields": ["name"]}], indent=1).encode()
             self.same("a query on standard input", said(begin("-j", script=query))["files"], ["a.c"])
-            self.same("two dashes", [row["name"] for row in said(begin("--", "find", str(root), "*.c"))["files"]],
-                      ["a.c"])
-            subscribing = begin("-j", "--persistent",
-                                script=json.dumps(["subscribe", str(root), "s", {"fields": ["name"]}]).encode())
+            self.same(
+                "two dashes", [row["name"] for row in said(begin("--", "find", str(root), "*.c"))["files"]], ["a.c"]
+            )
+            subscribing = begin(
+                "-j", "--persistent", script=json.dumps(["subscribe", str(root), "s", {"fields": ["name"]}]).encode()
+            )
             found = [json.loads(subscribing.stdout.readline()) for _ in range(2)]
             subscribing.kill()
             subscribing.communicate()
@@ -141,14 +151,18 @@ class Keeping(Case):
             self.same("an error has status 0", "error" in said(begin("frob")), True)
         finally:
             self.same("shutdown-server", said(begin("--no-spawn", "shutdown-server"))["shutdown-server"], True)
-        self.same("without a server",
-                  "unable to talk to your watchman" in said(begin("--no-spawn", "--no-local", "version")), True)
+        self.same(
+            "without a server",
+            "unable to talk to your watchman" in said(begin("--no-spawn", "--no-local", "version")),
+            True,
+        )
 
 
 def begun(command: List[str], script: bytes, environment: Dict[str, str]) -> subprocess.Popen:
     """A command that has taken its standard input."""
-    process = subprocess.Popen(command, env=environment, stdin=subprocess.PIPE, stdout=subprocess.PIPE,
-                               stderr=subprocess.PIPE)
+    process = subprocess.Popen(
+        command, env=environment, stdin=subprocess.PIPE, stdout=subprocess.PIPE, stderr=subprocess.PIPE
+    )
     process.stdin.write(script)
     process.stdin.close()
     process.stdin = None

@@ -29,11 +29,19 @@ def names_of(client: Client, root: Path, query: Dict[str, object]) -> List[str]:
 
 
 IN_BSER: List[Dict[str, object]] = [
-    {"fields": ["name"]}, {"fields": ["name"], "relative_root": "d"}, {"fields": ["name"], "relative_root": "ü"},
-    {"fields": ["name", "size"], "relative_root": "ü"}, {"fields": ["name"], "suffix": "none"},
+    {"fields": ["name"]},
+    {"fields": ["name"], "relative_root": "d"},
+    {"fields": ["name"], "relative_root": "ü"},
+    {"fields": ["name", "size"], "relative_root": "ü"},
+    {"fields": ["name"], "suffix": "none"},
     {"fields": ["name", "size"]},
-    {"fields": ["name"], "path": ["a.c"]}, {"fields": ["size"]}, {"fields": ["exists"]}, {"fields": ["new", "exists"]},
-    {"fields": []}, {}, {"fields": ["type", "mtime_ms", "new", "exists", "cclock", "name"], "since": 1},
+    {"fields": ["name"], "path": ["a.c"]},
+    {"fields": ["size"]},
+    {"fields": ["exists"]},
+    {"fields": ["new", "exists"]},
+    {"fields": []},
+    {},
+    {"fields": ["type", "mtime_ms", "new", "exists", "cclock", "name"], "since": 1},
     {"fields": ["exists", "nlink"], "relative_root": "ü/ü"},
     {"fields": ["name", "new"], "empty_on_fresh_instance": True},
 ]
@@ -85,16 +93,19 @@ class Lists(Case):
                 ({"expression": ["suffix", "c", "more"]}, ["B.C", "a.c", "d/.e.c", "d/c.c"]),
                 ({"expression": ["suffix", ["c", "h"]]}, ["B.C", "a.c", "d/.e.c", "d/c.c", "d/f.h"]),
                 ({"expression": ["exists", "more"]}, ["B.C", "a.c", "d", "d/.e.c", "d/c.c", "d/f.h"]),
-                ({"expression": ["match", "*.c", "basename", {"frob": 1, "includedotfiles": True}]},
-                 ["a.c", "d/.e.c", "d/c.c"]),
+                (
+                    {"expression": ["match", "*.c", "basename", {"frob": 1, "includedotfiles": True}]},
+                    ["a.c", "d/.e.c", "d/c.c"],
+                ),
                 ({"expression": ["name", ["x" * 5000, "a.c"]]}, ["a.c"]),
                 ({"expression": ["name", "x" * 2_000_000]}, []),
                 ({"expression": ["name", "b.c"], "case_sensitive": False}, ["B.C"]),
                 ({"expression": ["name", "b.c"], "case_sensitive": True}, []),
             ):
                 self.same(f"{query}", names_of(client, root, query), expected)
-            self.same("find", sorted(row["name"] for row in client.ask("find", str(root), "*.c", "-X", "a*")["files"]),
-                      [])
+            self.same(
+                "find", sorted(row["name"] for row in client.ask("find", str(root), "*.c", "-X", "a*")["files"]), []
+            )
             found = client.ask("since", str(root), "c:1:1", "d/*.c")
             self.same("since", ([row["name"] for row in found["files"]], found["is_fresh_instance"]), (["d/c.c"], True))
             self.check_globs_since(root, client)
@@ -108,13 +119,17 @@ class Lists(Case):
             ({"glob": ["a.c"], "expression": ["suffix", "c"]}, ["a.c", "d/.new.c", "d/new.c", "new.c"]),
             ({"glob": ["c.c"], "relative_root": "d", "expression": ["suffix", "c"]}, [".new.c", "c.c", "new.c"]),
         ):
-            self.same(f"{query} since", names_of(client, root, {**query, "since": clock, "sync_timeout": 1000}),
-                      expected)
+            self.same(
+                f"{query} since", names_of(client, root, {**query, "since": clock, "sync_timeout": 1000}), expected
+            )
         for directory in ("no", "d/.", "a.c"):
             reply = client.ask("query", str(root), {"glob": ["*"], "relative_root": directory})
-            self.same(f"glob below {directory}", reply.get("error"),
-                      f"query failed: glob_generator could not resolve {root}/{directory}, check your relative_root "
-                      f"parameter!")
+            self.same(
+                f"glob below {directory}",
+                reply.get("error"),
+                f"query failed: glob_generator could not resolve {root}/{directory}, check your relative_root "
+                f"parameter!",
+            )
         shutil.rmtree(root / "d")
         query = {"glob": ["*"], "relative_root": "d", "sync_timeout": 1000}
         self.same("glob below a directory that has gone", names_of(client, root, query), [])
@@ -137,8 +152,11 @@ class Lists(Case):
             self.check_long_lists_below(root, client)
             client.ask("subscribe", str(root), "s", {"fields": ["name"]})
             self.same("a long list of a subscription", len(client.reply()["files"]), LONG + 1)
-            self.same("a long list beside a subscription",
-                      len(client.ask("query", str(root), {"fields": ["name"]})["files"]), LONG + 1)
+            self.same(
+                "a long list beside a subscription",
+                len(client.ask("query", str(root), {"fields": ["name"]})["files"]),
+                LONG + 1,
+            )
 
     def check_long_lists_below(self, root: Path, client: Client) -> None:
         """Names lose the directory above them wherever a piece ends."""
@@ -155,8 +173,18 @@ class Lists(Case):
         make_files(root, ["a", "d/b"])
         os.symlink("a", root / "l")
         os.chmod(root / "a", 0o640)
-        fields = ["name", "mode", "uid", "ino", "nlink", "ctime_ns", "mtime_us", "mtime_f", "symlink_target",
-                  "content.sha1hex"]
+        fields = [
+            "name",
+            "mode",
+            "uid",
+            "ino",
+            "nlink",
+            "ctime_ns",
+            "mtime_us",
+            "mtime_f",
+            "symlink_target",
+            "content.sha1hex",
+        ]
         with Bridge(self.room, 3_600_000) as bridge, bridge.client(root) as client:
             rows = client.ask("query", str(root), {"fields": fields})["files"]
             self.same("each file is there", [row["name"] for row in rows], ["a", "d", "d/b", "l"])
@@ -170,8 +198,11 @@ class Lists(Case):
             clock = client.ask("clock", str(root))["clock"]
             (root / "a").unlink()
             query = {"since": clock, "fields": ["name", "exists", "mode", "uid"], "expression": ["name", "a"]}
-            self.same("a deleted file", client.ask("query", str(root), query)["files"],
-                      [{"name": "a", "exists": False, "mode": 0o100000, "uid": None}])
+            self.same(
+                "a deleted file",
+                client.ask("query", str(root), query)["files"],
+                [{"name": "a", "exists": False, "mode": 0o100000, "uid": None}],
+            )
 
     def test_content_that_changes(self) -> None:
         """A file that became a pipe or a link after it was looked at is not read, and not waited for."""
@@ -194,9 +225,11 @@ class Lists(Case):
             reply = client.ask("subscribe", str(root), "s", query)
             self.same("a subscription watches its root", sorted(reply), ["clock", "subscribe", "version"])
             first = client.reply()
-            self.same("the first list",
-                      (first["files"], first["root"], first["is_fresh_instance"], first["unilateral"]),
-                 ([{"exists": True, "name": "a.c"}], str(root), True, True))
+            self.same(
+                "the first list",
+                (first["files"], first["root"], first["is_fresh_instance"], first["unilateral"]),
+                ([{"exists": True, "name": "a.c"}], str(root), True, True),
+            )
             move_in(self.room / "aside", root, ["c.c", "d/e.c"])
             later = client.reply()
             self.same("a later list", (later["files"], later["subscription"]), ([{"exists": True, "name": "e.c"}], "s"))
@@ -267,22 +300,40 @@ def drawn_term(draw: random.Random, depth: int) -> object:
         head = draw.choice(["not", "allof", "anyof"])
         return [head, *(drawn_term(draw, depth + 1) for _ in range(1 if head == "not" else draw.randrange(1, 3)))]
     i, scope = draw.choice(["", "i"]), draw.choice([[], ["basename"], ["wholename"]])
-    flags = [{"includedotfiles": draw.random() < 0.5,
-              "noescape": draw.random() < 0.5}] if scope and draw.random() < 0.5 else []
+    flags = (
+        [{"includedotfiles": draw.random() < 0.5, "noescape": draw.random() < 0.5}]
+        if scope and draw.random() < 0.5
+        else []
+    )
     name = draw.choice([*NAMES, "x.d/a.c", "a.d/s?r/x", "X.D/A.C"])
-    return draw.choice([
-        "exists", "empty", ["type", draw.choice("fd")], ["suffix", draw.choice("ch")],
-        ["size", "gt", draw.randrange(12)], [f"{i}name", draw.choice([name, [name, "b.h"]]), *scope],
-        [f"{i}match", draw.choice(["*", "*.c", "**/*.C", "x.d/*", "a.d/**", "s\\?r", name]), *scope, *flags],
-        [f"{i}dirname", draw.choice(["", "x.d", "a.d/", "A.D", "a.d/s?r"]), *draw.choice([[], [["depth", "ge", 1]]])],
-    ])
+    return draw.choice(
+        [
+            "exists",
+            "empty",
+            ["type", draw.choice("fd")],
+            ["suffix", draw.choice("ch")],
+            ["size", "gt", draw.randrange(12)],
+            [f"{i}name", draw.choice([name, [name, "b.h"]]), *scope],
+            [f"{i}match", draw.choice(["*", "*.c", "**/*.C", "x.d/*", "a.d/**", "s\\?r", name]), *scope, *flags],
+            [
+                f"{i}dirname",
+                draw.choice(["", "x.d", "a.d/", "A.D", "a.d/s?r"]),
+                *draw.choice([[], [["depth", "ge", 1]]]),
+            ],
+        ]
+    )
 
 
 def looked_at(path: Path, name: str) -> Dict[str, object]:
     found = os.lstat(path)
     return {
-        "name": name, "mode": found.st_mode, "uid": found.st_uid, "ino": found.st_ino, "nlink": found.st_nlink,
-        "ctime_ns": found.st_ctime_ns, "mtime_us": found.st_mtime_ns // 1000,
+        "name": name,
+        "mode": found.st_mode,
+        "uid": found.st_uid,
+        "ino": found.st_ino,
+        "nlink": found.st_nlink,
+        "ctime_ns": found.st_ctime_ns,
+        "mtime_us": found.st_mtime_ns // 1000,
         "mtime_f": found.st_mtime_ns / 1_000_000_000,
         "symlink_target": os.readlink(path) if path.is_symlink() else None,
         "content.sha1hex": None if path.is_symlink() or path.is_dir() else hashlib.sha1(path.read_bytes()).hexdigest(),

@@ -13,8 +13,21 @@ from bridge.listing import Listed, Passing, list_for
 
 DRAWS = 1_500
 # Names are drawn of these: all that has a meaning in a list, and letters.
-LETTERS = [*',"[]{}:\\', "\n", "\x01", "a", "b", "name", "ü", "€", ' "', '","', ',{"exists":', "files",
-           '],"is_fresh_instance":']
+LETTERS = [
+    *',"[]{}:\\',
+    "\n",
+    "\x01",
+    "a",
+    "b",
+    "name",
+    "ü",
+    "€",
+    ' "',
+    '","',
+    ',{"exists":',
+    "files",
+    '],"is_fresh_instance":',
+]
 ABOVE = ["", "", "d", ",", "[", "ü/€", "name", 'd"e', ",{", "}", "a\\b", '"', "size", "e\x01"]
 ENCODINGS = [JSON, Encoding(1, 0), Encoding(2, 0)]
 
@@ -42,8 +55,12 @@ class Drawn:
         rows = [drawn_row(draw, name, is_fresh) for name in names]
         asked = self.lister.fields.asked
         files = [told(row, asked, above) for row in rows]
-        value: Dict[str, object] = {"clock": "c:7:9:1:1", "files": files, "is_fresh_instance": is_fresh,
-                                    "version": "wq-1"}
+        value: Dict[str, object] = {
+            "clock": "c:7:9:1:1",
+            "files": files,
+            "is_fresh_instance": is_fresh,
+            "version": "wq-1",
+        }
         self.comes_by_itself = draw.random() < 0.2
         if self.comes_by_itself:
             value.update(root='/r,"d', subscription='],"is_fresh_instance":', unilateral=True)
@@ -57,10 +74,15 @@ def drawn_name(draw: random.Random) -> str:
 
 def drawn_row(draw: random.Random, name: str, is_fresh: bool) -> Dict[str, object]:
     return {
-        "name": name, "exists": is_fresh or draw.random() < 0.5, "new": is_fresh or draw.random() < 0.5,
-        "size": draw.choice([0, 7, 300, 70_000, 2**40]), "type": draw.choice("fdl"), "cclock": "c:7:9:1:1",
+        "name": name,
+        "exists": is_fresh or draw.random() < 0.5,
+        "new": is_fresh or draw.random() < 0.5,
+        "size": draw.choice([0, 7, 300, 70_000, 2**40]),
+        "type": draw.choice("fdl"),
+        "cclock": "c:7:9:1:1",
         "oclock": "c:7:9:1:2",
-        "mtime": draw.choice([0, -1, 1_700_000_000]), "mtime_ms": draw.choice([-1, 1_700_000_000_123]),
+        "mtime": draw.choice([0, -1, 1_700_000_000]),
+        "mtime_ms": draw.choice([-1, 1_700_000_000_123]),
     }
 
 

@@ -37,7 +37,7 @@ VALUES = [
     (b"\x0a\x0a", "there are bytes after the value"),
     (b"\x00" + number(2**62), f"a length is {2**62}, and 0 bytes follow"),
     (b"\x00" + number(-1), "a length is -1, and 0 bytes follow"),
-    (b"\x02" + number(-2**62), f"a length is {-2**62}, and 0 bytes follow"),
+    (b"\x02" + number(-(2**62)), f"a length is {-2**62}, and 0 bytes follow"),
     (b"\x02\x03\x02a", "a length is 2, and 1 bytes follow"),
     (b"\x02\x08", "a length is no integer"),
     (b"\x01\x03\x01\x03\x05\x0a", "a key is no text"),

@@ -15,16 +15,31 @@ from waiting import wait_until
 
 
 def run(
-    room: Path, *words: str, sockname: str = "sock", output: int = subprocess.PIPE, given: bytes = b"",
+    room: Path,
+    *words: str,
+    sockname: str = "sock",
+    output: int = subprocess.PIPE,
+    given: bytes = b"",
     **variables: str,
 ) -> subprocess.CompletedProcess:
     """Runs the command in a directory, with names that are relative to it, and with bytes on its standard input."""
-    environment = {**os.environ, "WATCHMAN_SOCK": sockname,
-                   "WQD": os.path.relpath(str(built.program_path()), str(room)),
-                   "XDG_STATE_HOME": str(room.resolve() / "state"), **variables}
+    environment = {
+        **os.environ,
+        "WATCHMAN_SOCK": sockname,
+        "WQD": os.path.relpath(str(built.program_path()), str(room)),
+        "XDG_STATE_HOME": str(room.resolve() / "state"),
+        **variables,
+    }
     environment.pop("WQD_SOCK", None)
-    return subprocess.run([str(COMMAND), *words], env=environment, cwd=str(room), input=given,
-                          stdout=output, stderr=subprocess.PIPE, timeout=PATIENCE)
+    return subprocess.run(
+        [str(COMMAND), *words],
+        env=environment,
+        cwd=str(room),
+        input=given,
+        stdout=output,
+        stderr=subprocess.PIPE,
+        timeout=PATIENCE,
+    )
 
 
 class Starts(Case):
@@ -41,8 +56,11 @@ class Starts(Case):
             self.same("a reply that nobody reads", (gone.returncode, gone.stderr), (1, b""))
             with open("/dev/full", "wb") as full:
                 gone = run(self.room, "version", output=full.fileno())
-            self.same("no room for a reply", (gone.returncode, gone.stderr),
-                      (1, b"watchman: standard output: No space left on device\n"))
+            self.same(
+                "no room for a reply",
+                (gone.returncode, gone.stderr),
+                (1, b"watchman: standard output: No space left on device\n"),
+            )
         finally:
             self.same("it is ended by its relative name", run(self.room, "--no-spawn", "shutdown-server").returncode, 0)
 
@@ -78,8 +96,11 @@ class Starts(Case):
             self.same("the directory above", [file["name"] for file in files or []], ["file.c"])
             line = json.dumps(["query", ".", {"suffix": "c", "fields": ["name"]}]).encode()
             self.same("a root in JSON", found(tree, "-j", given=line).get("files"), ["file.c"])
-            self.same("no name at all", found(tree, "watch", "").get("error"),
-                      "unable to resolve root : path \"\" must be absolute")
+            self.same(
+                "no name at all",
+                found(tree, "watch", "").get("error"),
+                'unable to resolve root : path "" must be absolute',
+            )
             self.same("a root that goes", found(tree, "watch-del", ".").get("watch-del"), True)
         finally:
             run(self.room, "--no-spawn", "shutdown-server")
@@ -101,10 +122,15 @@ class Starts(Case):
         home = str(COMMAND.parent)
 
         def said(words: List[str], path: str) -> bytes:
-            environment = {**os.environ, "WATCHMAN_SOCK": bridge.sockname, "WQD_SOCK": bridge.server.sockname,
-                           "PATH": path}
-            return subprocess.run(words, env=environment, stdout=subprocess.PIPE, stderr=subprocess.DEVNULL,
-                                  timeout=PATIENCE).stdout
+            environment = {
+                **os.environ,
+                "WATCHMAN_SOCK": bridge.sockname,
+                "WQD_SOCK": bridge.server.sockname,
+                "PATH": path,
+            }
+            return subprocess.run(
+                words, env=environment, stdout=subprocess.PIPE, stderr=subprocess.DEVNULL, timeout=PATIENCE
+            ).stdout
 
         def quick(*words: str) -> bytes:
             return said(["/bin/sh", str(COMMAND), *words], "/none")
@@ -114,14 +140,26 @@ class Starts(Case):
             self.same("a bridge that has not seen its server", quick("get-sockname"), b"")
             with bridge.client() as client:
                 client.ask("version")
-            for words in (["get-sockname"], ["version"], ["--no-pretty", "get-sockname"], ["version", "--no-pretty"],
-                          ["--output-encoding=json", "get-sockname"]):
-                slow = said([sys.executable, str(COMMAND.parent / "bridge" / "watchman.py"), home, *words],
-                            os.environ["PATH"])
+            for words in (
+                ["get-sockname"],
+                ["version"],
+                ["--no-pretty", "get-sockname"],
+                ["version", "--no-pretty"],
+                ["--output-encoding=json", "get-sockname"],
+            ):
+                slow = said(
+                    [sys.executable, str(COMMAND.parent / "bridge" / "watchman.py"), home, *words], os.environ["PATH"]
+                )
                 self.same(f"watchman {' '.join(words)}", (quick(*words), slow != b""), (slow, True))
             self.check_the_quick_command_in_bser(bridge.sockname, quick)
-            for words in (["watch-list"], ["get-sockname", "more"], ["-j"], ["--output-encoding=bser-v2", "version"],
-                          ["get-sockname", "--output-encoding"], ["--output-encoding", "frob", "get-sockname"]):
+            for words in (
+                ["watch-list"],
+                ["get-sockname", "more"],
+                ["-j"],
+                ["--output-encoding=bser-v2", "version"],
+                ["get-sockname", "--output-encoding"],
+                ["--output-encoding", "frob", "get-sockname"],
+            ):
                 self.same(f"watchman {' '.join(words)} is left to Python", quick(*words), b"")
             bridge.server.process.kill()
             ended = Path(f"/proc/{bridge.server.process.pid}/stat")
@@ -152,16 +190,22 @@ class Starts(Case):
                 self.same(f"{words[0]} of a bridge by hand", (ended.returncode, stray.exists()), (0, False))
             bridge.server.kill()
             ended = run(self.room, "watch-list", sockname=bridge.sockname)
-            words = (f"watchman: nobody listens on {bridge.server.sockname}, "
-                     f"which the bridge at {bridge.sockname} asks\n")
-            self.same("its server has gone", (ended.returncode, ended.stderr.decode(), stray.exists()),
-                      (1, words, False))
+            words = (
+                f"watchman: nobody listens on {bridge.server.sockname}, "
+                f"which the bridge at {bridge.sockname} asks\n"
+            )
+            self.same(
+                "its server has gone", (ended.returncode, ended.stderr.decode(), stray.exists()), (1, words, False)
+            )
 
     def test_a_command_that_stays(self) -> None:
         """It says that the bridge has ended, and its status is not 0."""
         with Bridge(self.room) as bridge:
-            staying = subprocess.Popen([str(COMMAND), "--sockname", bridge.sockname, "--no-spawn", "-p", "version"],
-                                       stdout=subprocess.PIPE, stderr=subprocess.PIPE)
+            staying = subprocess.Popen(
+                [str(COMMAND), "--sockname", bridge.sockname, "--no-spawn", "-p", "version"],
+                stdout=subprocess.PIPE,
+                stderr=subprocess.PIPE,
+            )
             self.same("a command that stays is answered", staying.stdout.readline(), b"{\n")
             bridge.process.terminate()
             _, errors = staying.communicate(timeout=PATIENCE)
@@ -183,9 +227,18 @@ class Starts(Case):
         log_of("link").symlink_to(precious)
         os.mkfifo(str(log_of("pipe")))
         for name in ("link", "pipe"):
-            bridge = subprocess.run([sys.executable, str(PROGRAM), "--server", str(self.room / "none"), "--sockname",
-                                     str(self.room / name)],
-                                    stderr=subprocess.PIPE, timeout=PATIENCE)
+            bridge = subprocess.run(
+                [
+                    sys.executable,
+                    str(PROGRAM),
+                    "--server",
+                    str(self.room / "none"),
+                    "--sockname",
+                    str(self.room / name),
+                ],
+                stderr=subprocess.PIPE,
+                timeout=PATIENCE,
+            )
             self.same(f"a {name} as the lock", (bridge.returncode, b"cannot listen" in bridge.stderr), (1, True))
             for path in (self.room / f"{name}.start", log_of(name)):
                 ended = run(self.room, "version", sockname=name)
@@ -198,6 +251,10 @@ class Starts(Case):
 def name_by_default(runtime: Path, temporary: Path) -> str:
     environment = {**os.environ, "XDG_RUNTIME_DIR": str(runtime), "TMPDIR": str(temporary)}
     environment.pop("WATCHMAN_SOCK", None)
-    ended = subprocess.run([str(COMMAND), "--no-spawn", "--no-pretty", "get-sockname"], env=environment,
-                           stdout=subprocess.PIPE, timeout=PATIENCE)
+    ended = subprocess.run(
+        [str(COMMAND), "--no-spawn", "--no-pretty", "get-sockname"],
+        env=environment,
+        stdout=subprocess.PIPE,
+        timeout=PATIENCE,
+    )
     return str(json.loads(ended.stdout)["sockname"])

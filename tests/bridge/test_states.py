@@ -37,15 +37,29 @@ class States(Case):
             client.ask("watch", str(root))
             before = subscribed(other, root, "s", {"defer": ["x"]})
             reply = client.ask("state-enter", str(root), {"name": "x", "metadata": [1]})
-            self.same("state-enter", (reply.get("state-enter"), reply.get("root"), "clock" in reply),
-                      ("x", str(root), True))
-            self.same("another subscriber is told", without_clock(other.reply()), {
-                "state-enter": "x", "metadata": [1], "root": str(root), "subscription": "s", "unilateral": True,
-                "version": VERSION})
-            self.same("a state twice", client.ask("state-enter", str(root), "x")["error"],
-                      "state x is already asserted")
-            self.same("a state of another", other.ask("state-leave", str(root), "x")["error"],
-                      "state x was not asserted by this session")
+            self.same(
+                "state-enter", (reply.get("state-enter"), reply.get("root"), "clock" in reply), ("x", str(root), True)
+            )
+            self.same(
+                "another subscriber is told",
+                without_clock(other.reply()),
+                {
+                    "state-enter": "x",
+                    "metadata": [1],
+                    "root": str(root),
+                    "subscription": "s",
+                    "unilateral": True,
+                    "version": VERSION,
+                },
+            )
+            self.same(
+                "a state twice", client.ask("state-enter", str(root), "x")["error"], "state x is already asserted"
+            )
+            self.same(
+                "a state of another",
+                other.ask("state-leave", str(root), "x")["error"],
+                "state x was not asserted by this session",
+            )
             move_in(self.room / "aside", root, ["b"])
             self.same("a list is held back", is_silent(other), True)
             move_in(self.room / "aside", root, ["c"])
@@ -53,8 +67,11 @@ class States(Case):
             self.same("state-leave", client.ask("state-leave", str(root), "x").get("state-leave"), "x")
             self.same("the end of the state", other.reply().get("state-leave"), "x")
             found = other.reply()
-            self.same("one list comes after it", (found["files"], found["since"], found["is_fresh_instance"]),
-                      (["b", "c"], before["clock"], False))
+            self.same(
+                "one list comes after it",
+                (found["files"], found["since"], found["is_fresh_instance"]),
+                (["b", "c"], before["clock"], False),
+            )
             move_in(self.room / "aside", root, ["d"])
             later = other.reply()
             self.same("then lists come as before", (later["files"], later["since"]), (["d"], found["clock"]))
@@ -62,9 +79,11 @@ class States(Case):
             other.reply()
             client.close()
             found = other.reply()
-            self.same("a client that goes leaves its states",
-                      (found.get("state-leave"), found.get("abandoned"), "clock" in found),
-                 ("x", True, True))
+            self.same(
+                "a client that goes leaves its states",
+                (found.get("state-leave"), found.get("abandoned"), "clock" in found),
+                ("x", True, True),
+            )
 
     def test_dropping(self) -> None:
         """Changes under a state that drops them are told to nobody."""
@@ -78,8 +97,9 @@ class States(Case):
             self.same("a list is dropped", is_silent(client), True)
             move_in(self.room / "aside", root, ["c"])
             reply = client.ask("flush-subscriptions", str(root), {"sync_timeout": 1000})
-            self.same("and not flushed", reply,
-                      {"dropped": ["s"], "no_sync_needed": [], "synced": [], "version": VERSION})
+            self.same(
+                "and not flushed", reply, {"dropped": ["s"], "no_sync_needed": [], "synced": [], "version": VERSION}
+            )
             move_in(self.room / "aside", root, ["d"])
             client.ask("state-leave", str(root), "x")
             self.same("the end of the state", client.reply().get("state-leave"), "x")
@@ -103,19 +123,27 @@ class States(Case):
             client.send("flush-subscriptions", str(root), {"sync_timeout": 1000, "subscriptions": ["s"]})
             found = client.reply()
             self.same("a list before the reply", (found.get("subscription"), found.get("files")), ("s", ["b"]))
-            self.same("the reply", client.reply(),
-                      {"dropped": [], "no_sync_needed": [], "synced": ["s"], "version": VERSION})
+            self.same(
+                "the reply", client.reply(), {"dropped": [], "no_sync_needed": [], "synced": ["s"], "version": VERSION}
+            )
             reply = client.ask("flush-subscriptions", str(root), {"sync_timeout": 1000, "subscriptions": ["s", "u"]})
-            self.same("a subscription to another root", reply["error"],
-                      f"subscription 'u' is on root '{elsewhere}' different from command root '{root}'")
-            self.same("nothing is left",
-                      client.ask("flush-subscriptions", str(root), {"sync_timeout": 0, "subscriptions": ["s"]}),
-                 {"dropped": [], "no_sync_needed": ["s"], "synced": [], "version": VERSION})
+            self.same(
+                "a subscription to another root",
+                reply["error"],
+                f"subscription 'u' is on root '{elsewhere}' different from command root '{root}'",
+            )
+            self.same(
+                "nothing is left",
+                client.ask("flush-subscriptions", str(root), {"sync_timeout": 0, "subscriptions": ["s"]}),
+                {"dropped": [], "no_sync_needed": ["s"], "synced": [], "version": VERSION},
+            )
             client.ask("debug-set-subscriptions-paused", {"s": False, "t": False})
             self.same("a pause ends", (client.reply()["files"]), ["b"])
-            self.same("the subscribers",
-                      [each["info"] for each in client.ask("debug-get-subscriptions", str(root))["subscribers"]],
-                 ["s", "t"])
+            self.same(
+                "the subscribers",
+                [each["info"] for each in client.ask("debug-get-subscriptions", str(root))["subscribers"]],
+                ["s", "t"],
+            )
 
     def test_source_control(self) -> None:
         """No list comes while source control holds its lock, unless the subscription does not wait for it. Of two
@@ -134,8 +162,9 @@ class States(Case):
                 self.same(f"one that goes on gets {name}", (found["subscription"], found["files"]), ("goes on", [name]))
             (root / ".git" / "index.lock").unlink()
             found = client.reply()
-            self.same("one that waits gets one list", (found["subscription"], found["files"]),
-                      ("waits", ["b.c", "c.c"]))
+            self.same(
+                "one that waits gets one list", (found["subscription"], found["files"]), ("waits", ["b.c", "c.c"])
+            )
 
     def test_each_change_once(self) -> None:
         """Whatever holds lists back and lets them go, each of the files that came is in one list, and in no other."""
@@ -154,11 +183,15 @@ class States(Case):
                     reply = client.reply()
 
             steps = [
-                lambda: other.ask("state-enter", str(root), "x"), lambda: other.ask("state-leave", str(root), "x"),
+                lambda: other.ask("state-enter", str(root), "x"),
+                lambda: other.ask("state-leave", str(root), "x"),
                 lambda: ask("debug-set-subscriptions-paused", {"s": True}),
                 lambda: ask("debug-set-subscriptions-paused", {"s": False}),
-                lambda: ask("flush-subscriptions", str(root), {"sync_timeout": 1000}), lock.touch,
-                lambda: lock.unlink() if lock.exists() else None, lambda: time.sleep(0.03), lambda: time.sleep(0.03),
+                lambda: ask("flush-subscriptions", str(root), {"sync_timeout": 1000}),
+                lock.touch,
+                lambda: lock.unlink() if lock.exists() else None,
+                lambda: time.sleep(0.03),
+                lambda: time.sleep(0.03),
             ]
             names = [f"{number}.c" for number in range(DRAWS)]
             for name in names:
@@ -183,8 +216,11 @@ class States(Case):
             client.ask("watch", str(root))
             self.check_a_query_that_waits(self.room, root, client)
             reply = client.ask("query", str(root), {**NAMES, "settle_period": 300, "settle_timeout": 100})
-            self.same("a query that waits too long", reply.get("error"),
-                      "query failed: the root did not settle for 300 ms within 100 ms")
+            self.same(
+                "a query that waits too long",
+                reply.get("error"),
+                "query failed: the root did not settle for 300 ms within 100 ms",
+            )
             subscribed(other, root, "s", {})
             self.check_lists_that_wait(self.room, root, other)
 
@@ -248,9 +284,12 @@ class States(Case):
             self.same("the places of the others are free again", direct.ask("version"), {"version": "wq-1"})
             query = {**NAMES, "empty_on_fresh_instance": True}
             refused = [client.ask("subscribe", str(root), f"t{number}", query) for number in range(64)]
-            self.same("without a place it is said", refused[-1].get("error"),
-                      "the 32 places of the server are taken: each client has one, and one more for each 64 "
-                      "subscriptions (E17)")
+            self.same(
+                "without a place it is said",
+                refused[-1].get("error"),
+                "the 32 places of the server are taken: each client has one, and one more for each 64 "
+                "subscriptions (E17)",
+            )
             self.same("the client goes on", client.ask("watch-list")["roots"], [str(root)])
             for other in others:
                 other.close()

@@ -35,11 +35,15 @@ class Triggered(Case):
             for keys, expected in (
                 ({"append_files": True}, [str(root), "a.c", "d/b.c", whole]),
                 ({"chdir": "d/e", "stdin": "NAME_PER_LINE"}, ["a.c", "d/b.c", f"{root}/d/e", whole]),
-                ({"relative_root": "d", "stdin": "NAME_PER_LINE", "append_files": True},
-                 ["b.c", f"{root}/d", "b.c", below]),
+                (
+                    {"relative_root": "d", "stdin": "NAME_PER_LINE", "append_files": True},
+                    ["b.c", f"{root}/d", "b.c", below],
+                ),
                 ({"relative_root": "d", "chdir": "e", "stdin": ["name"]}, ['["b.c"]', f"{root}/d/e", below]),
-                ({"relative_root": "d", "stdin": ["name", "size", "mode"]},
-                 [json.dumps([{"name": "b.c", "size": 5, "mode": mode}], separators=(",", ":")), f"{root}/d", below]),
+                (
+                    {"relative_root": "d", "stdin": ["name", "size", "mode"]},
+                    [json.dumps([{"name": "b.c", "size": 5, "mode": mode}], separators=(",", ":")), f"{root}/d", below],
+                ),
                 ({"stdin": "NAME_PER_LINE", "max_files_stdin": 1}, ["a.c", str(root), whole]),
             ):
                 out.write_text("")
@@ -54,26 +58,47 @@ class Triggered(Case):
         make_files(root, ["a.c"])
         log, errors = self.room / "log", self.room / "errors"
         with Bridge(self.room) as bridge, bridge.client() as client:
-            definition = {"name": "t", "command": ["sh", "-c", "echo out; echo err >&2; echo end"],
-                          "expression": ["suffix", "c"],
-                          "stdout": f">>{log}", "stderr": f">{errors}"}
+            definition = {
+                "name": "t",
+                "command": ["sh", "-c", "echo out; echo err >&2; echo end"],
+                "expression": ["suffix", "c"],
+                "stdout": f">>{log}",
+                "stderr": f">{errors}",
+            }
             client.ask("trigger", str(root), definition)
             text_of(log, lambda text: text.count("end") == 1)
             move_in(self.room / "aside", root, ["b.c"])
             self.same("an output is added", text_of(log, lambda text: text.count("end") == 2), "out\nend\n" * 2)
             self.same("and another is written anew", errors.read_text(), "err\n")
-            self.same("the definition is listed as it was", client.ask("trigger-list", str(root))["triggers"],
-                      [definition])
-            self.same("the same again", client.ask("trigger", str(root), definition),
-                      {"triggerid": "t", "disposition": "already_defined", "version": VERSION})
-            self.same("another", client.ask("trigger", str(root), {**definition, "stdout": f">{log}"})["disposition"],
-                      "replaced")
+            self.same(
+                "the definition is listed as it was", client.ask("trigger-list", str(root))["triggers"], [definition]
+            )
+            self.same(
+                "the same again",
+                client.ask("trigger", str(root), definition),
+                {"triggerid": "t", "disposition": "already_defined", "version": VERSION},
+            )
+            self.same(
+                "another",
+                client.ask("trigger", str(root), {**definition, "stdout": f">{log}"})["disposition"],
+                "replaced",
+            )
             client.ask("trigger", str(root), "u", "*.c", "-X", "b*", "--", "true", "x")
-            self.same("the old form", client.ask("trigger-list", str(root))["triggers"][1], {
-                "name": "u", "append_files": True, "stdin": ["name", "exists", "new", "size", "mode"],
-                "command": ["true", "x"],
-                "expression": ["allof", ["not", ["anyof", ["match", "b*", "wholename"]]],
-                               ["anyof", ["match", "*.c", "wholename"]]]})
+            self.same(
+                "the old form",
+                client.ask("trigger-list", str(root))["triggers"][1],
+                {
+                    "name": "u",
+                    "append_files": True,
+                    "stdin": ["name", "exists", "new", "size", "mode"],
+                    "command": ["true", "x"],
+                    "expression": [
+                        "allof",
+                        ["not", ["anyof", ["match", "b*", "wholename"]]],
+                        ["anyof", ["match", "*.c", "wholename"]],
+                    ],
+                },
+            )
 
     def test_the_log(self) -> None:
         """A client that reads the log gets the lines of others, and the starts of triggers."""
@@ -82,12 +107,15 @@ class Triggered(Case):
         with Bridge(self.room) as bridge, bridge.client() as client, bridge.client() as other:
             self.same("log-level", client.ask("log-level", "error"), {"log_level": "error", "version": VERSION})
             for level in ("debug", "error"):
-                self.same(f"log {level}", other.ask("log", level, f"words of {level}"),
-                          {"logged": True, "version": VERSION})
+                self.same(
+                    f"log {level}", other.ask("log", level, f"words of {level}"), {"logged": True, "version": VERSION}
+                )
             found = client.reply()
-            self.same("a line of the log",
-                      (found["level"], found["unilateral"], found["log"].endswith(" words of error\n")),
-                 ("error", True, True))
+            self.same(
+                "a line of the log",
+                (found["level"], found["unilateral"], found["log"].endswith(" words of error\n")),
+                ("error", True, True),
+            )
             client.ask("log-level", "debug")
             other.ask("trigger", str(root), "t", "*.c", "--", "true")
             self.same("the start of a trigger", f"{root} posix_spawnp: t" in client.reply()["log"], True)
@@ -112,5 +140,6 @@ class Triggered(Case):
             move_in(self.room / "aside", root, ["newer"])
             later = client.reply()
             self.same("and goes on", (later["files"], later["since"]), (["newer"], first["clock"]))
-            self.same("the cursor has moved", client.ask("query", str(root), {**query, "since": "n:k"})["files"],
-                      ["newer"])
+            self.same(
+                "the cursor has moved", client.ask("query", str(root), {**query, "since": "n:k"})["files"], ["newer"]
+            )

@@ -8,8 +8,18 @@ from bridged import VERSION, Bridge, make_files
 from case import Case
 from client import PATIENCE
 
-HAS = ("cmd-watch-project", "cmd-state-enter", "cmd-flush-subscriptions", "cmd-log-level", "relative_root", "wildmatch",
-       "term-dirname", "suffix-set", "field-mode", "glob_generator")
+HAS = (
+    "cmd-watch-project",
+    "cmd-state-enter",
+    "cmd-flush-subscriptions",
+    "cmd-log-level",
+    "relative_root",
+    "wildmatch",
+    "term-dirname",
+    "suffix-set",
+    "field-mode",
+    "glob_generator",
+)
 HAS_NOT = ("term-pcre", "scm-hg", "scm-since", "cmd-debug-ageout", "nothing")
 
 
@@ -27,8 +37,10 @@ ERRORS_OF_QUERIES: List[Tuple[Dict[str, object], str]] = [
     ({"path": 7}, "'path' must be an array"),
     ({"path": [{"path": "d"}]}, "expected object with 'path' and 'depth' properties"),
     ({"suffix": [7]}, "'suffix' must be a string or an array of strings"),
-    ({"glob": ["*"], "since": "c:1:1", "case_sensitive": False},
-     "glob and since together take case_sensitive and no glob_noescape"),
+    (
+        {"glob": ["*"], "since": "c:1:1", "case_sensitive": False},
+        "glob and since together take case_sensitive and no glob_noescape",
+    ),
     ({"expression": ["match", "x" * 256]}, "pattern too long (E28)"),
     ({"program": "p", "relative_root": "d"}, NO_PROGRAM),
     ({"program": "p", "glob": ["*"]}, NO_PROGRAM),
@@ -85,16 +97,28 @@ class Words(Case):
             self.same("capabilities that a client asks for", reply.get("capabilities"), expected)
             self.same("capabilities that are no error", "error" in reply, False)
             reply = client.ask("version", {"required": ["relative_root", "nothing"], "optional": ["wildmatch"]})
-            self.same("a required capability", reply.get("error"),
-                      "client required capability `nothing` is not supported by this server")
-            self.same("what is there beside it", reply.get("capabilities"),
-                      {"relative_root": True, "nothing": False, "wildmatch": True})
+            self.same(
+                "a required capability",
+                reply.get("error"),
+                "client required capability `nothing` is not supported by this server",
+            )
+            self.same(
+                "what is there beside it",
+                reply.get("capabilities"),
+                {"relative_root": True, "nothing": False, "wildmatch": True},
+            )
             for wishes in ({"optional": [], "required": []}, {}, "/path", 7, {"optional": "x"}):
-                self.same(f"version with {wishes}", client.ask("version", wishes),
-                          {"version": VERSION, "wqd": "wq-1", "capabilities": {}})
+                self.same(
+                    f"version with {wishes}",
+                    client.ask("version", wishes),
+                    {"version": VERSION, "wqd": "wq-1", "capabilities": {}},
+                )
             found = client.ask("list-capabilities")["capabilities"]
-            self.same("the list of capabilities", [name in found for name in (*HAS, *HAS_NOT)],
-                      [True] * len(HAS) + [False] * len(HAS_NOT))
+            self.same(
+                "the list of capabilities",
+                [name in found for name in (*HAS, *HAS_NOT)],
+                [True] * len(HAS) + [False] * len(HAS_NOT),
+            )
             self.same("each is there once", len(found), len(set(found)))
             self.same("get-sockname", client.ask("get-sockname"), {"sockname": bridge.sockname, "version": VERSION})
             self.same("get-pid is that of the server", client.ask("get-pid")["pid"], bridge.server.process.pid)
@@ -129,22 +153,36 @@ class Words(Case):
         os.symlink(trees / "git" / "a", trees / "link")
         with Bridge(self.room) as bridge, bridge.client() as client:
             for path, root, below in (
-                ("git/a/b", "git", "a/b"), ("git", "git", None), ("git/a", "git", "a"), ("far/near/c", "far", "near/c"),
-                ("plain/d", "plain/d", None), ("link/b", "git", "a/b"),
+                ("git/a/b", "git", "a/b"),
+                ("git", "git", None),
+                ("git/a", "git", "a"),
+                ("far/near/c", "far", "near/c"),
+                ("plain/d", "plain/d", None),
+                ("link/b", "git", "a/b"),
             ):
                 expected = {"version": VERSION, "watch": str(trees / root), "watcher": "poll"}
                 if below is not None:
                     expected["relative_path"] = below
                 self.same(f"the project of {path}", client.ask("watch-project", str(trees / path)), expected)
             client.ask("watch", str(trees))
-            self.same("the nearest watched root", client.ask("watch-project", str(trees / "plain" / "d"))["watch"],
-                      str(trees / "plain" / "d"))
-            self.same("a watched root above", client.ask("watch-project", str(trees / "plain"))["relative_path"],
-                      "plain")
-            self.same("watched roots", client.ask("watch-list")["roots"],
-                      [str(trees / "git"), str(trees / "far"), str(trees / "plain" / "d"), str(trees)])
-            self.same("a link is watched by its directory", client.ask("watch", str(trees / "link"))["watch"],
-                      str(trees / "git" / "a"))
+            self.same(
+                "the nearest watched root",
+                client.ask("watch-project", str(trees / "plain" / "d"))["watch"],
+                str(trees / "plain" / "d"),
+            )
+            self.same(
+                "a watched root above", client.ask("watch-project", str(trees / "plain"))["relative_path"], "plain"
+            )
+            self.same(
+                "watched roots",
+                client.ask("watch-list")["roots"],
+                [str(trees / "git"), str(trees / "far"), str(trees / "plain" / "d"), str(trees)],
+            )
+            self.same(
+                "a link is watched by its directory",
+                client.ask("watch", str(trees / "link"))["watch"],
+                str(trees / "git" / "a"),
+            )
             self.same("watch-del-all", len(client.ask("watch-del-all")["roots"]), 5)
             self.same("no root is left", client.ask("watch-list")["roots"], [])
 
@@ -153,8 +191,9 @@ class Words(Case):
         with Bridge(self.room) as bridge:
             with bridge.client() as client, bridge.client() as other:
                 other.ask("version")
-                self.same("shutdown-server", client.ask("shutdown-server"),
-                          {"shutdown-server": True, "version": VERSION})
+                self.same(
+                    "shutdown-server", client.ask("shutdown-server"), {"shutdown-server": True, "version": VERSION}
+                )
                 self.same("the stream of another client ends", other.rest(), b"")
             self.same("the bridge ends", bridge.process.wait(PATIENCE), 0)
             self.same("the server ends", bridge.server.process.wait(PATIENCE), 0)
@@ -172,8 +211,10 @@ def errors_of_commands(root: str, other: str) -> List[Tuple[List[object], str]]:
         (["watch", "rel"], 'unable to resolve root rel: path "rel" must be absolute'),
         (["watch", "/"], 'unable to resolve root /: cannot watch "/"'),
         (["watch"], "wrong number of arguments to 'watch'"),
-        (["watch", f"{root}/no"],
-         f"unable to resolve root {root}/no: realpath({root}/no) -> No such file or directory"),
+        (
+            ["watch", f"{root}/no"],
+            f"unable to resolve root {root}/no: realpath({root}/no) -> No such file or directory",
+        ),
         (["watch", f"{root}/a"], f"unable to resolve root {root}/a: opendir_nofollow: {root}/a: Not a directory"),
         (["query", other, {}], f"unable to resolve root {other}: directory {other} is not watched"),
         (["get-config", other], f"unable to resolve root {other}: directory {other} is not watched"),
@@ -183,15 +224,18 @@ def errors_of_commands(root: str, other: str) -> List[Tuple[List[object], str]]:
         (["find"], "not enough arguments for 'find'"),
         (["find", root, "*", 7], "failed to parse query: rule @ position 3 is not a string value"),
         (["since", root, 7], "expected argument 2 to be a valid clockspec"),
-        (["watch-project", f"{root}/no"],
-         f"resolve_projpath: path `{root}/no`: open: {root}/no: No such file or directory"),
+        (
+            ["watch-project", f"{root}/no"],
+            f"resolve_projpath: path `{root}/no`: open: {root}/no: No such file or directory",
+        ),
         (["watch-project", 7], "second argument must be a string"),
         (["unsubscribe", root], "expected 2nd parameter to be subscription name"),
         (["subscribe", root, "s"], "wrong number of arguments for subscribe"),
         (["subscribe", root, "s", {"defer": 7}], "defer field must be an array of strings"),
         (["log-level", "x"], "invalid log level for 'log-level'"),
         (["log", "debug"], "wrong number of arguments to 'log'"),
-        *errors_of_triggers(root), *errors_of_states(root),
+        *errors_of_triggers(root),
+        *errors_of_states(root),
     ]
 
 
@@ -200,8 +244,10 @@ def errors_of_triggers(root: str) -> List[Tuple[List[object], str]]:
     return [
         (["trigger"], "wrong number of arguments"),
         (["trigger", root], "not enough arguments"),
-        (["trigger", f"{root}/no"],
-         f"unable to resolve root {root}/no: realpath({root}/no) -> No such file or directory"),
+        (
+            ["trigger", f"{root}/no"],
+            f"unable to resolve root {root}/no: realpath({root}/no) -> No such file or directory",
+        ),
         (["trigger", root, "t", "*.c"], "no command was specified"),
         (["trigger", root, "t", "--", 123], "failed to parse query: rule @ position 4 is not a string value"),
         (["trigger", root, {}], "invalid or missing name"),
@@ -224,10 +270,14 @@ def errors_of_states(root: str) -> List[Tuple[List[object], str]]:
         (["state-leave", root, "b"], "state b is not asserted"),
         (["flush-subscriptions", root], "wrong number of arguments to 'flush-subscriptions'"),
         (["flush-subscriptions", root, {}], "key 'sync_timeout' is not present in this json object"),
-        (["flush-subscriptions", root, {"sync_timeout": 1, "subscriptions": 7}],
-         "expected 'subscriptions' to be an array of subscription names"),
-        (["flush-subscriptions", root, {"sync_timeout": 1, "subscriptions": ["x"]}],
-         "this client does not have a subscription named 'x'"),
+        (
+            ["flush-subscriptions", root, {"sync_timeout": 1, "subscriptions": 7}],
+            "expected 'subscriptions' to be an array of subscription names",
+        ),
+        (
+            ["flush-subscriptions", root, {"sync_timeout": 1, "subscriptions": ["x"]}],
+            "this client does not have a subscription named 'x'",
+        ),
     ]
 
 

@@ -57,7 +57,7 @@ def data_of(group: Dict[str, str], version: int) -> bytes:
     else:
         data = file_of(group["code"], *[group.get(table, "") for table in TABLES], version)
     data += bytes.fromhex(group.get("then", ""))
-    return data[:len(data) - int(group.get("cut", "0"))]
+    return data[: len(data) - int(group.get("cut", "0"))]
 
 
 def cases_of_bytes(group: Dict[str, str], data: bytes) -> Iterator[FileCase]:
@@ -67,5 +67,5 @@ def cases_of_bytes(group: Dict[str, str], data: bytes) -> Iterator[FileCase]:
     for values in group[key].split():
         first, _, last = values.partition("-")
         for value in range(int(first, 16), int(last or first, 16) + 1):
-            changed = data[:place] + bytes([value]) + data[place + 1:]
+            changed = data[:place] + bytes([value]) + data[place + 1 :]
             yield FileCase(f"{group['name']}: {value:02x}", changed, group["says"])

@@ -49,7 +49,7 @@ def program_of(draws: Draws, version: int) -> bytes:
         [pattern(draws) for _ in range(rows)],
         [patterns(draws, wide) for _ in range(rows)],
     ]
-    tables = [*constants[:wide.tables], instructions(draws, wide)]
+    tables = [*constants[: wide.tables], instructions(draws, wide)]
     counts = b"".join(wide.bytes_of(len(table)) for table in tables)
     return b"WQPF" + bytes([wide.version]) + counts + b"".join(row for table in tables for row in table)
 
@@ -82,7 +82,7 @@ def instructions(draws: Draws, wide: Width) -> List[bytes]:
     while len(code) < length:
         chosen = next_instruction(draws, stack, wide)
         code.append(operation(draws, chosen, len(code), wide))
-        stack = (stack[:max(0, len(stack) - len(chosen.needs))] + chosen.leaves)[:17]
+        stack = (stack[: max(0, len(stack) - len(chosen.needs))] + chosen.leaves)[:17]
     if not draws.one_in(8):
         code += [b"\x18\0" + wide.bytes_of(0)] * len(stack) + [b"\x0e\0" + wide.bytes_of(0)]
     if not draws.one_in(8):
@@ -96,15 +96,13 @@ def next_instruction(draws: Draws, stack: str, wide: Width) -> Instruction:
         return draws.pick(known)
     left_out = ("ret",) if draws.one_in(4) else ("ret", "jump")
     fitting = [
-        instruction
-        for instruction in known
-        if instruction.name not in left_out and can_take(stack, instruction.needs)
+        instruction for instruction in known if instruction.name not in left_out and can_take(stack, instruction.needs)
     ]
     return draws.pick(fitting)
 
 
 def can_take(stack: str, needs: str) -> bool:
-    top = stack[len(stack) - len(needs):] if len(needs) <= len(stack) else None
+    top = stack[len(stack) - len(needs) :] if len(needs) <= len(stack) else None
     return top is not None and all(need in ("?", cell) for cell, need in zip(top, needs))
 
 
@@ -125,13 +123,13 @@ def mutated(draws: Draws, data: bytes) -> bytes:
     if change == 0:
         return data[:place]
     if change == 1:
-        return data[:place] + bytes([draws.below(256)]) + data[place + 1:]
+        return data[:place] + bytes([draws.below(256)]) + data[place + 1 :]
     if change == 2:
-        return data[:place] + bytes([data[place] ^ 1 << draws.below(8)]) + data[place + 1:]
+        return data[:place] + bytes([data[place] ^ 1 << draws.below(8)]) + data[place + 1 :]
     if change == 3:
         return data[:place] + bytes([draws.below(256)]) + data[place:]
     if change == 4:
-        return data[:place] + data[place + 1:]
+        return data[:place] + data[place + 1 :]
     if change == 5:
         return data + data[place:]
     if change == 6:

@@ -33,17 +33,19 @@ def file_of(
     wide = WIDTHS[2 if sets else version]
     words = [part.split() for part in expand(code).split(";") if part.strip()]
     tables = [values(table) for table in (numbers, texts, lists, patterns, sets)]
-    counts = [len(table) for table in tables[:wide.tables]] + [len(words)]
-    return b"".join([
-        b"WQPF" + bytes([wide.version]),
-        *[wide.bytes_of(count) for count in counts],
-        *[number.to_bytes(8, "big", signed=True) for number in tables[0]],
-        *[text_bytes(text) for text in tables[1]],
-        *[wide.bytes_of(len(entries)) + b"".join(map(text_bytes, entries)) for entries in tables[2]],
-        *map(pattern_bytes, tables[3]),
-        *[wide.bytes_of(len(patterns)) + b"".join(map(pattern_bytes, patterns)) for patterns in tables[4]],
-        *[operation_bytes(part, wide) for part in words],
-    ])
+    counts = [len(table) for table in tables[: wide.tables]] + [len(words)]
+    return b"".join(
+        [
+            b"WQPF" + bytes([wide.version]),
+            *[wide.bytes_of(count) for count in counts],
+            *[number.to_bytes(8, "big", signed=True) for number in tables[0]],
+            *[text_bytes(text) for text in tables[1]],
+            *[wide.bytes_of(len(entries)) + b"".join(map(text_bytes, entries)) for entries in tables[2]],
+            *map(pattern_bytes, tables[3]),
+            *[wide.bytes_of(len(patterns)) + b"".join(map(pattern_bytes, patterns)) for patterns in tables[4]],
+            *[operation_bytes(part, wide) for part in words],
+        ]
+    )
 
 
 class Width(NamedTuple):

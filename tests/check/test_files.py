@@ -29,8 +29,9 @@ class Files(Case):
         """The program and the plain verifier have to say what the case says."""
         cases = list(read_cases((HERE / "cases").read_text(encoding="utf-8")))
         for case in cases:
-            self.check(f"{case.name}, by the plain verifier", said(case.data) == case.line,
-                       [said(case.data), case.line])
+            self.check(
+                f"{case.name}, by the plain verifier", said(case.data) == case.line, [said(case.data), case.line]
+            )
             self.check_case(case)
         print(f"{len(cases)} cases")
 
@@ -64,8 +65,9 @@ class Files(Case):
         self.check_case(FileCase("the longest file of zeros", bytes(LONGEST_FILE), "refused F1"))
         self.same("a file of a byte more", checked(self.room, long_program(LONGEST_FILE + 1, 1)), CANNOT_READ)
         self.same("a byte behind the longest file", checked(self.room, longest + b"\0"), CANNOT_READ)
-        self.same("a file of a byte more that begins with no magic", checked(self.room, bytes(LONGEST_FILE + 1)),
-                  CANNOT_READ)
+        self.same(
+            "a file of a byte more that begins with no magic", checked(self.room, bytes(LONGEST_FILE + 1)), CANNOT_READ
+        )
         self.same("a file without an end", built.run(["check", "/dev/zero"]), CANNOT_READ)
 
     def test_unreadable(self) -> None:
@@ -107,7 +109,7 @@ def long_program(length: int, version: int) -> bytes:
     wide = WIDTHS[version]
     program = file_of("flag 1; ret", lists="[]", version=version)
     start = 5 + (wide.tables + 1) * wide.count
-    head, code = program[:start], program[start + wide.count:]
+    head, code = program[:start], program[start + wide.count :]
     full, rest = divmod(length - len(program), len(entry))
     entries = entry * full + (rest - 2).to_bytes(2, "big") + b"a" * (rest - 2)
     return head + wide.bytes_of(full + 1) + entries + code

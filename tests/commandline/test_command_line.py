@@ -16,9 +16,27 @@ NOT_JSON = b'1 {"error":"E2: not JSON","version":"wq-1"}\n'
 
 GOOD_WORDS: List[List[Union[str, bytes]]] = [["replay"]]
 WRONG_WORDS: List[List[Union[str, bytes]]] = [
-    [], ["frob"], ["replay", "now"], ["--help"], ["replay", "--help"], ["-h"], ["help"], ["--version"], [""],
-    ["Replay"], ["replay", ""], ["replay", "replay"], ["replay", "-x"], [b"\xff"], ["replay", b"\xff"],
-    [b"replay\xff"], ["frob", b"\xff"], ["check"], ["check", "a", "b"], ["check", b"\xff"], ["check", "--help"],
+    [],
+    ["frob"],
+    ["replay", "now"],
+    ["--help"],
+    ["replay", "--help"],
+    ["-h"],
+    ["help"],
+    ["--version"],
+    [""],
+    ["Replay"],
+    ["replay", ""],
+    ["replay", "replay"],
+    ["replay", "-x"],
+    [b"\xff"],
+    ["replay", b"\xff"],
+    [b"replay\xff"],
+    ["frob", b"\xff"],
+    ["check"],
+    ["check", "a", "b"],
+    ["check", b"\xff"],
+    ["check", "--help"],
 ]
 
 LONGEST_LINE = 1_048_576
@@ -99,13 +117,17 @@ def replay_from(
     pieces: Iterable[bytes], output: Optional[IO[bytes]] = None, memory: Optional[int] = None
 ) -> built.Ended:
     """Replays a script that comes in pieces, until the program takes no more."""
+
     def limit_memory() -> None:
         if memory is not None:
             resource.setrlimit(resource.RLIMIT_AS, (memory, memory))
 
     with tempfile.TemporaryFile() as written, tempfile.TemporaryFile() as errors:
         process = subprocess.Popen(
-            [built.program_path(), "replay"], stdin=subprocess.PIPE, stdout=output or written, stderr=errors,
+            [built.program_path(), "replay"],
+            stdin=subprocess.PIPE,
+            stdout=output or written,
+            stderr=errors,
             preexec_fn=limit_memory,
         )
         try:

@@ -160,6 +160,7 @@ class Expressions(Case):
     def check_one(self, case: Asked, written: Made, expected: Made, view: View) -> None:
         """Whether the program is as the plain compiler makes it and the case says, may run, and answers as it has
         to."""
+
         def expect(what: str, is_right: bool) -> None:
             self.check(f"{case.name}: {what}", is_right, details(case, written, expected))
 
@@ -183,14 +184,14 @@ class Expressions(Case):
         early = [case for case in known if not case.has_files]
         cases = early + [case for case in known if case.has_files] + drawn
         lines = [case.line for case in cases]
-        lines[len(early):len(early)] = tree.decode().splitlines()
+        lines[len(early) : len(early)] = tree.decode().splitlines()
         written = [made_of(line) for line in answers(HERE, lines)]
         self.assertEqual(len(written), len(cases))
         for case, one in zip(cases, written):
             seen = view if case.has_files else empty
             self.check_one(case, one, expected_for(case.value, seen), seen)
         self.check("docs/PROGRAMS.md has programs of expressions", len(page) > 0)
-        self.check_counts(view, drawn, written[-len(drawn):])
+        self.check_counts(view, drawn, written[-len(drawn) :])
         print(f"{len(known)} other expressions; {len(view.records)} files")
 
     def check_counts(self, view: View, cases: List[Asked], made: List[Made]) -> None:

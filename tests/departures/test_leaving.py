@@ -28,8 +28,11 @@ class Leaving(Case):
             self.check_with_many_lines(house)
             house.goes_on(self, "after all of them went")
             self.same("the end after all of them went", house.server.shut_down(house.first), 0)
-            self.same("what the server said", house.server.errors(),
-                      f"listening on {house.server.sockname}\n".encode() + ENDED)
+            self.same(
+                "what the server said",
+                house.server.errors(),
+                f"listening on {house.server.sockname}\n".encode() + ENDED,
+            )
 
     def check_while_a_tree_is_listed(self, house: House) -> None:
         """The root that it had listed is watched all the same."""

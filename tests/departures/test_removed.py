@@ -22,8 +22,11 @@ class Removed(Case):
                 told = client.ask("get-sockname")
                 self.same(f"the name that it tells without {name}", told, {"sockname": server.sockname, **VERSION})
                 self.same(f"the end without {name}", server.shut_down(client), 0)
-                self.same(f"what it says without {name}", server.errors(),
-                          f"listening on {server.sockname}\n".encode() + ENDED)
+                self.same(
+                    f"what it says without {name}",
+                    server.errors(),
+                    f"listening on {server.sockname}\n".encode() + ENDED,
+                )
             shutil.rmtree(inside, ignore_errors=True)
             shutil.rmtree(tree)
 

@@ -32,8 +32,9 @@ class Scarce(Case):
         number = unused_number()
         if os.geteuid() == 0:
             os.chown(self.room, number, number)
-        with Server(self.room, interval=INTERVAL,
-                    through=[sys.executable, str(USER), str(number)]) as server, server.client(tree) as client:
+        with Server(
+            self.room, interval=INTERVAL, through=[sys.executable, str(USER), str(number)]
+        ) as server, server.client(tree) as client:
             threads = server.least_threads()
             for limit in limits(threads):
                 name = f"with {limit} threads, of which {threads} are there"
@@ -84,8 +85,9 @@ class Scarce(Case):
                 self.same(f"one of them goes on with {limit} handles", others[0].ask("version"), VERSION)
                 for other in others:
                     other.close()
-                self.check(f"handles of those that went, of {limit}", has_handles(server, handles),
-                           [f"{handles_of(server)}"])
+                self.check(
+                    f"handles of those that went, of {limit}", has_handles(server, handles), [f"{handles_of(server)}"]
+                )
                 self.check_others(f"by a client that stayed, with {limit} handles", client, tree)
                 with server.client_when_free() as late:
                     self.check_others(f"by a client that came later, with {limit} handles", late, tree)

@@ -94,8 +94,12 @@ class Caller(Picture):
         since = {"since": self.clock} if self.clock else {}
         found = []
         with self.server.client() as client:
-            client.send_bytes(b"".join(
-                client.text(["query", str(self.root), {"fields": FIELDS, **since, **more}]) + b"\n" for more in lines))
+            client.send_bytes(
+                b"".join(
+                    client.text(["query", str(self.root), {"fields": FIELDS, **since, **more}]) + b"\n"
+                    for more in lines
+                )
+            )
             try:
                 for _ in lines:
                     found.append(client.reply())

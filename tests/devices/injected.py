@@ -46,8 +46,9 @@ def calls_before(call: str, words: List[str], script: bytes, first: str) -> int:
     sys.exit(f"tests/devices: no {call} begins with {first}: {calls}")
 
 
-def each_failing(call: str, error: str, words: List[str], script: bytes,
-                 first: str) -> Iterator[Tuple[int, built.Ended]]:
+def each_failing(
+    call: str, error: str, words: List[str], script: bytes, first: str
+) -> Iterator[Tuple[int, built.Ended]]:
     """Runs in which one call after the other fails, until a run meets none, which comes last as number 0."""
     before = calls_before(call, words, script, first)
     for number in range(1, MOST_CALLS):

@@ -52,8 +52,15 @@ class Pair(NamedTuple):
             rules = [rule(names[0], f"{low}..{high}+{high - low}")]
         else:
             rules = [rule(call, str(number)) for call, number in self]
-        return [*STRACE, "-D", "-o", str(log), "-e", "trace=" + ",".join(names),
-                *itertools.chain(*(("-e", it) for it in rules))]
+        return [
+            *STRACE,
+            "-D",
+            "-o",
+            str(log),
+            "-e",
+            "trace=" + ",".join(names),
+            *itertools.chain(*(("-e", it) for it in rules)),
+        ]
 
 
 def rule(call: str, when: str) -> str:

@@ -11,7 +11,9 @@ from injected import Fault, each_failing, run
 SCRIPTS = Path(__file__).resolve().parent.parent / "scripts"
 # A query with a cursor and a `watch`; subscriptions and idle moments; triggers with failed starts and ends.
 NAMES = [
-    "cursors", "a-root-is-watched-anew", "subscription-is-told-at-idle-moments",
+    "cursors",
+    "a-root-is-watched-anew",
+    "subscription-is-told-at-idle-moments",
     "trigger-whose-start-fails-again-and-again",
 ]
 # So many files are read and told in several pieces.
@@ -39,7 +41,12 @@ class Scripts(Case):
                 self.check_a_script_that_fails(f"{name}, {call}", script, whole, call, first)
 
     def check_a_script_that_fails(
-        self, name: str, script: bytes, whole: built.Ended, call: str, first: str,
+        self,
+        name: str,
+        script: bytes,
+        whole: built.Ended,
+        call: str,
+        first: str,
     ) -> None:
         for number, ended in each_failing(call, "EIO", ["replay"], script, first):
             if number == 0:
@@ -47,8 +54,9 @@ class Scripts(Case):
                 continue
             is_front = whole.output.startswith(ended.output)
             is_told = (ended.status, ended.errors) == (1, b"replay failed\n")
-            self.check(f"call {number} fails, {name}", is_front and is_told,
-                       [f"{ended.status}", built.excerpt(ended.errors)])
+            self.check(
+                f"call {number} fails, {name}", is_front and is_told, [f"{ended.status}", built.excerpt(ended.errors)]
+            )
 
     def test_scripts_that_are_interrupted(self) -> None:
         """Every second call is interrupted, and nothing changes."""

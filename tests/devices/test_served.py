@@ -61,8 +61,9 @@ class Served(Case):
                 return failed
         except ValueError as error:
             # A call of the start failed.
-            self.check(f"the start, {name}", "cannot listen" in str(error) and not (room / "socket").exists(),
-                       [f"{error}"])
+            self.check(
+                f"the start, {name}", "cannot listen" in str(error) and not (room / "socket").exists(), [f"{error}"]
+            )
             return True
 
     def check_a_follower(self, name: str, follower: Client, root: Path, fails: Callable[[], bool]) -> bool:
@@ -84,8 +85,11 @@ class Served(Case):
         failures = 0
         for number in range(1, MOST_OF_A_WALK):
             found, failed = names_below(self.room, Fault("getdents64", "EIO", str(number)))
-            self.check(f"all names of a directory or none, getdents64 {number} fails", found == (0 if failed else MANY),
-                       [f"{found}"])
+            self.check(
+                f"all names of a directory or none, getdents64 {number} fails",
+                found == (0 if failed else MANY),
+                [f"{found}"],
+            )
             if not failed:
                 break
             failures += 1
@@ -105,8 +109,9 @@ class Served(Case):
                 with server.client() as other:
                     programs = other.ask("program-list").get("programs")
                     # A line whose read failed was not taken; one whose reply failed was.
-                    self.check(f"what was added, {call}", programs == (["yes"] if call == "sendto" else []),
-                               [f"{programs}"])
+                    self.check(
+                        f"what was added, {call}", programs == (["yes"] if call == "sendto" else []), [f"{programs}"]
+                    )
                 with server.client() as last:
                     self.check(f"the end, {call}", server.shut_down(last) == 0)
 
@@ -181,8 +186,9 @@ def names_below(room: Path, fault: Fault) -> Tuple[int, bool]:
     watched."""
     root, log = room / f"many-{fault.when}", room / "log"
     root.mkdir()
-    with Server(room, interval=A_HOUR,
-                through=[*SERVED, "-o", str(log), *fault.words()]) as server, server.client() as first:
+    with Server(
+        room, interval=A_HOUR, through=[*SERVED, "-o", str(log), *fault.words()]
+    ) as server, server.client() as first:
         watch(first, root)
         before = count(log)
         (root / "d").mkdir()

@@ -28,14 +28,19 @@ SAID = [
     said("REFERENCE", "of a subscription and of a trigger | 1 to {} bytes |", "wq_clock max_cursor_name"),
     said("REFERENCE", "| cursors of a root, and programs that are kept | {} each |", "wq_registry max_cursors"),
     said("REFERENCE", "| cursors of a root, and programs that are kept | {} each |", "wq_registry max_programs"),
-    said("REFERENCE", "| subscriptions of a session, and triggers of a root | {} each |",
-         "wq_session max_subscriptions"),
+    said(
+        "REFERENCE", "| subscriptions of a session, and triggers of a root | {} each |", "wq_session max_subscriptions"
+    ),
     said("REFERENCE", "| subscriptions of a session, and triggers of a root | {} each |", "wq_registry max_triggers"),
     said("REFERENCE", "| terms inside one another | {} |", "wq_term max_depth"),
     said("REFERENCE", "of an expression's program, with its end | {} |", "wq_code max_rows_in Second"),
     said("REFERENCE", "empty suffixes not counted | {} |", "wq_code max_entries_in Second"),
-    said("REFERENCE", "has at most {} bytes, and a pattern at most {}.", "wq_term max_term_text",
-         "wq_glob max_pattern_length"),
+    said(
+        "REFERENCE",
+        "has at most {} bytes, and a pattern at most {}.",
+        "wq_term max_term_text",
+        "wq_glob max_pattern_length",
+    ),
     said("REFERENCE", "| line of a client, without its newline | {} bytes |", "wq_stream max_line"),
     said("REFERENCE", "| commands of triggers that run at once | {} |", "wq_launch max_runs"),
     said("REFERENCE", "| one, or {} bytes together;", "wq_launch max_input_bytes"),

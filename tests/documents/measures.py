@@ -34,9 +34,12 @@ QUOTES = [
     Quote("README.md", "Watchman takes {} for it.", "| write to answer | {} | .. | .. |"),
     Quote("docs/TROUBLESHOOTING.md", "the scan. It takes {} for 100,000 files", "| write to answer | .. | {} | .. |"),
     Quote("docs/SERVER.md", "At the default interval {} was measured for 100,000 files", "| idle | .. | {} | .. |"),
-    Quote("docs/SERVER.md", "| one view, after a scan that found nothing new | {} |",
-          "| memory of a view, in bytes an entry, with names of 33 bytes | {} | .. |"),
-    Quote("docs/REFERENCE.md", "of `{\"\":0},` in a list: .. s and {} |", "| .. | {} for `{\"\":0},` | .. |"),
+    Quote(
+        "docs/SERVER.md",
+        "| one view, after a scan that found nothing new | {} |",
+        "| memory of a view, in bytes an entry, with names of 33 bytes | {} | .. |",
+    ),
+    Quote("docs/REFERENCE.md", 'of `{"":0},` in a list: .. s and {} |', '| .. | {} for `{"":0},` | .. |'),
 ]
 # How many of the first unit of its kind each unit is.
 UNITS = {"s": 1.0, "ms": 1e-3, "B": 1.0, "MB": 1e6, "GB": 1e9, "%": 1.0, "/s": 1.0, "": 1.0}

@@ -34,7 +34,7 @@ def rooms(page: str) -> Iterator[Room]:
     for number, line in enumerate(page.split("\n"), 1):
         crate = CRATE.match(line)
         if line.startswith("## "):
-            recipe, base = line[len(HEADING):] if line.startswith(HEADING) else "", ""
+            recipe, base = line[len(HEADING) :] if line.startswith(HEADING) else "", ""
         elif crate:
             base = f"{crate[1]}/"
         elif line.startswith(("In ", "Outside ")):
@@ -72,5 +72,8 @@ def wrong_rooms(top: Path) -> Iterator[str]:
         yield f"the tables name other numbers of rooms than the page says: {counts}"
     for recipe, sibling in SIBLINGS.items():
         known = [*named[recipe], *(f"{room}/*" for room in named[recipe]), *sibling.unchanged]
-        yield from (f"{recipe}: {name} names {' and '.join(sibling.words)}, and is no room"
-                    for name in files_that_name(top, sibling.words) if not any(fnmatch(name, one) for one in known))
+        yield from (
+            f"{recipe}: {name} names {' and '.join(sibling.words)}, and is no room"
+            for name in files_that_name(top, sibling.words)
+            if not any(fnmatch(name, one) for one in known)
+        )

@@ -26,35 +26,44 @@ class Sibling(NamedTuple):
 
 SIBLINGS = {
     # One of the two is the name of a time of a record too, and the other that of an instruction and of a `since`.
-    "a field": Sibling(["mtime_ms|MtimeMs", "cclock|Cclock"], {
-        **MADE,
-        "bench/*": "a bench asks what it asked before",
-        "crates/wq_code/*": "instructions that read a record",
-        "crates/wq_machine/*": "the same",
-        "crates/wq_verify/*": "the same",
-        "edits/wq_term.edits": "the fields of `since`",
-        "tests/bridge/*": "samples of queries",
-        "tests/calls/query.rattle": "a sample of names",
-        "tests/refused_memory/*": "a field takes no memory",
-    }),
-    "a query key": Sibling(["empty_on_fresh_instance"], {
-        **MADE,
-        "clients/bridge/queries.py": "a key of Watchman, which says true or false",
-        "clients/tried/words.py": "the same",
-        "clients/wq/questions.py": "a value that is wrong, of any key",
-        "tests/bridge/*": "samples of queries",
-        "tests/refused_memory/query.rattle": "the key takes no memory",
-        "tests/wq/places.cases": "samples of faults",
-    }),
-    "a term": Sibling(["idirname|Idirname"], {
-        **MADE,
-        "clients/wq/vocabulary.py": "what to take in the place of `case_sensitive`",
-        "clients/wq/warnings.py": "warnings of terms that name directories",
-        "docs/CLIENTS.md": "what a client of Watchman says in its place",
-        "tests/plain/cases.py": "cases of the forms of arguments",
-        "tests/refused_memory/expression.rattle": "each form of arguments that takes memory",
-        "tests/wq/places.cases": "samples of faults",
-    }),
+    "a field": Sibling(
+        ["mtime_ms|MtimeMs", "cclock|Cclock"],
+        {
+            **MADE,
+            "bench/*": "a bench asks what it asked before",
+            "crates/wq_code/*": "instructions that read a record",
+            "crates/wq_machine/*": "the same",
+            "crates/wq_verify/*": "the same",
+            "edits/wq_term.edits": "the fields of `since`",
+            "tests/bridge/*": "samples of queries",
+            "tests/calls/query.rattle": "a sample of names",
+            "tests/refused_memory/*": "a field takes no memory",
+        },
+    ),
+    "a query key": Sibling(
+        ["empty_on_fresh_instance"],
+        {
+            **MADE,
+            "clients/bridge/queries.py": "a key of Watchman, which says true or false",
+            "clients/tried/words.py": "the same",
+            "clients/wq/questions.py": "a value that is wrong, of any key",
+            "tests/bridge/*": "samples of queries",
+            "tests/refused_memory/query.rattle": "the key takes no memory",
+            "tests/wq/places.cases": "samples of faults",
+        },
+    ),
+    "a term": Sibling(
+        ["idirname|Idirname"],
+        {
+            **MADE,
+            "clients/wq/vocabulary.py": "what to take in the place of `case_sensitive`",
+            "clients/wq/warnings.py": "warnings of terms that name directories",
+            "docs/CLIENTS.md": "what a client of Watchman says in its place",
+            "tests/plain/cases.py": "cases of the forms of arguments",
+            "tests/refused_memory/expression.rattle": "each form of arguments that takes memory",
+            "tests/wq/places.cases": "samples of faults",
+        },
+    ),
 }
 
 

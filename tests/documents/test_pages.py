@@ -66,12 +66,16 @@ class Pages(Case):
     def test_figures(self) -> None:
         """README has the figures of the file, and the file counts about as many lines as there are."""
         said = subprocess.run([str(built.TOP / "docs" / "figures")], stdout=subprocess.PIPE, stderr=subprocess.STDOUT)
-        self.check("README has the numbers of docs/figures.json", said.returncode == 0,
-                   said.stdout.decode().splitlines())
+        self.check(
+            "README has the numbers of docs/figures.json", said.returncode == 0, said.stdout.decode().splitlines()
+        )
         kept = json.loads((built.TOP / "docs" / "figures.json").read_text(encoding="utf-8"))["counts"]
         counted = json.loads(subprocess.check_output([str(built.TOP / "docs" / "counts"), "--sums"]))
-        far = [f"{name}: {kept.get(name, 0)}, and there are {count}" for name, count in counted.items()
-               if abs(kept.get(name, 0) - count) > FAR * count]
+        far = [
+            f"{name}: {kept.get(name, 0)}, and there are {count}"
+            for name, count in counted.items()
+            if abs(kept.get(name, 0) - count) > FAR * count
+        ]
         self.check("docs/figures.json has the lines of the tree: docs/counts --write", not far, far)
 
     def test_parts(self) -> None:

@@ -33,7 +33,7 @@ def functions_of(crate: str, text: str) -> Iterator[Function]:
             continue
         indent = found["indent"]
         end = re.compile(rf"^{indent}\}}", re.M).search(text, found.end())
-        lines = text[found.end():end.start() if end else len(text)]
+        lines = text[found.end() : end.start() if end else len(text)]
         body = re.split(rf"^{indent}\{{$|\{{$", lines, maxsplit=1, flags=re.M)
         yield Function(crate, owner if indent else "", found["name"], body[-1])
 

@@ -63,8 +63,12 @@ def wordy(top: Path) -> Iterator[str]:
         count = len(text.split())
         if count > MOST[name]:
             yield f"{name} has {count} words, and may have {MOST[name]}"
-    long = [f"{name}: {sentence}" for name, text in texts.items() for sentence in sentences(text)
-            if len(sentence.split()) > LONG]
+    long = [
+        f"{name}: {sentence}"
+        for name, text in texts.items()
+        for sentence in sentences(text)
+        if len(sentence.split()) > LONG
+    ]
     if len(long) > MOST_LONG:
         yield from (f"{len(long)} sentences have over {LONG} words, and {MOST_LONG} may", *long[-3:])
     found = list(plainer(texts))

@@ -24,8 +24,12 @@ class Watchman:
         sockname = home / "socket"
         program = shutil.which("watchman", path="/usr/bin:/usr/local/bin")
         words = [f"--sockname={sockname}", f"--logfile={home}/log", f"--pidfile={home}/pid", "--no-save-state"]
-        self.process = subprocess.Popen([program, "--foreground", *words], stdin=subprocess.DEVNULL,
-                                        stdout=subprocess.DEVNULL, stderr=subprocess.DEVNULL)
+        self.process = subprocess.Popen(
+            [program, "--foreground", *words],
+            stdin=subprocess.DEVNULL,
+            stdout=subprocess.DEVNULL,
+            stderr=subprocess.DEVNULL,
+        )
         wait_until(lambda: sockname.exists() or self.process.poll() is not None)
         self.client = Client(str(sockname))
 
@@ -59,8 +63,9 @@ class BesideWatchman(Case):
                     follower.takes("beside Watchman")
                     (source / "d0" / "f1").write_text("behind it")
                     (source / "d1" / "new").touch()
-                    self.same("what this server lists", follower.takes("a change beside Watchman"),
-                              ["d0/f1", "d1", "d1/new"])
+                    self.same(
+                        "what this server lists", follower.takes("a change beside Watchman"), ["d0/f1", "d1", "d1/new"]
+                    )
                 time.sleep(WAITS)
                 query = {"since": clock, "sync_timeout": 0, "fields": ["name"]}
                 self.same("what Watchman lists", watchman.client.ask("query", str(place), query)["files"], [])

@@ -94,7 +94,7 @@ class CrowdedDirectories(Case):
         """The names come while the root is watched, whose view stays. A root that has them is not watched."""
         if not os.access("/dev/fuse", os.R_OK | os.W_OK):
             self.skipTest("there is no /dev/fuse that may be opened")
-        root, = made(self.room, "crowded")
+        (root,) = made(self.room, "crowded")
         with Crowded(root) as crowd, Server(self.room, interval=A_HOUR) as server, server.client(root) as client:
             before = server.most_memory()
             crowd.is_crowded = True

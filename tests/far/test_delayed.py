@@ -55,8 +55,9 @@ class Delayed(Case):
         root, other = self.room / "tree", self.room / "other"
         make_tree(root, 6, 12)
         make_tree(other, 1, 1)
-        with Server(self.room, interval=A_HOUR, through=delayed(2 * DELAY)) as server, Follower(self, server,
-                                                                                                root) as follower:
+        with Server(self.room, interval=A_HOUR, through=delayed(2 * DELAY)) as server, Follower(
+            self, server, root
+        ) as follower:
             follower.takes("a first answer")
             writer = threading.Timer(0.05, lambda: [path.write_text("now") for path in root.glob("d*/f*")])
             writer.start()
@@ -74,8 +75,18 @@ class Delayed(Case):
         self.check_installed("strace")
         root, said = self.room / "tree", self.room / "calls"
         make_tree(root, 40, 25)
-        words = ["strace", "-f", "-D", "-qq", "-o", str(said), "-e", "trace=statx",
-                 "-e", f"inject=statx:delay_enter={DELAY}"]
+        words = [
+            "strace",
+            "-f",
+            "-D",
+            "-qq",
+            "-o",
+            str(said),
+            "-e",
+            "trace=statx",
+            "-e",
+            f"inject=statx:delay_enter={DELAY}",
+        ]
         with Server(self.room, interval=A_HOUR, through=words) as server, Follower(self, server, root) as follower:
             follower.takes("a first answer")
             follower.takes("a second answer")
@@ -92,8 +103,9 @@ class Delayed(Case):
         self.check_installed("strace")
         root = self.room / "tree"
         make_tree(root)
-        with Server(self.room, interval=100, share=10, through=delayed()) as server, Follower(self, server,
-                                                                                              root) as follower:
+        with Server(self.room, interval=100, share=10, through=delayed()) as server, Follower(
+            self, server, root
+        ) as follower:
             follower.takes("a first answer")
             follower.client.ask("subscribe", str(root), "s", {"fields": ["name"]})
             follower.client.reply()

@@ -58,8 +58,9 @@ class Hanging(Case):
                 (other / "d0" / f"new{number}").touch()
                 while f"d0/new{number}" not in second.reply().get("files", []):
                     pass
-        self.check(f"all of it is soon, {name}", time.monotonic() - before < SOON,
-                   [f"{time.monotonic() - before:.1f} s"])
+        self.check(
+            f"all of it is soon, {name}", time.monotonic() - before < SOON, [f"{time.monotonic() - before:.1f} s"]
+        )
 
     def check_its_end(self, client: Client, root: Path, later: bool) -> None:
         """A root that hangs can be given up."""
@@ -85,6 +86,7 @@ class Hanging(Case):
 
 def ask_and_wait(waiting: Client, root: Path, later: bool) -> threading.Thread:
     """Asks for the tree that hangs, in a thread that waits for the answer for ever."""
+
     def ask() -> None:
         try:
             waiting.ask("query" if later else "watch", str(root), *([{"fields": ["name"]}] if later else []))

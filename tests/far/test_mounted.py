@@ -80,7 +80,7 @@ class Mounted(Case):
 
     def test_a_mount_below(self) -> None:
         """A file system in memory that comes and goes below a root."""
-        root, = made(self.room, "root")
+        (root,) = made(self.room, "root")
         make_tree(root)
         with Server(self.room, interval=A_HOUR) as server, Follower(self, server, root) as follower:
             follower.takes("before a mount")

@@ -37,10 +37,20 @@ def asked_line(draws: Draws, root: str, world: World) -> str:
         return at_root(subscribing(draws, world), draws, root)
     if kind < 18:
         return trigger_command(draws, world, root_text(draws, root))
-    return array(draws, draws.pick([
-        ['"watch"', root_text(draws, root)], ['"watch-project"', root_text(draws, root)], ['"watch-list"'],
-        ['"watch"', '"r"'], ['"watch"', '""'], ['"watch"', "7"], ['"watch-del"', '"/there/is/nothing"'],
-    ]))
+    return array(
+        draws,
+        draws.pick(
+            [
+                ['"watch"', root_text(draws, root)],
+                ['"watch-project"', root_text(draws, root)],
+                ['"watch-list"'],
+                ['"watch"', '"r"'],
+                ['"watch"', '""'],
+                ['"watch"', "7"],
+                ['"watch-del"', '"/there/is/nothing"'],
+            ]
+        ),
+    )
 
 
 def at_root(line: str, draws: Draws, root: str) -> str:
@@ -101,6 +111,7 @@ DAMAGES: List[Callable[[Draws, bytes], bytes]] = [change, change, insert, cut, c
 def drawn_bytes(draws: Draws) -> bytes:
     """Bytes that are no line of anybody: of all values, of those of JSON, of letters and digits, or of UTF-8's longer
     forms."""
-    alphabet = draws.pick([bytes(range(256)), BYTES, b'[]{},:"', b"0123456789.eE-+,", bytes(range(128, 256)),
-                           b'\\u"d8c[]'])
+    alphabet = draws.pick(
+        [bytes(range(256)), BYTES, b'[]{},:"', b"0123456789.eE-+,", bytes(range(128, 256)), b'\\u"d8c[]']
+    )
     return bytes(draws.pick(alphabet) for _ in range(draws.pick([1, 3, 20, 200, 2000])))

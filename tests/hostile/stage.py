@@ -37,8 +37,29 @@ MORE_MEMORY = 16_000_000
 SEED = int(os.environ.get("SEED", "1"))
 
 NAMES = [
-    "a", "a.c", "A.C", ".a.c", "b.txt", "src/a.c", "src/A.c", "src/b/c.TXT", "src/.y/a.c", "ü", "Ü.c", "日本/語.c",
-    "a b", "a\\b", 'a"b', "[a]", "x\ty", "😀.txt", "é/É", "foo/bar/x", "foo/barx/z", "*", "a" * 40,
+    "a",
+    "a.c",
+    "A.C",
+    ".a.c",
+    "b.txt",
+    "src/a.c",
+    "src/A.c",
+    "src/b/c.TXT",
+    "src/.y/a.c",
+    "ü",
+    "Ü.c",
+    "日本/語.c",
+    "a b",
+    "a\\b",
+    'a"b',
+    "[a]",
+    "x\ty",
+    "😀.txt",
+    "é/É",
+    "foo/bar/x",
+    "foo/barx/z",
+    "*",
+    "a" * 40,
 ]
 LATER_NAMES = ["src/new.c", "z", "foo/bar/y/x"]
 GONE_NAMES = ["a", "src/A.c"]
@@ -133,8 +154,9 @@ class StageCase(Case):
     def compare(self, name: str, data: bytes, pieces: Iterable[bytes] = ()) -> bool:
         """Whether the server and the plain program say the same to these bytes."""
         expected, found = self.stage.plain_replies(data), self.stage.replies(data, pieces)
-        details = [] if expected == found else [f"sent: {built.excerpt(data)}",
-                                                *built.first_difference(expected, found)]
+        details = (
+            [] if expected == found else [f"sent: {built.excerpt(data)}", *built.first_difference(expected, found)]
+        )
         self.check(name, expected == found, details)
         return expected == found
 
@@ -145,11 +167,15 @@ class StageCase(Case):
         most = self.stage.server.most_memory()
         self.check(f"the most memory, {name}", most <= MOST_MEMORY, [f"{most} bytes"])
         is_small = self.stage.server.has_memory_below(self.stage.memory + MORE_MEMORY)
-        self.check(f"the memory after it, {name}", is_small,
-                   [f"{self.stage.server.memory()} bytes, before {self.stage.memory}"])
+        self.check(
+            f"the memory after it, {name}",
+            is_small,
+            [f"{self.stage.server.memory()} bytes, before {self.stage.memory}"],
+        )
         is_same = self.stage.server.has_threads(self.stage.threads, A_WHILE)
-        self.check(f"the threads after it, {name}", is_same,
-                   [f"{self.stage.server.threads()}, before {self.stage.threads}"])
+        self.check(
+            f"the threads after it, {name}", is_same, [f"{self.stage.server.threads()}, before {self.stage.threads}"]
+        )
 
     def seconds_of_others(self, name: str) -> float:
         """How long the other client and a new one wait for their answers."""

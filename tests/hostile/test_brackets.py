@@ -18,8 +18,9 @@ class Brackets(StageCase):
                 name = f"{opens!r} around {inside!r}"
                 values = nested_values(opens, closes, inside or "[]")
                 self.compare(name, data_of(values))
-                self.compare(f"{name} in arguments",
-                             data_of(line for one in values for line in with_argument(root, one)))
+                self.compare(
+                    f"{name} in arguments", data_of(line for one in values for line in with_argument(root, one))
+                )
 
     def test_open_brackets(self) -> None:
         """Brackets that nothing closes, up to a whole line of them."""
@@ -43,19 +44,37 @@ def nested_values(opens: str, closes: str, inside: str) -> List[str]:
 def with_argument(root: str, nested: str) -> List[str]:
     """Each command with this value where it takes an argument."""
     queries = [
-        nested, f'{{"x":{nested},"fields":["name"]}}', f'{{"expression":{nested}}}',
+        nested,
+        f'{{"x":{nested},"fields":["name"]}}',
+        f'{{"expression":{nested}}}',
         f'{{"expression":["not",{nested}]}}',
-        f'{{"fields":{nested}}}', f'{{"since":{nested}}}', f'{{"path":{nested}}}', f'{{"suffix":{nested}}}',
+        f'{{"fields":{nested}}}',
+        f'{{"since":{nested}}}',
+        f'{{"path":{nested}}}',
+        f'{{"suffix":{nested}}}',
     ]
     triggers = [f'{{"name":"t","command":["true"],"x":{nested}}}', f'{{"name":"t","command":{nested}}}']
     alone = [
-        "frob", "version", "watch", "watch-list", "watch-del", "clock", "trigger-list", "program-list", "program-del",
-        "get-sockname", "shutdown-server",
+        "frob",
+        "version",
+        "watch",
+        "watch-list",
+        "watch-del",
+        "clock",
+        "trigger-list",
+        "program-list",
+        "program-del",
+        "get-sockname",
+        "shutdown-server",
     ]
     return [
         *(f'["{command}",{nested}]' for command in alone),
-        f'["version",{{"x":{nested}}}]', f'["clock",{root},{{"x":{nested}}}]', f'["program-add","p",{nested}]',
+        f'["version",{{"x":{nested}}}]',
+        f'["clock",{root},{{"x":{nested}}}]',
+        f'["program-add","p",{nested}]',
         *(f'["query",{root},{query}]' for query in queries),
-        f'["subscribe",{root},"s",{{"x":{nested},"expression":"false"}}]', f'["unsubscribe",{root},{nested}]',
-        *(f'["trigger",{root},{trigger}]' for trigger in triggers), f'["trigger-del",{root},{nested}]',
+        f'["subscribe",{root},"s",{{"x":{nested},"expression":"false"}}]',
+        f'["unsubscribe",{root},{nested}]',
+        *(f'["trigger",{root},{trigger}]' for trigger in triggers),
+        f'["trigger-del",{root},{nested}]',
     ]

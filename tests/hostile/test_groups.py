@@ -16,9 +16,39 @@ CLIENTS_OF_BYTES = 60
 LONGEST_LINE = 1_048_576
 MAX = 2**62
 NUMBERS = [
-    "0", "1", "-1", "-0", "-0.0", "0.0", "1.5", "01", "+1", "1e0", "1E+2", "5e-324", "1e-400", "1.7976931348623157e308",
-    "1.7976931348623159e308", "-1e309", "1e400", "0e99999999", "1e-99999999", "0." + "0" * 1000 + "1", "9" * 400,
-    "-" + "9" * 400, "1" + "0" * 308, "1" + "0" * 309, "1e", "1e+", ".5", "5.", "-", "--1", "0x10", "1_0", "NaN",
+    "0",
+    "1",
+    "-1",
+    "-0",
+    "-0.0",
+    "0.0",
+    "1.5",
+    "01",
+    "+1",
+    "1e0",
+    "1E+2",
+    "5e-324",
+    "1e-400",
+    "1.7976931348623157e308",
+    "1.7976931348623159e308",
+    "-1e309",
+    "1e400",
+    "0e99999999",
+    "1e-99999999",
+    "0." + "0" * 1000 + "1",
+    "9" * 400,
+    "-" + "9" * 400,
+    "1" + "0" * 308,
+    "1" + "0" * 309,
+    "1e",
+    "1e+",
+    ".5",
+    "5.",
+    "-",
+    "--1",
+    "0x10",
+    "1_0",
+    "NaN",
     "-Infinity",
     "\uff11",
 ]
@@ -28,18 +58,61 @@ NUMBERS += [str(sign * (power + more)) for power in POWERS for more in (-1, 0, 1
 # Bytes between two quotation marks: escapes of half surrogates, forms of UTF-8 that are too long or cut, and the
 # longest characters that there are.
 TEXTS = [
-    b"\\ud800", b"\\udbff", b"\\udc00", b"\\udfff", b"\\udc00\\ud800", b"\\ud800\\ud800", b"\\ud800\\u0041",
+    b"\\ud800",
+    b"\\udbff",
+    b"\\udc00",
+    b"\\udfff",
+    b"\\udc00\\ud800",
+    b"\\ud800\\ud800",
+    b"\\ud800\\u0041",
     b"\\ud800x",
-    b"\\ud800\\", b"\\ud800\\n", b"\\ud83d\\ude00", b"\\uD83D\\uDE00", b"\\udbff\\udfff", b"\\uffff", b"\\u0000",
+    b"\\ud800\\",
+    b"\\ud800\\n",
+    b"\\ud83d\\ude00",
+    b"\\uD83D\\uDE00",
+    b"\\udbff\\udfff",
+    b"\\uffff",
+    b"\\u0000",
     b"\\u000",
-    b"\\u00g0", b"\\U0041", b"\\x41", b"\\", b"\\'", b"\\/", b"a\\u0000b",
-    b"\x80", b"\xbf", b"\xc0\x80", b"\xc1\xbf", b"\xc2", b"\xc2\x41", b"\xe0\x80\x80", b"\xe0\x9f\xbf", b"\xe0\xa0\x80",
+    b"\\u00g0",
+    b"\\U0041",
+    b"\\x41",
+    b"\\",
+    b"\\'",
+    b"\\/",
+    b"a\\u0000b",
+    b"\x80",
+    b"\xbf",
+    b"\xc0\x80",
+    b"\xc1\xbf",
+    b"\xc2",
+    b"\xc2\x41",
+    b"\xe0\x80\x80",
+    b"\xe0\x9f\xbf",
+    b"\xe0\xa0\x80",
     b"\xe2\x82",
-    b"\xed\x9f\xbf", b"\xed\xa0\x80", b"\xed\xbf\xbf", b"\xee\x80\x80", b"\xef\xbb\xbf", b"\xef\xbf\xbf",
+    b"\xed\x9f\xbf",
+    b"\xed\xa0\x80",
+    b"\xed\xbf\xbf",
+    b"\xee\x80\x80",
+    b"\xef\xbb\xbf",
+    b"\xef\xbf\xbf",
     b"\xf0\x80\x80\x80",
-    b"\xf0\x8f\xbf\xbf", b"\xf0\x90\x80\x80", b"\xf0\x9f\x98", b"\xf4\x8f\xbf\xbf", b"\xf4\x90\x80\x80",
+    b"\xf0\x8f\xbf\xbf",
+    b"\xf0\x90\x80\x80",
+    b"\xf0\x9f\x98",
+    b"\xf4\x8f\xbf\xbf",
+    b"\xf4\x90\x80\x80",
     b"\xf5\x80\x80\x80",
-    b"\xf8\x88\x80\x80\x80", b"\xfc\x84\x80\x80\x80\x80", b"\xfe", b"\xff", b"\x00", b"\x01", b"\x1f", b"\x7f", b"\t",
+    b"\xf8\x88\x80\x80\x80",
+    b"\xfc\x84\x80\x80\x80\x80",
+    b"\xfe",
+    b"\xff",
+    b"\x00",
+    b"\x01",
+    b"\x1f",
+    b"\x7f",
+    b"\t",
     b"\r",
 ]
 
@@ -60,8 +133,9 @@ class Groups(StageCase):
             world = World(NAMES, self.stage.plain.view.tick, [0, 10, 1000], self.stage.plain.last_root)
             lines = [drawn_line(draws, root, world) for _ in range(LINES_OF_A_CLIENT)]
             if draws.one_in(10):
-                lines[10:10] = [array(draws, [f'"{word}"', compact_text(root)]).encode()
-                                for word in ("watch-del", "watch")]
+                lines[10:10] = [
+                    array(draws, [f'"{word}"', compact_text(root)]).encode() for word in ("watch-del", "watch")
+                ]
             data = b"".join(line + b"\n" for line in lines)
             self.compare(f"drawn lines from {number}", data, pieces_of(draws, data))
 
@@ -77,8 +151,9 @@ class Groups(StageCase):
         refusal = self.stage.plain_replies(b"\n")
         for count in (1, 2, 8, 9, 1000, 65_537):
             found = self.stage.replies(b"\n" * count)
-            self.check(f"{count} newlines", found == refusal * count,
-                       [f"{len(found)} bytes", built.excerpt(found[-100:])])
+            self.check(
+                f"{count} newlines", found == refusal * count, [f"{len(found)} bytes", built.excerpt(found[-100:])]
+            )
         for end in (b"\r\n", b" \n", b"\n\r", b"\x0b\n", b"\x85\n", "\u2028\n".encode()):
             self.compare(f"ends of lines {end!r}", end * 20 + b'["version"]' + end)
 
@@ -87,8 +162,14 @@ class Groups(StageCase):
         line = b'["clock",%s,{"sync_timeout":0}]' % compact_text(str(self.stage.root)).encode()
         within = [line[:place] + b"\0" + line[place:] for place in range(1, len(line) + 1)]
         self.compare("byte 0 within lines", b"".join(one + b"\n" for one in within))
-        for data in (b"\0", b"\0\n", line + b"\n\0", b"\n\0" + line + b"\n", b"\0" * 70_000,
-                     b"\0" + b"x" * (LONGEST_LINE + 1)):
+        for data in (
+            b"\0",
+            b"\0\n",
+            line + b"\n\0",
+            b"\n\0" + line + b"\n",
+            b"\0" * 70_000,
+            b"\0" + b"x" * (LONGEST_LINE + 1),
+        ):
             self.compare(f"byte 0 first, in {len(data)} bytes", data)
 
     def test_long_lines(self) -> None:
@@ -105,11 +186,15 @@ class Groups(StageCase):
         for number in NUMBERS:
             draws = Draws(0)
             queries = [
-                [("since", number)], [("sync_timeout", number)], [("x", number)],
+                [("since", number)],
+                [("sync_timeout", number)],
+                [("x", number)],
                 [("path", f'[{{"path":"src","depth":{number}}}]')],
-                [("expression", f'["size","eq",{number}]')], [("expression", f'["since",{number},"mtime"]')],
+                [("expression", f'["size","eq",{number}]')],
+                [("expression", f'["since",{number},"mtime"]')],
                 [("expression", f'["dirname","src",["depth","le",{number}]]')],
-                [("since", f'"c:7:9:1:{number}"')], [("since", f'"c:{number}:9:1:1"')],
+                [("since", f'"c:7:9:1:{number}"')],
+                [("since", f'"c:{number}:9:1:1"')],
             ]
             lines = [array(draws, ['"query"', root, json_object(draws, members)]) for members in queries]
             lines += [number, f'["frob",{number}]', f"[{number}]", f'["clock",{root},{{"sync_timeout":{number}}}]']
@@ -120,9 +205,15 @@ class Groups(StageCase):
         """Texts that are none, and texts of the longest characters, wherever a line has one."""
         root = compact_text(str(self.stage.root)).encode()
         places = [
-            b'"%s"', b'["%s"]', b'["version","%s"]', b'["frob%s"]', b'["clock","/%s"]', b'["watch","q%s"]',
+            b'"%s"',
+            b'["%s"]',
+            b'["version","%s"]',
+            b'["frob%s"]',
+            b'["clock","/%s"]',
+            b'["watch","q%s"]',
             b'["program-del","%s"]',
-            b'["unsubscribe",' + root + b',"%s"]', b'["query",' + root + b',{"since":"n:%s","fields":["name"]}]',
+            b'["unsubscribe",' + root + b',"%s"]',
+            b'["query",' + root + b',{"since":"n:%s","fields":["name"]}]',
             b'["query",' + root + b',{"%s":1,"fields":["name"]}]',
             b'["query",' + root + b',{"suffix":"%s","fields":["name"]}]',
             b'["query",' + root + b',{"expression":["name","%s","wholename"]}]',
@@ -136,8 +227,11 @@ class Groups(StageCase):
 
 def pieces_of(draws: Draws, data: bytes) -> List[bytes]:
     """The bytes in pieces of a drawn length, or in one piece."""
-    length = draws.pick([1, 7, 64, 4096, 65_536, len(data)]) if len(data) < 1000 else draws.pick([64, 4096, 65_536,
-                                                                                                  len(data)])
+    length = (
+        draws.pick([1, 7, 64, 4096, 65_536, len(data)])
+        if len(data) < 1000
+        else draws.pick([64, 4096, 65_536, len(data)])
+    )
     return list(cut_in(data, max(length, 1)))
 
 

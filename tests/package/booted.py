@@ -32,8 +32,10 @@ def make_base(base: Path) -> None:
     making = base.with_name(f"{base.name}.part")
     shutil.rmtree(making, ignore_errors=True)
     subprocess.run(["debootstrap", "--variant=minbase", RELEASE, str(making), MIRROR], check=True)
-    for command in (["apt-get", "install", "--yes", "--no-install-recommends", *BASE, *BESIDE],
-                    ["useradd", "--create-home", "--shell", "/bin/bash", USER]):
+    for command in (
+        ["apt-get", "install", "--yes", "--no-install-recommends", *BASE, *BESIDE],
+        ["useradd", "--create-home", "--shell", "/bin/bash", USER],
+    ):
         subprocess.run(["chroot", str(making), *command], check=True)
     (making / "etc" / "sudoers.d" / USER).write_text(f"{USER} ALL=(ALL) NOPASSWD: ALL\n")
     making.rename(base)
@@ -49,11 +51,23 @@ class Machine:
         self.boot()
 
     def boot(self) -> None:
-        command = ["systemd-nspawn", "--quiet", *ALONE, f"--machine={NAME}", "-D", str(self.root), "--boot",
-                   "--console=pipe"]
+        command = [
+            "systemd-nspawn",
+            "--quiet",
+            *ALONE,
+            f"--machine={NAME}",
+            "-D",
+            str(self.root),
+            "--boot",
+            "--console=pipe",
+        ]
         joined = "".join(f"echo $$ > '{group}/cgroup.procs'; " for group in groups() if ALONE)
-        self.process = subprocess.Popen(["sh", "-c", joined + 'exec "$@"', "sh", *command], stdin=subprocess.DEVNULL,
-                                        stdout=subprocess.DEVNULL, stderr=subprocess.DEVNULL)
+        self.process = subprocess.Popen(
+            ["sh", "-c", joined + 'exec "$@"', "sh", *command],
+            stdin=subprocess.DEVNULL,
+            stdout=subprocess.DEVNULL,
+            stderr=subprocess.DEVNULL,
+        )
         end = time.monotonic() + BOOT
         while self.call("root", "systemctl is-system-running").output.strip() not in ("running", "degraded"):
             if time.monotonic() > end or self.process.poll() is not None:
@@ -65,13 +79,27 @@ class Machine:
         leader = children_of(self.process.pid)
         if not leader:
             return Ended("", "it does not run", 1)
-        session = ["systemd-run", "--quiet", "--pipe", "--wait", "--collect", "-p", "PAMName=login", "-p",
-                   f"User={user}", "-p", "WorkingDirectory=~", "/bin/bash", "-lc", line]
+        session = [
+            "systemd-run",
+            "--quiet",
+            "--pipe",
+            "--wait",
+            "--collect",
+            "-p",
+            "PAMName=login",
+            "-p",
+            f"User={user}",
+            "-p",
+            "WorkingDirectory=~",
+            "/bin/bash",
+            "-lc",
+            line,
+        ]
         command = ["nsenter", "-t", leader[0], "-m", "-u", "-i", "-n", "-p", "-C", *session]
-        ended = subprocess.run(command, stdin=subprocess.DEVNULL, stdout=subprocess.PIPE, stderr=subprocess.PIPE,
-                               timeout=PATIENCE)
-        return Ended(ended.stdout.decode("utf-8", "replace"), ended.stderr.decode("utf-8", "replace"),
-                     ended.returncode)
+        ended = subprocess.run(
+            command, stdin=subprocess.DEVNULL, stdout=subprocess.PIPE, stderr=subprocess.PIPE, timeout=PATIENCE
+        )
+        return Ended(ended.stdout.decode("utf-8", "replace"), ended.stderr.decode("utf-8", "replace"), ended.returncode)
 
     def end(self) -> None:
         self.call("root", "systemctl poweroff")
@@ -93,8 +121,9 @@ class Machine:
         self.end()
         shutil.rmtree(self.root)
         for group in groups():
-            subprocess.run(["find", str(group), "-depth", "-type", "d", "-exec", "rmdir", "{}", "+"],
-                           stderr=subprocess.DEVNULL)
+            subprocess.run(
+                ["find", str(group), "-depth", "-type", "d", "-exec", "rmdir", "{}", "+"], stderr=subprocess.DEVNULL
+            )
 
 
 def groups() -> List[Path]:

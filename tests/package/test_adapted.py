@@ -79,8 +79,9 @@ class Adapted(Case):
         tree = self.directory("tree")
         for name in ("re", "runpy", "shlex", "shutil", "typing", "wqd_watchdog"):
             (tree / f"{name}.py").write_text("raise SystemExit(77)\n")
-        self.same("the launcher by a link, beside modules of others", head_of([str(link), "--help"], self.room, tree),
-                  HELP)
+        self.same(
+            "the launcher by a link, beside modules of others", head_of([str(link), "--help"], self.room, tree), HELP
+        )
         call(self.room, "install", "--remove", str(prefix))
         self.same("what --remove leaves there", listing(prefix), [])
 
@@ -98,9 +99,14 @@ class Adapted(Case):
         environment = {**kept, "PATH": os.environ["PATH"], "HOME": str(self.room), "XDG_RUNTIME_DIR": str(runtime)}
 
         def said(*words: object) -> bytes:
-            ended = subprocess.run([str(word) for word in words], env=environment, cwd=self.room,
-                                   stdout=subprocess.PIPE,
-                                   stderr=subprocess.PIPE, timeout=PATIENCE)
+            ended = subprocess.run(
+                [str(word) for word in words],
+                env=environment,
+                cwd=self.room,
+                stdout=subprocess.PIPE,
+                stderr=subprocess.PIPE,
+                timeout=PATIENCE,
+            )
             return ended.stdout or ended.stderr
 
         if shutil.which("node") is not None:
@@ -116,11 +122,15 @@ class Adapted(Case):
 
     def test_packages_of_adapters(self) -> None:
         """They are the same whenever and by whomever they are made, and need no program."""
-        first, second = made(self.room, "one"), made(self.room, "two", SOURCE_DATE_EPOCH="7", WQD="/none",
-                                                     TZ="Asia/Tokyo")
+        first, second = made(self.room, "one"), made(
+            self.room, "two", SOURCE_DATE_EPOCH="7", WQD="/none", TZ="Asia/Tokyo"
+        )
         version = version_of(self.room)
-        self.same("their names", [path.name for path in first],
-                  [f"wqd-chokidar-{version}.tgz", f"wqd_watchdog-{version}-py3-none-any.whl"])
+        self.same(
+            "their names",
+            [path.name for path in first],
+            [f"wqd-chokidar-{version}.tgz", f"wqd_watchdog-{version}-py3-none-any.whl"],
+        )
         self.same("made twice", [path.read_bytes() for path in first], [path.read_bytes() for path in second])
         self.check_npm_package(first[0], self.room)
         self.check_wheel(first[1], self.room)
@@ -191,9 +201,7 @@ def head_of(command: List[str], home: Path, at: Path = Path("/"), **variables: s
     """The first line that a command prints in a directory, for somebody with this home and no settings for Python."""
     environment = {name: value for name, value in os.environ.items() if not name.startswith("PYTHON")}
     environment.update(HOME=str(home), **variables)
-    ended = subprocess.run(
-        command, cwd=at, env=environment, capture_output=True, timeout=PATIENCE
-    )
+    ended = subprocess.run(command, cwd=at, env=environment, capture_output=True, timeout=PATIENCE)
     return ended.stdout.partition(b"\n")[0] or ended.stderr
 
 

@@ -28,14 +28,35 @@ WRONG: List[Tuple[List[str], str]] = [
     (["serve", "--frob", "1"], "serve has no option --frob"),
     (["serve", "--sockname"], "--sockname needs a value"),
 ]
-NUMBERS = {"start": "0 to 2^62", "pid": "0 to 2^62", "interval": "10 to 3600000", "share": "1 to 100",
-           "workers": "1 to 16"}
+NUMBERS = {
+    "start": "0 to 2^62",
+    "pid": "0 to 2^62",
+    "interval": "10 to 3600000",
+    "share": "1 to 100",
+    "workers": "1 to 16",
+}
 WRONG_NUMBERS = [
-    ("start", "-1"), ("start", "01"), ("start", str(2**62 + 1)), ("start", "5" * 19), ("start", "1" * 20),
-    ("start", str(2**64)), ("pid", "x"), ("pid", ""), ("pid", " 1"), ("pid", "1 "), ("pid", "+1"),
-    ("interval", "9"), ("interval", "3600001"),
-    ("share", "0"), ("share", "101"), ("share", "x"),
-    ("workers", "0"), ("workers", "17"), ("workers", "1.5"), ("workers", "0x1"), ("workers", "*"),
+    ("start", "-1"),
+    ("start", "01"),
+    ("start", str(2**62 + 1)),
+    ("start", "5" * 19),
+    ("start", "1" * 20),
+    ("start", str(2**64)),
+    ("pid", "x"),
+    ("pid", ""),
+    ("pid", " 1"),
+    ("pid", "1 "),
+    ("pid", "+1"),
+    ("interval", "9"),
+    ("interval", "3600001"),
+    ("share", "0"),
+    ("share", "101"),
+    ("share", "x"),
+    ("workers", "0"),
+    ("workers", "17"),
+    ("workers", "1.5"),
+    ("workers", "0x1"),
+    ("workers", "*"),
 ]
 
 
@@ -73,18 +94,21 @@ class Command(Case):
         long = "x" * (108 - len(str(self.room)) - 1)
         deep = self.room / ("y" * (100 - len(str(self.room)) - 1))
         deep.mkdir()
-        cases = [(str(path), f"{path} is there already, and is no socket")
-                 for path in (file, self.room / "link", self.room)]
+        cases = [
+            (str(path), f"{path} is there already, and is no socket") for path in (file, self.room / "link", self.room)
+        ]
         cases += [
             ("/nothing/here", "there is no directory /nothing"),
             (str(self.room / long), "the path of the socket has over 107 bytes"),
             (str(deep / "s"), "the path of the socket's directory has over 99 bytes"),
-            (str(file / "s"), f"there is no directory {file}"), ("", "the path of the socket is empty"),
+            (str(file / "s"), f"there is no directory {file}"),
+            ("", "the path of the socket is empty"),
         ]
         for path, reason in cases:
             refused = f"cannot listen\nwqd: {reason}\n".encode()
-            self.same(f"a socket at {path!r}", call(self.room, "wqd", *serve(sockname=path)),
-                      built.Ended(b"", refused, 1))
+            self.same(
+                f"a socket at {path!r}", call(self.room, "wqd", *serve(sockname=path)), built.Ended(b"", refused, 1)
+            )
         self.check_locked(self.room)
         joined = ["serve", *(f"--{name}={value}" for name, value in GOOD.items())]
         refused = b"cannot listen\nwqd: there is no directory /nothing\n"
@@ -129,14 +153,22 @@ class Command(Case):
             ("WQD_SOCK", [], {"WQD_SOCK": str(self.room / "named")}, self.room / "named", {}),
             ("no directory of the session", [], {"XDG_RUNTIME_DIR": str(self.room / "nothing")}, own / "wqd.sock", {}),
             ("no variable", ["--interval", "50"], {}, own / "wqd.sock", {}),
-            ("words said", ["--sockname", str(self.room / "said"), "--start=7", "--pid", "9"], {}, self.room / "said",
-             {1: "7", 2: "9"}),
+            (
+                "words said",
+                ["--sockname", str(self.room / "said"), "--start=7", "--pid", "9"],
+                {},
+                self.room / "said",
+                {1: "7", 2: "9"},
+            ),
             ("one number said", ["--pid=9"], {"WQD_SOCK": str(self.room / "named")}, self.room / "named", {2: "9"}),
         ):
             found = served(words, {**base, **values}, sockname, self.room)
             self.same(f"serve with {name}", {place: found[place] for place in numbers}, numbers)
-            self.same(f"the numbers of serve with {name}", (found[1], found[2]) if not numbers else None,
-                      (found["start"], found["pid"]) if not numbers else None)
+            self.same(
+                f"the numbers of serve with {name}",
+                (found[1], found[2]) if not numbers else None,
+                (found["start"], found["pid"]) if not numbers else None,
+            )
         self.same("the mode of the user's own directory", own.stat().st_mode & 0o777, 0o700)
         own.chmod(0o755)
         command = [str(built.TOP / "wqd"), "serve"]
@@ -156,14 +188,17 @@ class Command(Case):
 
         refused = b"wqd: wrong command line\nwqd: check takes one file\n"
         self.same("wrong words", ended("check"), built.Ended(b"", refused, 2))
-        unbuilt = (b"wqd: not built: ./wqd --build proves and builds it (about an hour on four processors), "
-                   b"./wq answers now\n")
+        unbuilt = (
+            b"wqd: not built: ./wqd --build proves and builds it (about an hour on four processors), "
+            b"./wq answers now\n"
+        )
         for words in ((), ("serve",)):
             self.same(f"nothing is built for {words}", ended(*words), built.Ended(b"", unbuilt, 1))
         missing = b"wqd: nothing is built, and the Rattle kit is missing: its command rt is not on the PATH\n"
         for words in (("replay",), ("check", "file")):
-            self.same(f"nothing is built, and no kit is there, for {words}", ended(*words),
-                      built.Ended(b"", missing, 1))
+            self.same(
+                f"nothing is built, and no kit is there, for {words}", ended(*words), built.Ended(b"", missing, 1)
+            )
         missing = b"wqd: the Rattle kit is missing: its command rt is not on the PATH\n"
         self.same("no kit", ended("--build"), built.Ended(b"", missing, 1))
         prefix = self.room / "prefix"
@@ -193,8 +228,9 @@ def served(words: List[str], environment: Dict[str, str], sockname: Path, room: 
         process.kill()
         process.wait()
         process.stderr.close()
-    start = next((str(second) for second in range(began, began + int(PATIENCE)) if str(second) == parts[1]),
-                 "none of now")
+    start = next(
+        (str(second) for second in range(began, began + int(PATIENCE)) if str(second) == parts[1]), "none of now"
+    )
     return {**parts, "start": start, "pid": str(process.pid)}
 
 
@@ -214,7 +250,9 @@ def tools(room: Path) -> Path:
     """A directory with the commands that the scripts need, and no other."""
     directory = room / "bin"
     directory.mkdir()
-    for name in ("sh dirname sed head tail find cat awk wc date mktemp rm touch env python3 cp mkdir mv grep sleep id "
-                 "sha256sum sort xargs cut cmp").split():
+    for name in (
+        "sh dirname sed head tail find cat awk wc date mktemp rm touch env python3 cp mkdir mv grep sleep id "
+        "sha256sum sort xargs cut cmp"
+    ).split():
         (directory / name).symlink_to(shutil.which(name))
     return directory

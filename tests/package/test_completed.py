@@ -63,8 +63,12 @@ class Completed(Case):
         self.check_names_of_a_server(room)
         for shell, check in (("zsh", ["zsh", "-n"]), ("fish", ["fish", "--no-execute"])):
             script = completion.SHELLS[shell]()
-            missing = [f"{command} {name}" for command in FORMS for name in options_of(command)
-                       if not names(shell, script, command, name)]
+            missing = [
+                f"{command} {name}"
+                for command in FORMS
+                for name in options_of(command)
+                if not names(shell, script, command, name)
+            ]
             self.same(f"words that {shell} does not complete", missing, [])
             if shutil.which(shell) is not None:
                 (room / "script").write_text(script)
@@ -81,8 +85,11 @@ class Completed(Case):
         values = {**os.environ, "PATH": f"{room}/bin:{os.environ['PATH']}", "WQD_SOCK": str(room / "socket")}
 
         def found(*words: str) -> List[str]:
-            return [name for name in completed("wq", list(words), room / "wq.bash", values, root) if "/" not in name
-                    or name == str(root)]
+            return [
+                name
+                for name in completed("wq", list(words), room / "wq.bash", values, root)
+                if "/" not in name or name == str(root)
+            ]
 
         self.same("names without a server", (found("find", "--program", ""), (room / "socket").exists()), ([""], False))
         with Server(room) as server, server.client(root) as client:
@@ -96,11 +103,16 @@ class Completed(Case):
             self.same("roots", found("unwatch", ""), [str(root)])
             self.same("no name is a command", (root / "ran").exists(), False)
             if shutil.which("fish") is not None:
-                for words, expected in (("unwatch ", str(root)), ("untrigger b", "build"), ("find --program ", "large"),
-                                        ("run -- tru", "true")):
+                for words, expected in (
+                    ("unwatch ", str(root)),
+                    ("untrigger b", "build"),
+                    ("find --program ", "large"),
+                    ("run -- tru", "true"),
+                ):
                     script = f"source {room}/wq.fish; complete -C 'wq {words}'"
-                    ended = subprocess.run(["fish", "--no-config", "-c", script], cwd=root, env=values,
-                                           stdout=subprocess.PIPE)
+                    ended = subprocess.run(
+                        ["fish", "--no-config", "-c", script], cwd=root, env=values, stdout=subprocess.PIPE
+                    )
                     names_found = [line.split("\t")[0] for line in ended.stdout.decode().splitlines()]
                     self.same(f"fish completes {words}", expected in names_found, True)
 
@@ -114,7 +126,10 @@ def names(shell: str, script: str, command: str, option: str) -> bool:
 
 
 def completed(
-    command: str, words: List[str], path: Optional[Path] = None, environment: Optional[Dict[str, str]] = None,
+    command: str,
+    words: List[str],
+    path: Optional[Path] = None,
+    environment: Optional[Dict[str, str]] = None,
     directory: Optional[Path] = None,
 ) -> List[str]:
     script = path or built.TOP / "contrib" / f"{command}.bash"

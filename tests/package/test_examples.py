@@ -73,8 +73,9 @@ class Examples(Case):
 
     def check_shell_client(self, page: str, root: Path, environment: Dict[str, str]) -> None:
         """The two lines of shell in docs/SERVER.md, by each of the two programs that it names."""
-        script = next(block for block in blocks(page, "sh") if block.startswith("ask()")).replace("/home/me/src",
-                                                                                                  str(root))
+        script = next(block for block in blocks(page, "sh") if block.startswith("ask()")).replace(
+            "/home/me/src", str(root)
+        )
         for name, command in (("nc", 'nc -N -U "$WQD_SOCK"'), ("socat", 'socat -t 60 - UNIX-CONNECT:"$WQD_SOCK"')):
             self.check(f"{name} on the page", command in page)
             if shutil.which(name) is not None:

@@ -17,8 +17,12 @@ class Repository:
     def __init__(self, room: Path, sockname: Optional[str]) -> None:
         self.path = room / "repository"
         self.environment: Dict[str, str] = {
-            "PATH": os.environ["PATH"], "HOME": str(room), "GIT_CONFIG_NOSYSTEM": "1", "LC_ALL": "C",
-            "XDG_RUNTIME_DIR": str(room / "runtime"), "TMPDIR": str(room),
+            "PATH": os.environ["PATH"],
+            "HOME": str(room),
+            "GIT_CONFIG_NOSYSTEM": "1",
+            "LC_ALL": "C",
+            "XDG_RUNTIME_DIR": str(room / "runtime"),
+            "TMPDIR": str(room),
         }
         if sockname is not None:
             self.environment["WQD_SOCK"] = sockname
@@ -66,9 +70,17 @@ class Hook(Case):
             repository.git("mv", "moved", "deep/moved")
             (repository.path / "renamed").rename(repository.path / "deep" / "renamed")
             expected = [
-                "R  moved -> deep/moved", " M changed", " M deep/in/changed", " D deep/in/removed", " D gone/a",
+                "R  moved -> deep/moved",
+                " M changed",
+                " M deep/in/changed",
+                " D deep/in/removed",
+                " D gone/a",
                 " D gone/b",
-                " D removed", " D renamed", "?? added", '?? "deep/new/\\303\\244 b"', "?? deep/renamed",
+                " D removed",
+                " D renamed",
+                "?? added",
+                '?? "deep/new/\\303\\244 b"',
+                "?? deep/renamed",
             ]
             self.same("files that changed", sorted(repository.status()), sorted(expected))
             self.same("the same again", sorted(repository.status()), sorted(expected))
@@ -98,8 +110,9 @@ class Hook(Case):
         """What the hook writes: the next token and the names, each with a byte 0 after it."""
         fresh = repository.hook("2", "").output.split(b"\0")
         self.same("all files, without a token", fresh[1:], [b"/", b""])
-        self.same("all files, with the token of another", repository.hook("2", "123").output.split(b"\0")[1:],
-                  [b"/", b""])
+        self.same(
+            "all files, with the token of another", repository.hook("2", "123").output.split(b"\0")[1:], [b"/", b""]
+        )
         self.same("no file", repository.hook("2", fresh[0].decode()).output, fresh[0] + b"\0")
         repository.write("changed", "once more")
         repository.write(".git/changed", "")

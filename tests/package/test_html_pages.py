@@ -17,8 +17,9 @@ class HtmlPages(Case):
     def test_html(self) -> None:
         ended = subprocess.run([str(built.TOP / "docs" / "html"), str(self.room / "html")], stdout=subprocess.PIPE)
         self.check("the pages are written", ended.returncode == 0)
-        pages = {path.resolve(): set(ID.findall(path.read_text("utf-8")))
-                 for path in (self.room / "html").rglob("*.html")}
+        pages = {
+            path.resolve(): set(ID.findall(path.read_text("utf-8"))) for path in (self.room / "html").rglob("*.html")
+        }
         self.check("README is the first", (self.room / "html" / "index.html").resolve() in pages)
         wrong = [f"{page.name}: {link}" for page in pages for link in broken(page, pages)]
         self.check("each link of the pages", not wrong, wrong)

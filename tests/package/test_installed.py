@@ -75,11 +75,13 @@ class Installed(Case):
             named = f"The variable WQD names the program {built.program_path()}: nobody checks whether it is proved.\n"
             self.same(f"what ./install says of it{turn}", ended.errors.decode(), named)
             printed = ended.output.decode().split("\n\n")[0].splitlines()
-            self.same(f"the files that ./install tells of{turn}", sorted(printed),
-                      [str(prefix / path) for path in FILES])
+            self.same(
+                f"the files that ./install tells of{turn}", sorted(printed), [str(prefix / path) for path in FILES]
+            )
             self.same(f"the files of ./install{turn}", modes(prefix, FILES), FILES)
-            self.same(f"how many files are there{turn}", len(listing(prefix)) - len(before),
-                      len(added_by(prefix, before)))
+            self.same(
+                f"how many files are there{turn}", len(listing(prefix)) - len(before), len(added_by(prefix, before))
+            )
         self.check_server("installed", self.room, (prefix / UNIT).read_text())
         self.check_tool(prefix)
         self.check_wq(prefix, self.room)
@@ -115,8 +117,9 @@ class Installed(Case):
             return built.call(command, cwd="/", env=environment, timeout=PATIENCE)
 
         started = f"wq: started a server at {runtime}/wqd.sock\n".encode()
-        self.same("the installed wq", wq("find", str(room / "root")),
-                  built.Ended(f"{room}/root/a.c\n".encode(), started, 0))
+        self.same(
+            "the installed wq", wq("find", str(room / "root")), built.Ended(f"{room}/root/a.c\n".encode(), started, 0)
+        )
         facts = json.loads(wq("status", "--json").output)
         program = str((prefix / "lib" / "wqd" / "wqd").resolve())
         found = (facts["program"], facts["version"], facts["roots"])
@@ -129,8 +132,9 @@ class Installed(Case):
 
     def check_compiled(self, prefix: Path) -> None:
         """The installed wq starts quickly: its modules are compiled, and each is read only if it is needed."""
-        read = subprocess.run([sys.executable, "-I", "-S", "-c", READ, str(prefix / "bin" / "wq")],
-                              stdout=subprocess.PIPE)
+        read = subprocess.run(
+            [sys.executable, "-I", "-S", "-c", READ, str(prefix / "bin" / "wq")], stdout=subprocess.PIPE
+        )
         self.same("modules that the installed wq reads", read.stdout, b"[]\n[]\n")
 
     def test_default_prefix(self) -> None:
@@ -157,22 +161,30 @@ class Installed(Case):
         (prefix / "bin").mkdir(parents=True)
         (prefix / "bin" / "watchman").write_text("of others")
         refused = call(self.room, "install", "--as-watchman", str(prefix))
-        self.same("a watchman of others stays", (refused.status, (prefix / "bin" / "watchman").read_text()),
-                  (1, "of others"))
+        self.same(
+            "a watchman of others stays", (refused.status, (prefix / "bin" / "watchman").read_text()), (1, "of others")
+        )
         (prefix / "bin" / "watchman").unlink()
-        self.same("how ./install --as-watchman ends", call(self.room, "install", "--as-watchman", str(prefix)).status,
-                  0)
+        self.same(
+            "how ./install --as-watchman ends", call(self.room, "install", "--as-watchman", str(prefix)).status, 0
+        )
         environment = {**os.environ, "WATCHMAN_SOCK": str(self.room / "socket")}
         for name in ("WQD", "WQD_SOCK"):
             environment.pop(name, None)
         found = [
-            subprocess.run([prefix / "bin" / "watchman", "--no-pretty", word], stdout=subprocess.PIPE,
-                           env=environment).stdout
+            subprocess.run(
+                [prefix / "bin" / "watchman", "--no-pretty", word], stdout=subprocess.PIPE, env=environment
+            ).stdout
             for word in ("get-sockname", "shutdown-server")
         ]
-        self.same("what the installed watchman says", [json.loads(line) for line in found], [
-            {"sockname": str(self.room / "socket"), "version": "4.9.0"}, {"shutdown-server": True, "version": "4.9.0"},
-        ])
+        self.same(
+            "what the installed watchman says",
+            [json.loads(line) for line in found],
+            [
+                {"sockname": str(self.room / "socket"), "version": "4.9.0"},
+                {"shutdown-server": True, "version": "4.9.0"},
+            ],
+        )
         self.same("how ./install --remove ends after it", call(self.room, "install", "--remove", str(prefix)).status, 0)
         self.same("and leaves nothing of it", [name for name, _ in listing(prefix)], ["bin"])
 
@@ -221,15 +233,17 @@ class Installed(Case):
             entries = archive.getmembers()
             found = {entry.name: archive.extractfile(entry).read() for entry in entries if entry.isfile()}
         installed = {
-            f"./usr/{in_debian(path)}": text_in_debian(path, (prefix / path).read_bytes()) for path in FILES
+            f"./usr/{in_debian(path)}": text_in_debian(path, (prefix / path).read_bytes())
+            for path in FILES
             if path not in (LIST, UNIT)
         }
         self.check_sums(members, found)
         for name in (in_debian(UNIT), *OF_DEBIAN):
             found.pop(f"./usr/{name}")
         found = {name: gzip.decompress(data) if name.endswith(".gz") else data for name, data in found.items()}
-        self.check("a package has what ./install writes", found == installed,
-                   [f"{sorted(found)}", f"{sorted(installed)}"])
+        self.check(
+            "a package has what ./install writes", found == installed, [f"{sorted(found)}", f"{sorted(installed)}"]
+        )
         owners = {(entry.uid, entry.gid, entry.uname, entry.gname, entry.mtime) for entry in entries}
         self.same("the owner and the second", owners, {(0, 0, "root", "root", 1_000_000_000)})
 
@@ -269,8 +283,10 @@ class Installed(Case):
 
 def in_debian(path: str) -> str:
     """Where a package has a file that ./install puts here."""
-    for here, there in (("share/zsh/site-functions/", "share/zsh/vendor-completions/"),
-                        ("share/systemd/", "lib/systemd/")):
+    for here, there in (
+        ("share/zsh/site-functions/", "share/zsh/vendor-completions/"),
+        ("share/systemd/", "lib/systemd/"),
+    ):
         path = path.replace(here, there)
     return f"{path}.gz" if path.startswith("share/man/") else path
 
@@ -278,7 +294,7 @@ def in_debian(path: str) -> str:
 def text_in_debian(path: str, data: bytes) -> bytes:
     """What a package has in a file: scripts name Debian's Python, and Debian has the text of the Apache License."""
     if path.endswith("/copyright"):
-        data = data[:data.index(b"\n" + b" " * 33 + b"Apache License")]
+        data = data[: data.index(b"\n" + b" " * 33 + b"Apache License")]
         return data + b"The Apache License, Version 2.0, is in /usr/share/common-licenses/Apache-2.0.\n"
     return re.sub(rb"\A#!/usr/bin/env -S (python3 -I\w*)\n", rb"#!/usr/bin/\1\n", data)
 
@@ -288,9 +304,9 @@ def members_of(package: Path) -> Dict[str, bytes]:
     data = package.read_bytes()
     members, place = {}, 8
     while place < len(data):
-        head = data[place:place + 60].decode()
+        head = data[place : place + 60].decode()
         size = int(head[48:58])
-        members[head[:16].strip()] = data[place + 60:place + 60 + size]
+        members[head[:16].strip()] = data[place + 60 : place + 60 + size]
         place += 60 + size + size % 2
     return members
 
@@ -324,7 +340,7 @@ def words_of(unit: str, home: Path, runtime: Path) -> List[str]:
     line = next(line for line in unit.replace("\\\n", "").splitlines() if line.startswith("ExecStart="))
     for short, long in (("%h", str(home)), ("%t", str(runtime)), ("%%", "%"), ("$$", "$")):
         line = line.replace(short, long)
-    return shlex.split(line[len("ExecStart="):])
+    return shlex.split(line[len("ExecStart=") :])
 
 
 def client_of(server: subprocess.Popen, sockname: Path) -> Client:

@@ -28,7 +28,11 @@ A `.x` *b* **c `d`** [e](f.md#g), `a\\b`: \u00fc
 SMALL_MADE = [
     ".PP",
     "A \\fB.x\\fR \\fIb\\fR \\fBc d\\fR e, \\fBa\\eb\\fR: \\[u00FC]",
-    ".TP", "\\fB\\-x\\fR", "\\&", ".PP", "\\&'q'",
+    ".TP",
+    "\\fB\\-x\\fR",
+    "\\&",
+    ".PP",
+    "\\&'q'",
 ]
 
 
@@ -47,13 +51,17 @@ class Pages(Case):
     def test_table_of_files(self) -> None:
         """The table of what is installed names each file, or the directory that it is in."""
         page = files.text("docs/SERVER.md")
-        table = page[page.index("| below the prefix | is |"):]
+        table = page[page.index("| below the prefix | is |") :]
         named = re.findall(r"`([^`]+)`", "".join(line.split("|")[1] for line in table.split("\n\n")[0].splitlines()))
-        covered = [path for path in FILES if path in named
-                   or any(name.endswith("/") and path.startswith(name) for name in named)]
+        covered = [
+            path
+            for path in FILES
+            if path in named or any(name.endswith("/") and path.startswith(name) for name in named)
+        ]
         self.same("the files that the table names", covered, list(FILES))
-        self.same("names that are no file",
-                  [name for name in named if not any(path.startswith(name) for path in FILES)], [])
+        self.same(
+            "names that are no file", [name for name in named if not any(path.startswith(name) for path in FILES)], []
+        )
 
     def test_manual(self) -> None:
         """The pages of man: only known macros, all of ASCII, each heading, and each block of code as it is in the
@@ -62,28 +70,34 @@ class Pages(Case):
             ("WQ.md", files.text("docs/WQ.md"), files.wq_manual()),
             ("SERVER.md", files.without(files.text("docs/SERVER.md"), "Installing it"), files.server_manual()),
             ("WQASM.md", files.text("docs/WQASM.md"), files.wqasm_manual()),
-            *((page, files.text(f"docs/{page}"), files.reference_manual(name)) for name,
-              (page, _) in files.REFERENCE.items()),
+            *(
+                (page, files.text(f"docs/{page}"), files.reference_manual(name))
+                for name, (page, _) in files.REFERENCE.items()
+            ),
         ):
             lines = made.splitlines()
-            self.same(f"{name}: macros", {line.split(" ")[0] for line in lines if line.startswith((".", "'"))} - MACROS,
-                      set())
+            self.same(
+                f"{name}: macros", {line.split(" ")[0] for line in lines if line.startswith((".", "'"))} - MACROS, set()
+            )
             self.same(f"{name}: letters", made.isascii(), True)
             shown = [shown_as(line) for line in lines if line[:1] != "."]
             headings = [line.split(" ", 1) for line in text.splitlines() if re.match("##+ ", line)]
-            expected = [words.replace("`", "").upper() if marks == "##" else words.replace("`", "") for marks,
-                        words in headings]
+            expected = [
+                words.replace("`", "").upper() if marks == "##" else words.replace("`", "") for marks, words in headings
+            ]
             found = [shown_as(line.split(" ", 1)[1]) for line in lines if line.startswith((".SH", ".SS"))]
-            found = [words for words in found
-                     if words not in ("NAME", "SYNOPSIS", "DESCRIPTION", "EXAMPLES", "SEE ALSO")]
+            found = [
+                words for words in found if words not in ("NAME", "SYNOPSIS", "DESCRIPTION", "EXAMPLES", "SEE ALSO")
+            ]
             self.same(f"{name}: headings", found, expected)
             code = [line for line in code_of(text) if line]
             self.same(f"{name}: lines of code that are missing", [line for line in code if line not in shown], [])
             left = [line for line in shown if "](" in line or "<!--" in line]
             self.same(f"{name}: what is left of Markdown", left, [])
             self.check_by_roff(name, made)
-        self.same("a small page", manual.page(SMALL, "n", 1, "s", "0").splitlines()[6:-1 - len(manual.PAGES)],
-                  SMALL_MADE)
+        self.same(
+            "a small page", manual.page(SMALL, "n", 1, "s", "0").splitlines()[6 : -1 - len(manual.PAGES)], SMALL_MADE
+        )
 
     def check_by_roff(self, name: str, made: str) -> None:
         if shutil.which("groff") is None:
@@ -94,8 +108,9 @@ class Pages(Case):
         if name in ("WQ.md", "SERVER.md"):
             command = ["groff", "-man", "-Tutf8", "-rLL=78n", "-P-cbou"]
             shown = subprocess.run(command, input=made.encode(), stdout=subprocess.PIPE).stdout.decode()
-            self.same(f"{name}: lines that a terminal cuts", [line for line in shown.splitlines() if len(line) > 80],
-                      [])
+            self.same(
+                f"{name}: lines that a terminal cuts", [line for line in shown.splitlines() if len(line) > 80], []
+            )
 
 
 def shown_as(line: str) -> str:

@@ -76,8 +76,9 @@ class Proving(Case):
         (kit / "rt").chmod(0o755)
 
         def run(fault: str, *words: str) -> built.Ended:
-            return built.call([str(self.room / "wqd"), *words], stdin=subprocess.DEVNULL,
-                              env=values_for(self.room, kit, fault))
+            return built.call(
+                [str(self.room / "wqd"), *words], stdin=subprocess.DEVNULL, env=values_for(self.room, kit, fault)
+            )
 
         refused = run("fn wqd::main: no proof", "--build")
         self.same("a crate that is not proved", (refused.status, refused.output), (1, b""))
@@ -108,14 +109,16 @@ class Proving(Case):
         same_program, another = room / "same", room / "another"
         shutil.copy(built.program_path(), same_program)
         another.write_bytes(built.program_path().read_bytes() + b" ")
-        for path, status, said in ((same_program, 0, "is the program that comes out"),
-                                   (another, 1, "is another program"),
-                                   (room / "none", 1, "there is no file")):
-            ended = subprocess.run([str(room / "verify"), str(path)], capture_output=True,
-                                   env=values)
+        for path, status, said in (
+            (same_program, 0, "is the program that comes out"),
+            (another, 1, "is another program"),
+            (room / "none", 1, "there is no file"),
+        ):
+            ended = subprocess.run([str(room / "verify"), str(path)], capture_output=True, env=values)
             self.same(f"./verify of {path.name}", ended.returncode, status)
-            self.check(f"what it says of {path.name}", said in (ended.stdout + ended.stderr).decode(),
-                       [f"{ended.stderr!r}"])
+            self.check(
+                f"what it says of {path.name}", said in (ended.stdout + ended.stderr).decode(), [f"{ended.stderr!r}"]
+            )
         self.same("the copies of ./verify are gone", list((room / "temporary").iterdir()), [])
 
     def said(self, name: str, errors: bytes, pattern: str) -> None:
@@ -127,6 +130,10 @@ def values_for(room: Path, kit: Path, fault: str = "") -> Dict[str, str]:
     """The environment of a build with the stand-in."""
     kept = {name: value for name, value in os.environ.items() if name != "WQD"}
     return {
-        **kept, "PATH": str(kit), "TMPDIR": str(room / "temporary"), "SEEN": str(room / "seen"), "FAULT": fault,
+        **kept,
+        "PATH": str(kit),
+        "TMPDIR": str(room / "temporary"),
+        "SEEN": str(room / "seen"),
+        "FAULT": fault,
         "PROGRAM": str(built.program_path()),
     }

@@ -22,8 +22,10 @@ class Released(Case):
     def test_archive(self) -> None:
         """Its files are those of ./install below ~/.local, and the commands run where it is unpacked."""
         home = self.directory("home")
-        paths = [Path(call(home, "package", "--archive", str(self.room / name)).output.decode().strip())
-                 for name in ("one", "two")]
+        paths = [
+            Path(call(home, "package", "--archive", str(self.room / name)).output.decode().strip())
+            for name in ("one", "two")
+        ]
         version = version_of(home)
         self.same("the name of the archive", paths[0].name, f"wqd-{version}-linux-x86_64.tar.gz")
         self.check("it is the same each time", paths[0].read_bytes() == paths[1].read_bytes())
@@ -46,22 +48,37 @@ class Released(Case):
         note = place / "crates" / "wqd" / "out" / "wqd.proof"
         refused = release(place, self.room / "first")
         self.same("a program without a note", refused.status, 1)
-        self.check("the reason", b"is not the one that ./wqd --build proved and built here" in refused.errors,
-                   [f"{refused.errors!r}"])
+        self.check(
+            "the reason",
+            b"is not the one that ./wqd --build proved and built here" in refused.errors,
+            [f"{refused.errors!r}"],
+        )
         note.write_text(f"program {hashlib.sha256(program).hexdigest()}\nkit none\n")
         made = [release(place, self.room / name) for name in ("first", "second")]
         self.same("a release", [ended.status for ended in made], [0, 0])
         names = sorted(path.name for path in (self.room / "first").iterdir())
         version = version_of(self.room)
-        self.same("its files", names, sorted([
-            "SHA256SUMS", f"wqd-{version}-linux-x86_64.tar.gz", f"wqd-{version}.proof", f"wqd_{version}_amd64.deb",
-            f"wqd-chokidar-{version}.tgz", f"wqd_watchdog-{version}-py3-none-any.whl",
-        ]))
-        pairs = [((self.room / "first" / name).read_bytes(), (self.room / "second" / name).read_bytes())
-                 for name in names]
+        self.same(
+            "its files",
+            names,
+            sorted(
+                [
+                    "SHA256SUMS",
+                    f"wqd-{version}-linux-x86_64.tar.gz",
+                    f"wqd-{version}.proof",
+                    f"wqd_{version}_amd64.deb",
+                    f"wqd-chokidar-{version}.tgz",
+                    f"wqd_watchdog-{version}-py3-none-any.whl",
+                ]
+            ),
+        )
+        pairs = [
+            ((self.room / "first" / name).read_bytes(), (self.room / "second" / name).read_bytes()) for name in names
+        ]
         self.check("it is the same each time", all(one == two for one, two in pairs))
-        checked = subprocess.run(["sha256sum", "--check", "--quiet", "SHA256SUMS"], cwd=self.room / "first",
-                                 stdout=subprocess.PIPE)
+        checked = subprocess.run(
+            ["sha256sum", "--check", "--quiet", "SHA256SUMS"], cwd=self.room / "first", stdout=subprocess.PIPE
+        )
         self.same("its checksums", (checked.returncode, checked.stdout), (0, b""))
         self.same("its note", (self.room / "first" / f"wqd-{version}.proof").read_text(), note.read_text())
 

@@ -27,11 +27,14 @@ while [ -n "$WAITS" ] && [ ! -e "$ROOM/go" ]; do sleep 0.05; done
 [ -z "$FAILS" ] || { echo "error: it does not compile" >&2; exit 1; }
 exec "$PROGRAM" "$@"
 """
-COMPILES = (b"nothing is built yet; the kit compiles the program without proof, in some minutes, and it is kept for "
-            b"later\n")
+COMPILES = (
+    b"nothing is built yet; the kit compiles the program without proof, in some minutes, and it is kept for " b"later\n"
+)
 FIRST = b"wq: " + COMPILES
-NOT_PROVED = (b"wq: not proved, and some 40 times slower a file, since it checks each access; ./wqd --build proves and "
-              b"builds it\n")
+NOT_PROVED = (
+    b"wq: not proved, and some 40 times slower a file, since it checks each access; ./wqd --build proves and "
+    b"builds it\n"
+)
 
 
 class Asking:
@@ -54,9 +57,12 @@ class Asking:
         (kit / "rt").write_text(KIT)
         (kit / "rt").chmod(0o755)
         self.environment: Dict[str, str] = {
-            **os.environ, "PATH": f"{kit}:{os.environ['PATH']}", "XDG_RUNTIME_DIR": str(self.runtime),
+            **os.environ,
+            "PATH": f"{kit}:{os.environ['PATH']}",
+            "XDG_RUNTIME_DIR": str(self.runtime),
             "ROOM": str(room),
-            "PROGRAM": str(built.program_path()), "XDG_STATE_HOME": str(room / "state"),
+            "PROGRAM": str(built.program_path()),
+            "XDG_STATE_HOME": str(room / "state"),
             "XDG_CACHE_HOME": str(room / "cache"),
         }
         for name in ("WQD", "WQD_SOCK"):
@@ -77,7 +83,8 @@ class Asking:
         command = [str(self.top / "wq"), *words]
         environment = {**self.environment, **environment}
         return subprocess.Popen(
-            command, stdout=subprocess.PIPE, stderr=subprocess.STDOUT, env=environment, preexec_fn=hear_interrupts)
+            command, stdout=subprocess.PIPE, stderr=subprocess.STDOUT, env=environment, preexec_fn=hear_interrupts
+        )
 
     def find(self, **environment: str) -> built.Ended:
         return ended(self.start("find", str(self.root), **environment))
@@ -135,8 +142,9 @@ class Unproved(Case):
             missing = replayed(b"", "check", str(self.room / "missing"))
             self.same("check", (missing.status, missing.errors.startswith(unproved)), (1, True))
             self.same("one compilation", asking.compilations(), 1)
-            self.same("./wq after that", asking.find(),
-                      built.Ended(asking.started() + NOT_PROVED + asking.files, b"", 0))
+            self.same(
+                "./wq after that", asking.find(), built.Ended(asking.started() + NOT_PROVED + asking.files, b"", 0)
+            )
             source = asking.top / "crates" / "wqd" / "src" / "main.rt"
             source.write_text("fn main() { }\n")
             self.same("other sources", replayed(script, "replay"), built.Ended(reply, compiles + unproved, 0))
@@ -149,8 +157,11 @@ class Unproved(Case):
     def test_how_far(self) -> None:
         """What a person hears while the kit compiles: by the clock, of the processor, and how much of that it needs."""
         for (took, used, needs), left in (
-            ((15, 15, 200), "about 3 minutes left"), ((15, 5, 65), "about 3 minutes left"),
-            ((90, 80, 120), "about 45 s left"), ((90, 120, 120), "nearly done"), ((300, 250, 200), "nearly done"),
+            ((15, 15, 200), "about 3 minutes left"),
+            ((15, 5, 65), "about 3 minutes left"),
+            ((90, 80, 120), "about 45 s left"),
+            ((90, 120, 120), "nearly done"),
+            ((300, 250, 200), "nearly done"),
             ((15, 0, 6), "about 2 minutes left"),
         ):
             self.same(f"{used} of {needs} s", how_far(took, used, needs), f"compiling for {took} s so far, {left}")
@@ -169,8 +180,10 @@ class Unproved(Case):
         enter."""
         with Asking(self.room) as asking:
             log = self.room / "cache" / "wqd" / "programs" / "log"
-            words = "wq: the server did not start: the program could not be compiled: error: it does not compile " \
-                    f"(all of it is in {log})\n"
+            words = (
+                "wq: the server did not start: the program could not be compiled: error: it does not compile "
+                f"(all of it is in {log})\n"
+            )
             self.same("a compilation that fails", asking.find(FAILS="1"), built.Ended(FIRST + words.encode(), b"", 3))
             log.parent.chmod(0o777)
             words = f"wq: the server did not start: {log.parent}: it is no directory that you alone write to\n"
@@ -187,8 +200,10 @@ class Unproved(Case):
                 self.same("its server", asking.sockname.exists(), False)
                 (self.room / "go").unlink()
             missing = asking.find(PATH=f"{Path(os.path.realpath('/bin/sh')).parent}:{python_directory()}")
-            words = (b"wq: the server did not start: nothing is built, and the Rattle kit is missing: its command rt "
-                     b"is not on the PATH\n")
+            words = (
+                b"wq: the server did not start: nothing is built, and the Rattle kit is missing: its command rt "
+                b"is not on the PATH\n"
+            )
             self.same("no kit", missing, built.Ended(words, b"", 3))
             own = self.room / f"wqd-{os.getuid()}"
             own.mkdir(mode=0o755)

@@ -71,8 +71,9 @@ def older_package(room: Path) -> Path:
     changes = place / "CHANGELOG.md"
     changes.write_text(changes.read_text().replace(f"## {version_of(room)}", f"## {OLDER}", 1))
     environment = {"PATH": os.environ["PATH"], "HOME": str(place)}
-    done = subprocess.run([str(place / "package"), str(room / "old")], stdout=subprocess.PIPE, check=True,
-                          env=environment)
+    done = subprocess.run(
+        [str(place / "package"), str(room / "old")], stdout=subprocess.PIPE, check=True, env=environment
+    )
     return Path(done.stdout.decode().strip())
 
 

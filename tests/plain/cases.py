@@ -22,26 +22,59 @@ TERMS_OF_LISTS = ["name", "iname", "suffix"]
 # The server compares fewer texts of a list one by one, and searches among so many.
 MANY = 17
 SUBSCRIPTION_CASES = [
-    "first list", "first list of a replacement", "later list", "end of a subscription", "first list without files",
-    "subscription deleted", "no subscription deleted", "idle moment that tells nothing",
+    "first list",
+    "first list of a replacement",
+    "later list",
+    "end of a subscription",
+    "first list without files",
+    "subscription deleted",
+    "no subscription deleted",
+    "idle moment that tells nothing",
     "idle moment with several lists",
-    "later list after the end of another subscription", "later list of one field", "later list of several fields",
-    "later list of a program", "deleted file in a later list", "file in a later list that is new",
+    "later list after the end of another subscription",
+    "later list of one field",
+    "later list of several fields",
+    "later list of a program",
+    "deleted file in a later list",
+    "file in a later list that is new",
     "file in a later list that is not new",
 ]
 TRIGGER_CASES = [
-    "trigger created", "trigger replaced", "trigger deleted", "no trigger deleted", "trigger listed",
+    "trigger created",
+    "trigger replaced",
+    "trigger deleted",
+    "no trigger deleted",
+    "trigger listed",
     "no trigger listed",
-    "round with several starts", "round of a root that is not watched", "trigger passed over while its command runs",
-    "trigger passed over that was replaced", "trigger without files", "failed start", "start after one that failed",
-    "start of a fresh batch", "start of a later batch", "start with deleted files", "start by a program",
-    "start with names in its arguments", "start without input", "start with names as input",
-    "start with a JSON list of one field", "start with a JSON list of several fields", "start whose input is cut",
-    "end of a run", "end of no run",
+    "round with several starts",
+    "round of a root that is not watched",
+    "trigger passed over while its command runs",
+    "trigger passed over that was replaced",
+    "trigger without files",
+    "failed start",
+    "start after one that failed",
+    "start of a fresh batch",
+    "start of a later batch",
+    "start with deleted files",
+    "start by a program",
+    "start with names in its arguments",
+    "start without input",
+    "start with names as input",
+    "start with a JSON list of one field",
+    "start with a JSON list of several fields",
+    "start whose input is cut",
+    "end of a run",
+    "end of no run",
 ]
 SCRIPT_FAULTS = [
-    "not a line", "in a pass", "outside of a pass", "line too long", "second out of range", "name not valid",
-    "number out of range", "name twice",
+    "not a line",
+    "in a pass",
+    "outside of a pass",
+    "line too long",
+    "second out of range",
+    "name not valid",
+    "number out of range",
+    "name twice",
 ]
 
 
@@ -51,8 +84,9 @@ def expected_cases() -> List[str]:
     cases += ["empty on fresh instance", "one field", "several fields", "a field twice", "default fields"]
     cases += ["cursor at its first use", "cursor that was used", "query by a program"]
     cases += SUBSCRIPTION_CASES + TRIGGER_CASES
-    cases += [f"{kind} since a {bound}" for kind in ("first list", "later list")
-              for bound in ("fresh", "tick", "second")]
+    cases += [
+        f"{kind} since a {bound}" for kind in ("first list", "later list") for bound in ("fresh", "tick", "second")
+    ]
     cases += ["root watched", "root watched no more", "root listed", "no root listed", "clock id of an earlier root"]
     cases += [f"error {error}" for error in errors.ALL]
     cases += ["script ends well"] + [f"script line: {fault}" for fault in SCRIPT_FAULTS]
@@ -65,8 +99,12 @@ def expected_cases() -> List[str]:
     cases += [f"left out key {key}" for key in LEFT_OUT_KEYS]
     cases += [f"term {name} {answer}" for name in [*COMBINATIONS, *TERMS] for answer in answers_of(name)]
     cases += [f"term {name} of many texts {answer}" for name in TERMS_OF_LISTS for answer in answers_of(name)]
-    cases += [f"since {field} with a {kind}" for field in SINCE_FIELDS for kind in ("fresh", "tick", "second")
-              if field != "mtime" or kind == "second"]
+    cases += [
+        f"since {field} with a {kind}"
+        for field in SINCE_FIELDS
+        for kind in ("fresh", "tick", "second")
+        if field != "mtime" or kind == "second"
+    ]
     cases += [f"type {letter}" for letter in TYPE_LETTERS]
     cases += [f"relation {relation} in {term}" for relation in RELATIONS for term in ("size", "dirname", "idirname")]
     cases += [f"{term} of {scope}" for term in SCOPED_TERMS for scope in ("basename", "wholename")]

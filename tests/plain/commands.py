@@ -8,8 +8,17 @@ from queries import Query, read_query, reply_to, settled
 from servers import Server
 from triggers import add_trigger, read_trigger
 from wqprogram.clocks import clock_id
-from wqprogram.errors import (BAD_NAME, BINARY, LINE_TOO_LONG, NOT_A_COMMAND, NOT_JSON, ROOT_NOT_ABSOLUTE,
-                              UNKNOWN_COMMAND, WRONG_ARGUMENTS, Refused)
+from wqprogram.errors import (
+    BAD_NAME,
+    BINARY,
+    LINE_TOO_LONG,
+    NOT_A_COMMAND,
+    NOT_JSON,
+    ROOT_NOT_ABSOLUTE,
+    UNKNOWN_COMMAND,
+    WRONG_ARGUMENTS,
+    Refused,
+)
 from wqprogram.json_values import NotJson, compact_text, is_whole_number, read
 from wqprogram.limits import MAX_LINE, MAX_PROGRAM_NAME, MAX_ROOT, MAX_SUBSCRIPTION_NAME, MAX_TRIGGER_NAME
 
@@ -201,13 +210,25 @@ def root_named(text: str) -> str:
 
 
 COMMANDS: Dict[str, Callable[[List[Any], Server], Answer]] = {
-    "watch": watch, "watch-project": watch, "watch-list": watch_list, "watch-del": watch_del,
-    "query": query, "clock": clock, "version": version, "get-sockname": get_sockname,
-    "shutdown-server": shutdown_server, "program-add": program_add, "program-list": program_list,
-    "program-del": program_del, "trigger": trigger, "trigger-list": trigger_list, "trigger-del": trigger_del,
+    "watch": watch,
+    "watch-project": watch,
+    "watch-list": watch_list,
+    "watch-del": watch_del,
+    "query": query,
+    "clock": clock,
+    "version": version,
+    "get-sockname": get_sockname,
+    "shutdown-server": shutdown_server,
+    "program-add": program_add,
+    "program-list": program_list,
+    "program-del": program_del,
+    "trigger": trigger,
+    "trigger-list": trigger_list,
+    "trigger-del": trigger_del,
 }
 
 # Those that change what is kept of the client.
 SESSION_COMMANDS: Dict[str, Callable[[List[Any], Session, Server], Answer]] = {
-    "subscribe": subscribe, "unsubscribe": unsubscribe,
+    "subscribe": subscribe,
+    "unsubscribe": unsubscribe,
 }

@@ -110,6 +110,7 @@ def changed_after(tick: int, history: History) -> List[Record]:
     names = {name for one_pass in history.passes for name in one_pass.sights}
     later = range(tick + 1, len(history.passes) + 1)
     return [
-        history.record_of(name) for name in sorted(names)
+        history.record_of(name)
+        for name in sorted(names)
         if any(history.sighting(number, name) != history.sighting(number - 1, name) for number in later)
     ]

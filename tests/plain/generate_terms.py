@@ -9,22 +9,64 @@ MAX = 2**62
 NOT_TERMS = ["7", "null", "{}", "[]", '[["name"]]', "[7]", "true", "1.5", '[null,"exists"]']
 SUFFIXES = ["c", "C", "txt", "TXT", "php", "", "ü", "Ü", ".c", "c.c"]
 UNKNOWN_TERMS = ['"frob"', '["frob",7,null]', '"True"', '""', '["pcre","x"]', '["ipcre","x"]', '"NAME"', '"exists "']
-WRONG_TEXTS = ["7", "null", "{}", "true", '[7]', '["a",null]', '[["a"]]']
+WRONG_TEXTS = ["7", "null", "{}", "true", "[7]", '["a",null]', '[["a"]]']
 WRONG_NUMBERS = ["1.5", "0.0", "-0", "1e3", '"1"', "null", str(MAX + 1), str(-MAX - 1), str(2**64), "[1]"]
 RELATIONS = ["eq", "ne", "gt", "ge", "lt", "le"]
 CLASSES = [
-    "[a-c]", "[!a-c]", "[^A-Z]", "[[:alpha:]]", "[![:digit:]]", "[[:upper:].]", "[]a]", "[a-]", "[.]", "[/a]",
+    "[a-c]",
+    "[!a-c]",
+    "[^A-Z]",
+    "[[:alpha:]]",
+    "[![:digit:]]",
+    "[[:upper:].]",
+    "[]a]",
+    "[a-]",
+    "[.]",
+    "[/a]",
     "[z-a]",
-    "[[:punct:]]", "[[:foo:]]", "[[::]]", "[a-[:digit:]]", "[\\]a]", "[\\a-\\c]", "[[:]x]", "[a", "[",
-    "[!]a]", "[ü]",
-    "[[:xdigit:][:space:]]", "[[:graph:]]", "[[:cntrl:]]", "[[:print:]]", "[[:blank:]x]", "[[:alnum:]_]",
+    "[[:punct:]]",
+    "[[:foo:]]",
+    "[[::]]",
+    "[a-[:digit:]]",
+    "[\\]a]",
+    "[\\a-\\c]",
+    "[[:]x]",
+    "[a",
+    "[",
+    "[!]a]",
+    "[ü]",
+    "[[:xdigit:][:space:]]",
+    "[[:graph:]]",
+    "[[:cntrl:]]",
+    "[[:print:]]",
+    "[[:blank:]x]",
+    "[[:alnum:]_]",
     "[--b]",
-    "[[:lower:]-z]", "[a-c-e]", "[a-c--e]", "[[:a]b:]", "[]-a]", "[!-a]", "[\\", "[a\\]", "[[:lower:]]",
+    "[[:lower:]-z]",
+    "[a-c-e]",
+    "[a-c--e]",
+    "[[:a]b:]",
+    "[]-a]",
+    "[!-a]",
+    "[\\",
+    "[a\\]",
+    "[[:lower:]]",
     "[[:space:]]",
     "[^[:space:]]",
-    "[[:blank:]]", "[[:xdigit:]]", "[![:print:]]", "[^[:graph:][:cntrl:]]", "[![:foo:]]", "[[:UPPER:]]",
+    "[[:blank:]]",
+    "[[:xdigit:]]",
+    "[![:print:]]",
+    "[^[:graph:][:cntrl:]]",
+    "[![:foo:]]",
+    "[[:UPPER:]]",
     "[[:alpha]",
-    "[^]]", "[]]", "[[]", "[a-\\]]", "[\\[-\\]]", "[[:upper:]-]", "[[:punct:][:alnum:]]",
+    "[^]]",
+    "[]]",
+    "[[]",
+    "[a-\\]]",
+    "[\\[-\\]]",
+    "[[:upper:]-]",
+    "[[:punct:][:alnum:]]",
 ]
 STARTS = ["**/", "**/", "**/**/", "**/*/", "*/", "***/", "**", "**\\/"]
 PIECES = ["*", "**", "?", "/", "**/", "a", "A", ".", "\\", "x", "[", "]", "!", "-", *CLASSES]
@@ -74,8 +116,19 @@ def plain_term(draws: Draws, world: World, head: str) -> str:
 
 def type_term(draws: Draws, world: World, head: str) -> str:
     if draws.one_in(15):
-        return draws.pick(['["type"]', '"type"', '["type","?"]', '["type","F"]', '["type",102]', '["type","f","d"]',
-                           '["type",["f"]]', '["type",""]', '["type","ff"]'])
+        return draws.pick(
+            [
+                '["type"]',
+                '"type"',
+                '["type","?"]',
+                '["type","F"]',
+                '["type",102]',
+                '["type","f","d"]',
+                '["type",["f"]]',
+                '["type",""]',
+                '["type","ff"]',
+            ]
+        )
     return f'["type","{draws.pick("bcdflpsDffdl")}"]'
 
 
@@ -177,8 +230,17 @@ def directory_text(draws: Draws, world: World) -> str:
 
 def dirname_term(draws: Draws, world: World, head: str) -> str:
     if draws.one_in(25):
-        wrong = [[], ["7"], ['["a"]'], [long_text(draws, 4096)], ['"a"', "null"], ['"a"', '["eq",0]'],
-                 ['"a"', '["Depth","eq",0]'], ['"a"', '["depth","eq",0]', "null"], ['"a"', '"depth"']]
+        wrong = [
+            [],
+            ["7"],
+            ['["a"]'],
+            [long_text(draws, 4096)],
+            ['"a"', "null"],
+            ['"a"', '["eq",0]'],
+            ['"a"', '["Depth","eq",0]'],
+            ['"a"', '["depth","eq",0]', "null"],
+            ['"a"', '"depth"'],
+        ]
         return array(draws, [f'"{head}"'] + draws.pick(wrong))
     directory = directory_text(draws, world)
     directory = draws.pick([directory, directory, directory.upper(), directory.lower()])
@@ -234,10 +296,24 @@ def wildcard_for(draws: Draws, character: str) -> str:
     """What often takes this character."""
     single = draws.pick(["[{}]", "[!{}]", "[^x{}]", "[{}-{}]", "[.{}]", "[\\{}]"]).replace("{}", character)
     near = f"[{chr(max(ord(character) - 1, 1))}-{chr(ord(character) + 1)}]"
-    return draws.pick([
-        "?" * len(character.encode()), "*", "**", "*" + character, character + "*", "\\" + character,
-        character.swapcase(), single, single, single, near, draws.pick(CLASSES), draws.pick(CLASSES), "",
-    ])
+    return draws.pick(
+        [
+            "?" * len(character.encode()),
+            "*",
+            "**",
+            "*" + character,
+            character + "*",
+            "\\" + character,
+            character.swapcase(),
+            single,
+            single,
+            single,
+            near,
+            draws.pick(CLASSES),
+            draws.pick(CLASSES),
+            "",
+        ]
+    )
 
 
 def since_term(draws: Draws, world: World, head: str) -> str:
@@ -266,18 +342,57 @@ def clock_spec(draws: Draws, world: World) -> str:
 
 
 FRESH_IDS = [
-    '"c:7:8:1:1"', '"c:8:9:1:1"', '"c:7:9:2:1"', '"c:9:1"', '"c:0:0"', f'"c:{MAX}:{MAX}:{MAX}:{MAX}"',
+    '"c:7:8:1:1"',
+    '"c:8:9:1:1"',
+    '"c:7:9:2:1"',
+    '"c:9:1"',
+    '"c:0:0"',
+    f'"c:{MAX}:{MAX}:{MAX}:{MAX}"',
     '"c:0:0:0:0"',
 ]
 BAD_CLOCK_SPECS = [
-    '"c:7:9:1:01"', '"c:+7:9:1:1"', '"c:-0:9:1:1"', '"c: 7:9:1:1"', '"c:7:9:1:1\\n"', f'"c:7:9:1:{MAX + 1}"',
+    '"c:7:9:1:01"',
+    '"c:+7:9:1:1"',
+    '"c:-0:9:1:1"',
+    '"c: 7:9:1:1"',
+    '"c:7:9:1:1\\n"',
+    f'"c:7:9:1:{MAX + 1}"',
     '"c:1"',
-    '"c:1:2:3"', '"c:1:2:3:4:5"', '"c:"', '"c::::"', '"C:7:9:1:1"', '"n:"', '"n:' + "k" * 256 + '"', '""',
-    '"7"', "-1",
-    str(MAX + 1), str(2**64), "1.5", "-0", "1e2", "null", "[]", "{}", "true", '"c:7:9:1:१"', '"n:' + "ü" * 128 + '"',
+    '"c:1:2:3"',
+    '"c:1:2:3:4:5"',
+    '"c:"',
+    '"c::::"',
+    '"C:7:9:1:1"',
+    '"n:"',
+    '"n:' + "k" * 256 + '"',
+    '""',
+    '"7"',
+    "-1",
+    str(MAX + 1),
+    str(2**64),
+    "1.5",
+    "-0",
+    "1e2",
+    "null",
+    "[]",
+    "{}",
+    "true",
+    '"c:7:9:1:१"',
+    '"n:' + "ü" * 128 + '"',
 ]
 TERMS: Dict[str, Callable[[Draws, World, str], str]] = {
-    "true": plain_term, "false": plain_term, "exists": plain_term, "empty": plain_term, "type": type_term,
-    "size": size_term, "name": name_term, "iname": name_term, "suffix": suffix_term, "dirname": dirname_term,
-    "idirname": dirname_term, "match": match_term, "imatch": match_term, "since": since_term,
+    "true": plain_term,
+    "false": plain_term,
+    "exists": plain_term,
+    "empty": plain_term,
+    "type": type_term,
+    "size": size_term,
+    "name": name_term,
+    "iname": name_term,
+    "suffix": suffix_term,
+    "dirname": dirname_term,
+    "idirname": dirname_term,
+    "match": match_term,
+    "imatch": match_term,
+    "since": since_term,
 }

@@ -8,8 +8,14 @@ from generate_terms import MAX, WRONG_NUMBERS, World, expression
 NAMES = ['"t"'] * 8 + ['"\\u0074"', '"u"', '"u"', '"ü v"', '""', '"' + "t" * 256 + '"', "7"]
 COMMANDS = ['["cc"]', '["cc","-c"]', '["sh","-c","x \\"y\\""]', '["ü",""]']
 WRONG_COMMANDS = ["[]", '[""]', '"cc"', "[7]", '["cc",null]', '["cc","a\\u0000"]', "null"]
-INPUTS = ['"/dev/null"', '"NAME_PER_LINE"', '"NAME_PER_LINE"', '["name"]', '["name","size","new"]',
-          '["exists","oclock"]']
+INPUTS = [
+    '"/dev/null"',
+    '"NAME_PER_LINE"',
+    '"NAME_PER_LINE"',
+    '["name"]',
+    '["name","size","new"]',
+    '["exists","oclock"]',
+]
 WRONG_INPUTS = ['"name_per_line"', '""', "[]", '["frob"]', "null", "{}", '["name",7]']
 LIMITS = ["0", "1", "1", "2", "3", str(MAX)]
 WRONG_KEYS = ["stdout", "stderr", "chdir", "relative_root"]
@@ -32,12 +38,14 @@ def rounds(draws: Draws, world: World, root: str) -> List[bytes]:
 def trigger_command(draws: Draws, world: World, root: str) -> str:
     name = draws.pick(NAMES)
     if draws.one_in(12):
-        words = draws.pick([['"trigger-del"', root, name]] * 3 + [['"trigger-del"', root],
-                                                                  ['"trigger-del"', root, name, name]])
+        words = draws.pick(
+            [['"trigger-del"', root, name]] * 3 + [['"trigger-del"', root], ['"trigger-del"', root, name, name]]
+        )
         return array(draws, words)
     if draws.one_in(12):
-        return array(draws, draws.pick([['"trigger-list"', root]] * 3 + [['"trigger-list"'],
-                                                                         ['"trigger-list"', root, "{}"]]))
+        return array(
+            draws, draws.pick([['"trigger-list"', root]] * 3 + [['"trigger-list"'], ['"trigger-list"', root, "{}"]])
+        )
     asked = json_object(draws, trigger(draws, world, name))
     wrong = [['"trigger"', root], ['"trigger"', root, "[]"], ['"trigger"', root, name, '["cc"]']]
     return array(draws, draws.pick([['"trigger"', root, asked]] * 20 + wrong))

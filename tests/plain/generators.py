@@ -89,5 +89,5 @@ def is_at(record: Record, path: Path) -> bool:
     if record.name == path.name:
         return record.kind != "d"
     start = path.name + b"/" if path.name else b""
-    depth = record.name[len(start):].count(b"/")
+    depth = record.name[len(start) :].count(b"/")
     return record.name.startswith(start) and (path.depth == ANY_DEPTH or depth <= path.depth)

@@ -8,8 +8,15 @@ from servers import Server
 from views import View
 from wqprogram import clocks
 from wqprogram.clocks import FIRST_ROOT, FRESH, Bound, at_root, clock_id
-from wqprogram.errors import (BAD_CLOCK_SPEC, BAD_GENERATOR, EXPRESSION_AND_PROGRAM, LEFT_OUT_KEY, UNKNOWN_FIELD,
-                              WRONG_QUERY_VALUE, Refused)
+from wqprogram.errors import (
+    BAD_CLOCK_SPEC,
+    BAD_GENERATOR,
+    EXPRESSION_AND_PROGRAM,
+    LEFT_OUT_KEY,
+    UNKNOWN_FIELD,
+    WRONG_QUERY_VALUE,
+    Refused,
+)
 from wqprogram.json_values import is_whole_number
 from wqprogram.records import Record
 from wqprogram.terms import Test, read_term

@@ -225,7 +225,7 @@ def client_of(word: bytes) -> int:
 
 def number_of(word: bytes) -> int:
     """A number from -2^63 to 2^63 - 1, which is written in one way."""
-    if NUMBER.fullmatch(word) is None or not -2**63 <= int(word) < 2**63:
+    if NUMBER.fullmatch(word) is None or not -(2**63) <= int(word) < 2**63:
         raise NotALine
     return int(word)
 

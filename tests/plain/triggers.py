@@ -74,7 +74,8 @@ def has_good_shape(asked: Dict[str, Any]) -> bool:
         and isinstance(asked.get("program", ""), str)
         and isinstance(asked.get("name"), str)
         and isinstance(asked.get("append_files", False), bool)
-        and is_whole_number(limit) and 0 <= limit <= MAX_NUMBER
+        and is_whole_number(limit)
+        and 0 <= limit <= MAX_NUMBER
         and is_command(asked.get("command"))
         and is_input(asked.get("stdin", "/dev/null"))
     )
@@ -90,8 +91,9 @@ def is_command(value: Any) -> bool:
 def is_input(value: Any) -> bool:
     if isinstance(value, str):
         return value in INPUTS
-    return isinstance(value,
-                      list) and bool(value) and all(isinstance(field, str) and field in FIELDS for field in value)
+    return (
+        isinstance(value, list) and bool(value) and all(isinstance(field, str) and field in FIELDS for field in value)
+    )
 
 
 def add_trigger(trigger: Trigger, server: Server) -> bool:
@@ -152,7 +154,7 @@ def batch_of(trigger: Trigger, server: Server) -> List[Record]:
 def start_line(trigger: Trigger, files: List[Record], tick: int) -> Dict[str, Any]:
     names = [record.name.decode() for record in files]
     appended = fitting(names) if trigger.asked.get("append_files", False) else []
-    given = files[:trigger.asked.get("max_files_stdin", 0) or len(files)]
+    given = files[: trigger.asked.get("max_files_stdin", 0) or len(files)]
     number = trigger.query.root
     env = {"WATCHMAN_CLOCK": clock_id(number, tick), "WATCHMAN_ROOT": trigger.root, "WATCHMAN_TRIGGER": trigger.name}
     if trigger.last is not None:
@@ -160,7 +162,9 @@ def start_line(trigger: Trigger, files: List[Record], tick: int) -> Dict[str, An
     if is_cut(trigger, files, appended, given):
         env["WATCHMAN_FILES_OVERFLOW"] = "true"
     return {
-        "args": trigger.asked["command"] + appended, "env": env, "name": trigger.name,
+        "args": trigger.asked["command"] + appended,
+        "env": env,
+        "name": trigger.name,
         "stdin": input_of(trigger, given),
     }
 

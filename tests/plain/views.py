@@ -77,6 +77,7 @@ class History:
 
     def record_of(self, name: bytes) -> Record:
         """The record of a name that some pass saw."""
+
         def is_seen(number: int) -> bool:
             return self.sighting(number, name) is not None
 
@@ -90,8 +91,13 @@ class History:
         created = self.greatest(has_come)
         changed = self.greatest(has_changed)
         return Record(
-            name, *last_sight, exists=is_seen(len(self.passes)), ctick=created, csec=self.second_of(created),
-            otick=changed, osec=self.second_of(changed),
+            name,
+            *last_sight,
+            exists=is_seen(len(self.passes)),
+            ctick=created,
+            csec=self.second_of(created),
+            otick=changed,
+            osec=self.second_of(changed),
         )
 
     def view(self) -> View:

@@ -10,7 +10,7 @@ class BadText(NamedTuple):
 
 
 SOME = 'an instruction, as "exists", "num", "cmp" or "ret"'
-ESCAPES = r'\", \\, \n, \t, or \x and two digits of a byte'
+ESCAPES = r"\", \\, \n, \t, or \x and two digits of a byte"
 FORWARD = "a label of a later instruction, since jumps lead forward"
 LATER = "version 2 of program files"
 A_TABLE = '"nums", "texts", "lists", "patterns", "sets" or "code", with which a table begins'
@@ -45,13 +45,17 @@ BAD_TEXTS: List[BadText] = [
     BadText("nums\nmany\n", '2:1: unexpected word: found "many", expected a number, or a label with a colon'),
     BadText("nums\n1 2\n", '2:3: unexpected word: found "2", expected the end of the line'),
     BadText("nums\n1_000\n", '2:1: unexpected word: found "1_000", expected a number, or a label with a colon'),
-    BadText("nums\n9223372036854775808\n",
-            f'2:1: number out of range: found "9223372036854775808", expected {NUMBERS}'),
-    BadText("nums\n-9223372036854775809\n",
-            f'2:1: number out of range: found "-9223372036854775809", expected {NUMBERS}'),
+    BadText(
+        "nums\n9223372036854775808\n", f'2:1: number out of range: found "9223372036854775808", expected {NUMBERS}'
+    ),
+    BadText(
+        "nums\n-9223372036854775809\n", f'2:1: number out of range: found "-9223372036854775809", expected {NUMBERS}'
+    ),
     BadText(f"nums\n{'9' * 5_000}\n", f'2:1: number out of range: found "{"9" * 40}..", expected {NUMBERS}'),
-    BadText("nums\n" + "1\n" * 65_537,
-            '65538:1: too many rows: found "1", expected at most 65,536 rows of a table in version 2'),
+    BadText(
+        "nums\n" + "1\n" * 65_537,
+        '65538:1: too many rows: found "1", expected at most 65,536 rows of a table in version 2',
+    ),
     BadText(
         "version 1\nnums\n" + "1\n" * 4_097,
         '4099:1: too many rows: found "1", expected at most 4,096 rows of a table in version 1',
@@ -74,24 +78,27 @@ BAD_TEXTS: List[BadText] = [
     BadText("lists\n[a]\n", '2:2: unexpected word: found "a", expected a text in quotes'),
     BadText("lists\n[,]\n", '2:2: unexpected word: found ",", expected a text in quotes'),
     BadText(
-        'lists\n[' + '"",' * 65_537 + "]\n",
+        "lists\n[" + '"",' * 65_537 + "]\n",
         '2:196610: too many entries: found "", expected at most 65,536 texts of a list in version 2',
     ),
     BadText(
-        'version 1\nlists\n[' + '"",' * 65_536 + "]\n",
+        "version 1\nlists\n[" + '"",' * 65_536 + "]\n",
         '3:196607: too many entries: found "", expected at most 65,535 texts of a list in version 1',
     ),
     BadText('sets\n"a"\n', '2:1: unexpected word: found "a", expected a set, as ["*.c", "*.h" fold]'),
-    BadText('sets\n["a" "b"]\n',
-            '2:6: unknown flag: found "b", expected "wholename", "dotfiles", "noescape" or "fold"'),
+    BadText(
+        'sets\n["a" "b"]\n', '2:6: unknown flag: found "b", expected "wholename", "dotfiles", "noescape" or "fold"'
+    ),
     BadText('sets\n["a" fold fold]\n', '2:11: flag twice: found "fold", expected each flag once'),
     BadText(f'sets\n["", "{"a" * 256}"]\n', too_long("2:6", "a", "255", "256")),
     BadText(
-        'sets\n[' + '"",' * 65_537 + "]\n",
+        "sets\n[" + '"",' * 65_537 + "]\n",
         '2:196610: too many entries: found "", expected at most 65,536 patterns of a set in version 2',
     ),
-    BadText('patterns\n"a" wide\n',
-            '2:5: unknown flag: found "wide", expected "wholename", "dotfiles", "noescape" or "fold"'),
+    BadText(
+        'patterns\n"a" wide\n',
+        '2:5: unknown flag: found "wide", expected "wholename", "dotfiles", "noescape" or "fold"',
+    ),
     BadText('patterns\n"a" folds\n', '2:5: unknown flag: found "folds", expected "fold"'),
     BadText('patterns\n"a" fold fold\n', '2:10: flag twice: found "fold", expected each flag once'),
     # Instructions.
@@ -105,38 +112,49 @@ BAD_TEXTS: List[BadText] = [
     BadText("code\nflag\n", "2:5: missing word: found the end of the line, expected 0 for no or 1 for yes"),
     BadText("code\nflag yes\n", '2:6: unexpected word: found "yes", expected 0 for no or 1 for yes'),
     BadText("code\nflag 2\n", '2:6: number out of range: found "2", expected a number from 0 to 1'),
-    BadText("code\ncmp\n",
-            '2:4: missing word: found the end of the line, expected "eq", "ne", "lt", "le", "gt" or "ge"'),
+    BadText(
+        "code\ncmp\n", '2:4: missing word: found the end of the line, expected "eq", "ne", "lt", "le", "gt" or "ge"'
+    ),
     BadText("code\ncmp more\n", '2:5: unexpected word: found "more", expected "eq", "ne", "lt", "le", "gt" or "ge"'),
     BadText("code\nmatch fold\n", '2:7: no such label: found "fold", expected a label of "patterns"'),
     BadText("code\nnum\n", '2:4: missing word: found the end of the line, expected a label of "nums", or its number'),
     BadText('code\nnum "a"\n', '2:5: unexpected word: found "a", expected a label of "nums", or its number'),
-    BadText("code\nnum 4294967296\n",
-            '2:5: number out of range: found "4294967296", expected a number from 0 to 4294967295'),
+    BadText(
+        "code\nnum 4294967296\n", '2:5: number out of range: found "4294967296", expected a number from 0 to 4294967295'
+    ),
     BadText("code\njf -1\n", '2:4: number out of range: found "-1", expected a number from 0 to 4294967295'),
-    BadText("version 1\ncode\nnum 65536\n",
-            '3:5: number out of range: found "65536", expected a number from 0 to 65535'),
+    BadText(
+        "version 1\ncode\nnum 65536\n", '3:5: number out of range: found "65536", expected a number from 0 to 65535'
+    ),
     BadText(
         "version 1\ncode\nanymatch 0\n",
         f'3:1: not in this version: found "anymatch", expected {LATER}, or another instruction',
     ),
     BadText("code\nanymatch a\n", '2:10: no such label: found "a", expected a label of "sets"'),
-    BadText("code\n" + "exists\n" * 65_537,
-            '65538:1: too many rows: found "exists", expected at most 65,536 instructions in version 2'),
+    BadText(
+        "code\n" + "exists\n" * 65_537,
+        '65538:1: too many rows: found "exists", expected at most 65,536 instructions in version 2',
+    ),
     # Labels.
     BadText("code\na: exists\na: ret\n", '3:1: label twice: found "a", expected another label'),
     BadText("code\nexists\njf end\nret\n", '3:4: no such label: found "end", expected a label of "code"'),
-    BadText("code\nexists\njf ende\nend: ret\n",
-            '3:4: no such label: found "ende", expected a label of "code", as "end"'),
+    BadText(
+        "code\nexists\njf ende\nend: ret\n", '3:4: no such label: found "ende", expected a label of "code", as "end"'
+    ),
     BadText("nums\nmib: 1\ncode\nnum mbi\n", '4:5: no such label: found "mbi", expected a label of "nums", as "mib"'),
-    BadText("nums\n" + "".join(f"n{place}: 1\n" for place in range(4_000)) + "code\nnum zzz\n",
-            '4003:5: no such label: found "zzz", expected a label of "nums", '
-            'as "n0", "n1", "n2", "n3", "n4", "n5", "n6", "n7" or one of 3,992 others'),
-    BadText(f"nums\n{'a' * 90}: 1\ncode\nnum {'a' * 91}\n", f'4:5: no such label: found "{"a" * 40}..", '
-            f'expected a label of "nums", as "{"a" * 40}.."'),
+    BadText(
+        "nums\n" + "".join(f"n{place}: 1\n" for place in range(4_000)) + "code\nnum zzz\n",
+        '4003:5: no such label: found "zzz", expected a label of "nums", '
+        'as "n0", "n1", "n2", "n3", "n4", "n5", "n6", "n7" or one of 3,992 others',
+    ),
+    BadText(
+        f"nums\n{'a' * 90}: 1\ncode\nnum {'a' * 91}\n",
+        f'4:5: no such label: found "{"a" * 40}..", ' f'expected a label of "nums", as "{"a" * 40}.."',
+    ),
     BadText("nums\nsrc: 1\ncode\ntext src\n", '4:6: no such label: found "src", expected a label of "texts"'),
     BadText("code\nagain: exists\njf again\nret\n", '3:4: jump back: found "again", expected ' + FORWARD),
     BadText("code\nhere: jump here\nret\n", '2:12: jump back: found "here", expected ' + FORWARD),
-    BadText("code\nexists\nret\nend:\n",
-            '4:1: label without an instruction: found "end", expected an instruction after it'),
+    BadText(
+        "code\nexists\nret\nend:\n", '4:1: label without an instruction: found "end", expected an instruction after it'
+    ),
 ]

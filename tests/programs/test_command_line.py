@@ -36,9 +36,10 @@ WRONG_WORDS: List[Tuple[Sequence[str], str]] = [
     (["assemble", "file", "--version", "3"], 'unknown version: found "3", expected "1" or "2"\n'),
     (["assemble", "file", "--version", "one"], 'unknown version: found "one", expected "1" or "2"\n'),
     (["compile", '"exists"', "--clock", "c:1"], "'c:1' is no clock id, as c:START:PID:ROOT:TICK\n"),
-    (["compile", '["since","c:1:2:3:4"]'],
-     "the expression has a clock id; say with --clock a clock id of the server and root "
-     "that it is for\n"),
+    (
+        ["compile", '["since","c:1:2:3:4"]'],
+        "the expression has a clock id; say with --clock a clock id of the server and root " "that it is for\n",
+    ),
 ]
 # Records that are wrong, with other words.
 WRONG_RECORDS: List[Tuple[Sequence[str], str]] = [
@@ -52,10 +53,14 @@ WRONG_RECORDS: List[Tuple[Sequence[str], str]] = [
     (["f 1 0 a/../b"], "a name is a path below the root: UTF-8, of 1 to 4,096 bytes, without empty parts, . and .."),
     (["f 1 0 a", "--cclock", "x"], "--cclock takes a number from 0 to 2^62"),
     (["f 1 0 a", "--osec", str(2**62 + 1)], "--osec takes a number from 0 to 2^62"),
-    (["f 1 0 a", "--cclock", "2", "--oclock", "1"],
-     "the last change is not before the file came, and that of a file that is gone is after it"),
-    (["f 1 0 a", "--deleted", "--oclock", "1"],
-     "the last change is not before the file came, and that of a file that is gone is after it"),
+    (
+        ["f 1 0 a", "--cclock", "2", "--oclock", "1"],
+        "the last change is not before the file came, and that of a file that is gone is after it",
+    ),
+    (
+        ["f 1 0 a", "--deleted", "--oclock", "1"],
+        "the last change is not before the file came, and that of a file that is gone is after it",
+    ),
 ]
 
 
@@ -93,10 +98,16 @@ class CommandLine(Case):
         (self.room / "text").write_bytes(TEXT)
         self.same("assemble", tool(self.room, "assemble", "text", "-o", "file"), built.Ended(b"ok 7 7\n", b"", 0))
         self.same("the assembled file", (self.room / "file").read_bytes(), FILE)
-        self.same("assemble --version 1", tool(self.room, "assemble", "-", "--version", "1", entered=TEXT),
-                  built.Ended(FIRST, b"", 0))
-        self.same("assemble --version 2", tool(self.room, "assemble", "-", "--version", "2", entered=TEXT),
-                  built.Ended(FILE, b"", 0))
+        self.same(
+            "assemble --version 1",
+            tool(self.room, "assemble", "-", "--version", "1", entered=TEXT),
+            built.Ended(FIRST, b"", 0),
+        )
+        self.same(
+            "assemble --version 2",
+            tool(self.room, "assemble", "-", "--version", "2", entered=TEXT),
+            built.Ended(FILE, b"", 0),
+        )
         text = tool(self.room, "disassemble", "file").output
         self.same("there and back", tool(self.room, "assemble", "-", entered=text), built.Ended(FILE, b"", 0))
         bad = tool(self.room, "assemble", "-", "-o", "bad", entered=b"code\nfrob\n")
@@ -105,8 +116,11 @@ class CommandLine(Case):
         self.check_refused(self.room)
         compiled = tool(self.room, "compile", '["since","c:1:2:3:4"]', "--clock", "c:1:2:3:0", "-o", "file")
         self.same("compile", compiled, built.Ended(b"ok 4 4\n", b"", 0))
-        self.same("the compiled file", (self.room / "file").read_bytes(),
-                  file_of("oclock; num 0; cmp gt; ret", numbers="4", version=2))
+        self.same(
+            "the compiled file",
+            (self.room / "file").read_bytes(),
+            file_of("oclock; num 0; cmp gt; ret", numbers="4", version=2),
+        )
         other = tool(self.room, "compile", '["since","c:1:2:3:4"]', "--clock", "c:1:2:4:0")
         self.same("a clock id of another root", other, built.Ended(file_of("exists; ret", version=2), b"", 0))
         deep = "[" * 126 + "]" * 126
@@ -138,8 +152,9 @@ class CommandLine(Case):
         (room / "no-run").write_bytes(NO_RUN)
         (room / "none").write_bytes(FILE[:-1])
         assembled = tool(room, "assemble", "-", "-o", "bad", entered=b"code\n\nwholename\nnot\nret\n")
-        self.same("a text that may not run", assembled,
-                  built.Ended(b"refused Y3 at 1\n", f"-:4:1: {SENTENCE}\n".encode(), 0))
+        self.same(
+            "a text that may not run", assembled, built.Ended(b"refused Y3 at 1\n", f"-:4:1: {SENTENCE}\n".encode(), 0)
+        )
         self.same("its file", (room / "bad").read_bytes(), NO_RUN)
         empty = tool(room, "assemble", "-", "-o", "bad", entered=b"code\n")
         self.same("a text without instructions", (empty.output, empty.errors[:7]), (b"refused Y1 at 0\n", b"-: Y1: "))
@@ -167,10 +182,14 @@ class CommandLine(Case):
             command = [sys.executable, str(TOOL), "explain", "no-run"]
             ended = subprocess.run(command, cwd=room, stdout=full, stderr=subprocess.PIPE)
         closed = subprocess.run(["sh", "-c", 'exec "$@" >&-', "sh", *command], cwd=room, stderr=subprocess.PIPE)
-        self.same("an output that is closed", (closed.returncode, closed.stderr),
-                  (1, b"wqasm: output: there is no standard output\n"))
-        self.same("an output that is full", (ended.returncode, ended.stderr),
-                  (1, b"wqasm: output: No space left on device\n"))
+        self.same(
+            "an output that is closed",
+            (closed.returncode, closed.stderr),
+            (1, b"wqasm: output: there is no standard output\n"),
+        )
+        self.same(
+            "an output that is full", (ended.returncode, ended.stderr), (1, b"wqasm: output: No space left on device\n")
+        )
 
     def test_interrupt(self) -> None:
         """A command that the user stops while it reads ends without words."""
@@ -190,7 +209,10 @@ class CommandLine(Case):
             ended = called("run", str(file), "--record", *words)
             self.same(f"record {words}", ended, built.Ended(b"", f"wqasm: {message}\n".encode(), 2))
         for words, answer in (
-            ([], "yes"), (["--deleted"], "no"), (["--cclock", "3"], "yes"), (["--oclock", "2"], "no"),
+            ([], "yes"),
+            (["--deleted"], "no"),
+            (["--cclock", "3"], "yes"),
+            (["--oclock", "2"], "no"),
             (["--deleted", "--osec", "5"], "yes"),
         ):
             ended = called("run", str(file), "--record", "f 12 1000 src/a.c", *words)
@@ -206,15 +228,18 @@ class CommandLine(Case):
             reply = '{"instructions":7,"program-add":"ü","replaced":false,"version":"wq-1"}\n'.encode()
             self.same("add", added, built.Ended(reply, b"", 0))
             refused = tool(self.room, "add", server.sockname, "p", "no-run")
-            self.same("add of what may not run", refused,
-                      built.Ended(b'{"error":"E33: Y3 at 1","version":"wq-1"}\n', b"", 3))
+            self.same(
+                "add of what may not run", refused, built.Ended(b'{"error":"E33: Y3 at 1","version":"wq-1"}\n', b"", 3)
+            )
             nameless = tool(self.room, "add", server.sockname, "", "file")
-            self.same("add without a name", nameless,
-                      built.Ended(b'{"error":"E36: bad name","version":"wq-1"}\n', b"", 3))
+            self.same(
+                "add without a name", nameless, built.Ended(b'{"error":"E36: bad name","version":"wq-1"}\n', b"", 3)
+            )
             (self.room / "long").write_bytes(file_of("flag 1; ret", texts='"{{a*4096}}", ' * 200))
             long = tool(self.room, "add", server.sockname, "p", "long")
-            self.same("add of a long file", long,
-                      built.Ended(b'{"error":"E1: line too long","version":"wq-1"}\n', b"", 3))
+            self.same(
+                "add of a long file", long, built.Ended(b'{"error":"E1: line too long","version":"wq-1"}\n', b"", 3)
+            )
             with server.client() as client:
                 self.same("the names that are kept", client.ask("program-list")["programs"], ["ü"])
 

@@ -36,7 +36,7 @@ class DrawnExpressions(Case):
             ]
         replies = replies_to(lines)
         for number, (expression, file) in enumerate(zip(expressions, made)):
-            added, by_program, by_expression = replies[3 * number:3 * number + 3]
+            added, by_program, by_expression = replies[3 * number : 3 * number + 3]
             name = f"compile, drawn expression {number + 1}"
             details = [expression, str(added), str(by_program), str(by_expression)]
             if isinstance(file, bytes):

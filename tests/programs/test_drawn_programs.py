@@ -64,8 +64,9 @@ class DrawnPrograms(Case):
 
     def test_cases(self) -> None:
         """So does the text of each file of tests/check that can be read, as those at the limits of both versions."""
-        cases = [case for case in read_cases(CASES.read_text(encoding="utf-8"))
-                 if not case.line.startswith("refused F")]
+        cases = [
+            case for case in read_cases(CASES.read_text(encoding="utf-8")) if not case.line.startswith("refused F")
+        ]
         for case in cases:
             self.check(f"{case.name}, there and back", comes_back(case.data))
         print(f"{len(cases)} files of tests/check as texts")
@@ -80,8 +81,9 @@ class DrawnPrograms(Case):
                 text = disassembled(known, version).encode("utf-8")
                 fits = not known.sets and all(map(other.knows, (operation.instruction for operation in known.code)))
                 try:
-                    is_right = written(assembled(text, other).program,
-                                       other) == written(known, other) and (fits or other == LATEST)
+                    is_right = written(assembled(text, other).program, other) == written(known, other) and (
+                        fits or other == LATEST
+                    )
                 except TextFault as fault:
                     is_right = fault.name == "not in this version" and not fits and other != LATEST
                 fitting[fits] += other != LATEST
@@ -123,9 +125,7 @@ class DrawnPrograms(Case):
         self.check(counts, ran >= FEWEST_RUN and file_faults >= FEWEST_FILE_FAULTS)
         print(counts)
 
-    def check_runs(
-        self, name: str, found: Program, records: List[Record], listed: List[str], shown: Record
-    ) -> None:
+    def check_runs(self, name: str, found: Program, records: List[Record], listed: List[str], shown: Record) -> None:
         """The files for which the plain machine says yes are those that the server lists, and `run` shows one of the
         runs."""
         names = [record.name.decode() for record in records if run(found, record)[0]]
@@ -148,10 +148,10 @@ def damaged(draws: Draws, text: str) -> str:
     if change == 0:
         return text[:place] + draws.pick(LETTERS) + text[place:]
     if change == 1:
-        return text[:place] + text[place + 1:]
+        return text[:place] + text[place + 1 :]
     lines = text.split("\n")
     place = draws.below(len(lines))
-    return "\n".join(lines[:place] + (lines[place:place + 1] * 2 if change == 2 else []) + lines[place + 1:])
+    return "\n".join(lines[:place] + (lines[place : place + 1] * 2 if change == 2 else []) + lines[place + 1 :])
 
 
 def asked_of(file: bytes) -> Asked:

@@ -42,38 +42,48 @@ WORKED = [
     Worked("code before tables", 'code\ntext a\nret\ntexts\na: "x"\n', "text 0; ret", ("", '"x"', "", "")),
     Worked(
         "labels: on a line of their own, two at a place, named as instructions and tables",
-        "code\nexists\njf not\njump code\nnot:\ncode: not\nret\n", "exists; jf 3; jump 3; not; ret",
+        "code\nexists\njf not\njump code\nnot:\ncode: not\nret\n",
+        "exists; jf 3; jump 3; not; ret",
     ),
     Worked(
         "places and constants by their numbers",
-        "code\nexists\njf 0\njt 9\nnum 65535\nret\n", "exists; jf 0; jt 9; num 65535; ret",
+        "code\nexists\njf 0\njt 9\nnum 65535\nret\n",
+        "exists; jf 0; jt 9; num 65535; ret",
     ),
     Worked(
-        "numbers", "nums\n9223372036854775807\nleast: -9223372036854775808\n-0\n007\ncode\nnum least\nret\n",
-        "num 1; ret", ("9223372036854775807, -9223372036854775808, 0, 7", "", "", ""),
+        "numbers",
+        "nums\n9223372036854775807\nleast: -9223372036854775808\n-0\n007\ncode\nnum least\nret\n",
+        "num 1; ret",
+        ("9223372036854775807, -9223372036854775808, 0, 7", "", "", ""),
     ),
     Worked(
         "escapes and letters",
-        'texts\n"\\"\\\\\\n\\t\\x00\\xfFü#"\ncode\n', "",
+        'texts\n"\\"\\\\\\n\\t\\x00\\xfFü#"\ncode\n',
+        "",
         ("", r'"\"\\\n\t\u0000\u00ff\u00c3\u00bc#"', "", ""),
     ),
     Worked(
         "lists on one line and on several",
         'lists\n[]\nc: ["c", "h",]\n[  # two\n  "a",\n  ""\n]\ncode\nsuffix\noneof c fold\nret\n',
-        "suffix; oneof 1 fold; ret", ("", "", '[], ["c","h"], ["a",""]', ""),
+        "suffix; oneof 1 fold; ret",
+        ("", "", '[], ["c","h"], ["a",""]', ""),
     ),
     Worked(
         "patterns",
-        'patterns\n"a"\n"b" fold wholename\n"c" wholename dotfiles noescape fold\ncode\n', "",
+        'patterns\n"a"\n"b" fold wholename\n"c" wholename dotfiles noescape fold\ncode\n',
+        "",
         ("", "", "", '[0,"a"], [9,"b"], [15,"c"]'),
     ),
     Worked(
         "sets on one line and on several",
         'sets\n[]\nc: ["*.c" fold, "*.h"]\n[  # one\n  "a" wholename dotfiles,\n]\ncode\nbasename\nanymatch c\nret\n',
-        "basename; anymatch 1; ret", ("", "", "", "", '[], [[8,"*.c"],[0,"*.h"]], [[3,"a"]]'),
+        "basename; anymatch 1; ret",
+        ("", "", "", "", '[], [[8,"*.c"],[0,"*.h"]], [[3,"a"]]'),
     ),
     Worked(
-        "each instruction", ONE_OF_EACH + EACH.replace("; ", "\n") + "\n", EACH,
+        "each instruction",
+        ONE_OF_EACH + EACH.replace("; ", "\n") + "\n",
+        EACH,
         ("1", '"a"', '["a"]', '[0,"a"]', '[[0,"a"]]'),
     ),
 ]
@@ -180,36 +190,50 @@ refused Y4 at 1
 SENTENCES: List[Tuple[str, str]] = [
     ("", 'Y1: the program has no instruction; write at least one that puts a flag, and then "ret"'),
     ("not; ret", 'Y2: "not" takes a flag, and the stack has no cell; put a flag on it before'),
-    ("size; cmp eq; ret",
-     'Y2: "cmp" takes a number and a number, and the stack has a number; put a number on it before'),
-    ("wholename; basename; cmp eq; ret",
-     'Y3: "cmp" takes a number and a number, and the top of the stack is a text and a text; '
-     'two texts are compared by "eq"'),
-    ("oclock; cclock; eq; ret",
-     'Y3: "eq" takes a text and a text, and the top of the stack is a number and a number; two '
-     'numbers are compared by "cmp eq"'),
+    (
+        "size; cmp eq; ret",
+        'Y2: "cmp" takes a number and a number, and the stack has a number; put a number on it before',
+    ),
+    (
+        "wholename; basename; cmp eq; ret",
+        'Y3: "cmp" takes a number and a number, and the top of the stack is a text and a text; '
+        'two texts are compared by "eq"',
+    ),
+    (
+        "oclock; cclock; eq; ret",
+        'Y3: "eq" takes a text and a text, and the top of the stack is a number and a number; two '
+        'numbers are compared by "cmp eq"',
+    ),
     ("wholename; not; ret", 'Y3: "not" takes a flag, and the top of the stack is a text; put a flag there'),
     ("num 0; ret", 'Y4: "num 0" names row 0 of "nums", which has 0; add a row'),
     ("text 7; ret", 'Y4: "text 7" names row 7 of "texts", which has 2; take a number from 0 to 1, or add rows'),
-    ("flag 0; jf 0; ret",
-     "Y5: it goes to place 0, and jumps lead to later places of the code alone; take place 2"),
-    ("flag 0; jf 9; drop; flag 1; ret",
-     "Y5: it goes to place 9, and jumps lead to later places of the code alone; take a place from 2 to 4"),
+    ("flag 0; jf 0; ret", "Y5: it goes to place 0, and jumps lead to later places of the code alone; take place 2"),
+    (
+        "flag 0; jf 9; drop; flag 1; ret",
+        "Y5: it goes to place 9, and jumps lead to later places of the code alone; take a place from 2 to 4",
+    ),
     ("jump 5", "Y5: it goes to place 5, and jumps lead to later places of the code alone; put instructions after it"),
-    ("exists; jf 3; exists; ret",
-     "Y6: place 3 was reached from place 1 with a flag on the stack, and from here it would be "
-     "with a flag and a flag; let both ways leave the same kinds of cells"),
+    (
+        "exists; jf 3; exists; ret",
+        "Y6: place 3 was reached from place 1 with a flag on the stack, and from here it would be "
+        "with a flag and a flag; let both ways leave the same kinds of cells",
+    ),
     ("{{exists; *17}}ret", "Y7: it leaves 17 cells, and at most 16 may be on the stack; take some away before"),
     ("flag 1; ret; ret", "Y8: no earlier instruction leads here; take it out, or let a jump lead here"),
     ("flag 1; not", 'Y9: the code ends here, and the next place can follow; put "ret" after it'),
     ("ret", 'Y10: "ret" ends with one flag alone, and the stack has no cell; put a flag before'),
     ("size; ret", 'Y10: "ret" ends with one flag alone, and the stack has a number; make a flag of it before'),
-    ("{{size; *4}}ret", 'Y10: "ret" ends with one flag alone, and the stack has 4 cells (number, number, number, '
-                        'number); make '
-     "one flag of them before"),
-    ("size; exists; ret",
-     'Y10: "ret" ends with one flag alone, and the stack has a number and a flag; take the others away '
-     'before by "and", "or" or "drop"'),
+    (
+        "{{size; *4}}ret",
+        'Y10: "ret" ends with one flag alone, and the stack has 4 cells (number, number, number, '
+        "number); make "
+        "one flag of them before",
+    ),
+    (
+        "size; exists; ret",
+        'Y10: "ret" ends with one flag alone, and the stack has a number and a flag; take the others away '
+        'before by "and", "or" or "drop"',
+    ),
 ]
 
 # The same in a program with sets.
@@ -219,14 +243,19 @@ SENTENCES_OF_SETS: List[Tuple[str, str]] = [
 ]
 
 FILE_FAULTS: List[Tuple[str, str]] = [
-    ("", "F3 at byte 0"), ("575150", "F3 at byte 3"), ("57515047", "F1 at byte 3"), ("5751504603", "F2 at byte 4"),
-    ("5751504601 0000 1001", "F7 at byte 7"), ("5751504601 0000 0000 0000 0000 0001 1f", "F5 at byte 15"),
+    ("", "F3 at byte 0"),
+    ("575150", "F3 at byte 3"),
+    ("57515047", "F1 at byte 3"),
+    ("5751504603", "F2 at byte 4"),
+    ("5751504601 0000 1001", "F7 at byte 7"),
+    ("5751504601 0000 0000 0000 0000 0001 1f", "F5 at byte 15"),
     ("5751504601 0000 0000 0000 0000 0001 0102", "F6 at byte 16"),
     ("5751504601 0000 0001 0000 0000 0000 1001", "F7 at byte 15"),
     ("5751504601 0000 0000 0000 0001 0000 10", "F6 at byte 15"),
     ("5751504601 0000 0001 0000 0000 0000 0002 61", "F3 at byte 17"),
     ("5751504601 0000 0000 0000 0000 0001 23000000 00", "F4 at byte 19"),
-    ("5751504601 0000 0000 0000 0000 0001 19000000", "F5 at byte 15"), ("5751504602 00010001", "F7 at byte 5"),
+    ("5751504601 0000 0000 0000 0000 0001 19000000", "F5 at byte 15"),
+    ("5751504602 00010001", "F7 at byte 5"),
     ("5751504602 00000000 00000000 00000000 00000000 00000001 00000000 00010001", "F7 at byte 29"),
     ("5751504602 00000000 00000000 00000000 00000000 00000001 00000000 00000001 10", "F6 at byte 33"),
     ("5751504602 00000000 00000000 00000000 00000000 00000000 00000001 010000000001", "F6 at byte 31"),
@@ -236,13 +265,21 @@ FILE_FAULTS: List[Tuple[str, str]] = [
 FILE_SENTENCES: List[Tuple[str, str]] = [
     ("636f6465", "F1 at byte 0: a program file begins with WQPF: this is another file; of a text assemble makes one"),
     ("5751504603", 'F2 at byte 4: no version of program files has this number: "1" or "2" may be there'),
-    ("5751504601 0000 0000 0000 0000 0001 19000000",
-     "F5 at byte 15: no instruction of version 1 has this byte: take one of the table of instructions that it has"),
-    ("5751504601 1001", "F7 at byte 5: this is over the limit of version 1: a table has at most 4,096 rows, a row "
-                        "65,535 "
-     "entries, and a text 4,096 bytes"),
-    ("5751504602 00010001", "F7 at byte 5: this is over the limit of version 2: a table has at most 65,536 rows, a row "
-     "65,536 entries, and a text 4,096 bytes"),
+    (
+        "5751504601 0000 0000 0000 0000 0001 19000000",
+        "F5 at byte 15: no instruction of version 1 has this byte: take one of the table of instructions that it has",
+    ),
+    (
+        "5751504601 1001",
+        "F7 at byte 5: this is over the limit of version 1: a table has at most 4,096 rows, a row "
+        "65,535 "
+        "entries, and a text 4,096 bytes",
+    ),
+    (
+        "5751504602 00010001",
+        "F7 at byte 5: this is over the limit of version 2: a table has at most 65,536 rows, a row "
+        "65,536 entries, and a text 4,096 bytes",
+    ),
 ]
 
 # A program of which many instructions try one long set, and what it costs on names of 4,096 bytes: each of them one
@@ -311,8 +348,9 @@ class WorkedPrograms(Case):
             self.same(f"the sentence of {code!r}", fault_sentence(program, looked), sentence)
             lines = explained(program).splitlines()
             marked = [line for line in lines if sentence in line]
-            self.same(f"the mark in {code!r}", [lines.index(line) for line in marked],
-                      [looked.place + 2 if code else 1])
+            self.same(
+                f"the mark in {code!r}", [lines.index(line) for line in marked], [looked.place + 2 if code else 1]
+            )
             self.same(f"the line of {code!r}", lines[-1], said(file))
             seen.add(looked.fault)
         self.same("the faults of programs", sorted(seen), list(range(1, 11)))

@@ -112,7 +112,7 @@ def comment_in(lines: List[str], page: Page) -> Optional[str]:
     named = re.match(r"script ([a-z-]+):\n", said)
     if named is None:
         return said
-    page.scripts[named.group(1)] = said[named.end():].split("\n")
+    page.scripts[named.group(1)] = said[named.end() :].split("\n")
     return None
 
 
@@ -130,7 +130,7 @@ class Cell:
         self.shown = COMMENT.sub("", text).strip()
 
     def marks_of(self, word: str) -> List[str]:
-        return [mark[len(word) + 1:].strip() for mark in self.marks if mark.startswith(word + ":")]
+        return [mark[len(word) + 1 :].strip() for mark in self.marks if mark.startswith(word + ":")]
 
     def codes(self) -> List[str]:
         """What is in code."""

@@ -72,6 +72,7 @@ def script_named(element: Element, page: Page) -> Tuple[str, int]:
 
 # Blocks.
 
+
 def keep_script(element: Element, page: Page) -> Examples:
     """`script NAME` only gives the block a name."""
     page.scripts[element.mark.rsplit(" ", 1)[1]] = element.lines
@@ -104,6 +105,7 @@ def malformed_lines(element: Element, page: Page) -> Examples:
 
 # Tables of queries.
 
+
 def queries_after(element: Element, page: Page) -> Examples:
     """`queries after NAME`: the files of a reply, and whether it is fresh (which it is without a column for it)."""
     script, passes = script_named(element, page)
@@ -114,6 +116,7 @@ def queries_after(element: Element, page: Page) -> Examples:
 
 
 # Tables of expressions.
+
 
 def names_in(cell: Cell) -> str:
     assert bool(cell.codes()) != (cell.shown == "none"), f"neither names nor `none`: {cell.shown}"
@@ -160,6 +163,7 @@ def listing(rows) -> str:
 
 
 # Tables of patterns.
+
 
 def patterns_on_basenames(element: Element, page: Page) -> Examples:
     return patterns_on(element, lambda pattern: text_of(["match", pattern]))
@@ -221,6 +225,7 @@ def clock_spec(text: str, meaning: str, in_key: str, in_term: str, page: Page) -
 
 # Sessions of a shell, and texts of programs.
 
+
 def keep_file(element: Element, page: Page) -> Examples:
     """`file NAME`: the block is this file in the directory of the commands of the page."""
     page.room.write(element.mark.rsplit(" ", 1)[1], element.lines)
@@ -234,6 +239,7 @@ def session(element: Element, page: Page) -> Examples:
 
 
 # Tables of program files.
+
 
 def says(name: str, file: bytes, line: str) -> Example:
     return Example(name, "", line, lambda written: written == line + "\n", file)
@@ -269,7 +275,7 @@ def instructions(element: Element, page: Page) -> Examples:
         (byte, name), operands = row["instruction"].codes(), row["operands"].shown.split(", ")
         takes, leaves = row["takes"].shown, row["leaves"].shown
         assert BY_NAME[name].byte == int(byte, 16), f"another byte: {name}"
-        for kinds in ([[kind] for kind in PUTS] if takes == "any" else [takes.split(", ") if takes else []]):
+        for kinds in [[kind] for kind in PUTS] if takes == "any" else [takes.split(", ") if takes else []]:
             before = [PUTS[kind] for kind in kinds]
             operand = len(before) + 1 if "place" in operands else 0
             after = MAKES_FLAG[leaves] if leaves else "exists"

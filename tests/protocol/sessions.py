@@ -27,7 +27,7 @@ def commands_of(lines: List[str]) -> Iterator[Command]:
     starts = [place for place, line in enumerate(lines) if line.startswith(PROMPT)]
     assert starts[:1] == [0], "a session begins with a command"
     for start, end in zip(starts, [*starts[1:], len(lines)]):
-        yield Command(lines[start][len(PROMPT):], "".join(f"{line}\n" for line in lines[start + 1:end]))
+        yield Command(lines[start][len(PROMPT) :], "".join(f"{line}\n" for line in lines[start + 1 : end]))
 
 
 class Room:

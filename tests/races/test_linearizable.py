@@ -42,8 +42,9 @@ class Linearizable(Case):
         part = [] if is_right else shortest(played.requests, answered)
         self.check(f"an order of the requests of seed {seed}", is_right, said(part))
         back = gone_back(played.requests)
-        self.check(f"the views of seed {seed} go on", not back,
-                   [line for pair in back[:1] for line in said(list(pair))])
+        self.check(
+            f"the views of seed {seed} go on", not back, [line for pair in back[:1] for line in said(list(pair))]
+        )
         late = missed(played.requests, played.coming, played.tree)
         self.check(f"the scans of seed {seed}", not late, [f"{name}, {said([request])}" for request, name in late[:1]])
 

@@ -16,6 +16,8 @@ def missed(requests: Sequence[Request], coming: Sequence[Coming], tree: Tree) ->
     """The queries that scan, each with a file that was there before it was sent and is not in its view."""
     scans = [(request, request.tick()) for request in requests if request.asked.scans]
     return [
-        (request, file.name) for request, tick in scans for file in coming
+        (request, file.name)
+        for request, tick in scans
+        for file in coming
         if tick is not None and file.made < request.sent and tree.ticks[file.name] > tick
     ]

@@ -28,18 +28,23 @@ from case import Case
 LIST = Path(__file__).resolve().parent / "by_hand.txt"
 CAUSES = ("kit", "passed", "proved", "read", "limit", "handle", "gone", "spent")
 
-MADE = re.compile(r"\bAllocError\b(?!::from\b)|\b\w+::(?:NoMemory|Memory|OutOfMemory)\b|(?<!fn )\bno_memory\("
-                  r"|\buse\b[^;]*(?:\bNoMemory\b|\bOutOfMemory\b|\*)")
+MADE = re.compile(
+    r"\bAllocError\b(?!::from\b)|\b\w+::(?:NoMemory|Memory|OutOfMemory)\b|(?<!fn )\bno_memory\("
+    r"|\buse\b[^;]*(?:\bNoMemory\b|\bOutOfMemory\b|\*)"
+)
 # A type, a parameter, an import or a comparison, and no value that is made. A variant that is imported could be made
 # without the name of its type, so its import is refused.
-TYPE = re.compile(r"\bAllocError\s*>|\bfn .*?(?<!:):\s+&?AllocError\b"
-                  r"|\buse (?![^;]*(?:\bAllocError as\b|\bNoMemory\b|\bOutOfMemory\b|\*))[^;]*;"
-                  r"|[=!]=\s*ErrorKind::OutOfMemory\b")
+TYPE = re.compile(
+    r"\bAllocError\s*>|\bfn .*?(?<!:):\s+&?AllocError\b"
+    r"|\buse (?![^;]*(?:\bAllocError as\b|\bNoMemory\b|\bOutOfMemory\b|\*))[^;]*;"
+    r"|[=!]=\s*ErrorKind::OutOfMemory\b"
+)
 FUNCTION = re.compile(r"^\s*(?:pub(?:\([a-z]+\))?\s+)?(?:const\s+)?fn\s+(\w+)")
 # The first line after contracts: that of a body, also of a closure's, or of the next item or statement.
 ENDS_CLAUSES = re.compile(r"\s*(?:\{|(?:pub|fn|let|if|match|for|while|loop|return)\b)")
-CONVERSION = re.compile(r"^impl(?:<[^{]*>)?\s+From<(?:[\w:]*::)?"
-                        r"(?:AllocError|AllocFailed|TryReserveError|CollectionAllocErr)\b")
+CONVERSION = re.compile(
+    r"^impl(?:<[^{]*>)?\s+From<(?:[\w:]*::)?" r"(?:AllocError|AllocFailed|TryReserveError|CollectionAllocErr)\b"
+)
 SAYS_NO_MEMORY = re.compile(r"\b(?:NoMemory|OutOfMemory|Memory)\b|is_memory\(\)")
 
 

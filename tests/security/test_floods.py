@@ -43,15 +43,22 @@ class Floods(Beside):
                 stream = stack.enter_context(connected(bridge.sockname))
                 send_until_cut(stream, b"[" + b" " * (4 * MEBIBYTE))
             with bridge.client() as client:
-                self.same("another client is answered", client.ask("watch", str(self.room / "root")).get("watch"),
-                          str(self.room / "root"))
-            self.check("the memory of the bridge", memory_of(bridge.process.pid) < MOST,
-                       [f"{memory_of(bridge.process.pid)} MiB"])
+                self.same(
+                    "another client is answered",
+                    client.ask("watch", str(self.room / "root")).get("watch"),
+                    str(self.room / "root"),
+                )
+            self.check(
+                "the memory of the bridge",
+                memory_of(bridge.process.pid) < MOST,
+                [f"{memory_of(bridge.process.pid)} MiB"],
+            )
             stack.close()
             with bridge.client() as client:
                 long_one = client.text(["log", "error", "x" * (2 * MEBIBYTE)])
-                self.same("room for a long message again", wait_until(lambda: is_logged(bridge.sockname, long_one)),
-                          True)
+                self.same(
+                    "room for a long message again", wait_until(lambda: is_logged(bridge.sockname, long_one)), True
+                )
 
     def test_clients(self) -> None:
         """One client more than there may be has its stream closed, and another takes the place of one that went."""
@@ -60,8 +67,9 @@ class Floods(Beside):
             with connected(bridge.sockname) as one_more:
                 self.same("one more", one_more.recv(1), b"")
             streams[0].close()
-            self.same("in the place of another", wait_until(lambda: is_logged(bridge.sockname, b'["log","error","x"]')),
-                      True)
+            self.same(
+                "in the place of another", wait_until(lambda: is_logged(bridge.sockname, b'["log","error","x"]')), True
+            )
 
     def test_notices(self) -> None:
         """A client that does not read the log that it asked for is cut off, and the others go on."""
@@ -71,12 +79,16 @@ class Floods(Beside):
             for _ in range(100):
                 client.send_bytes(line + b"\n")
                 client.reply()
-            self.check("the memory of the bridge", memory_of(bridge.process.pid) < MOST,
-                       [f"{memory_of(bridge.process.pid)} MiB"])
+            self.check(
+                "the memory of the bridge",
+                memory_of(bridge.process.pid) < MOST,
+                [f"{memory_of(bridge.process.pid)} MiB"],
+            )
             self.same("the other client goes on", client.ask("version").get("version"), "4.9.0")
             deaf.socket.settimeout(20)
-            self.same("the one that did not read", last_error(deaf),
-                      "the client did not read what other clients had it told")
+            self.same(
+                "the one that did not read", last_error(deaf), "the client did not read what other clients had it told"
+            )
 
     def test_templates(self) -> None:
         """Templates that claim objects without bytes, and values that take hundreds of times their bytes."""
@@ -89,8 +101,11 @@ class Floods(Beside):
             ("more objects than bytes", one_key + number(900_000) + b"\x0a" * 1_000, "NoValue"),
             ("as many values as there may be", one_key + number(MOST_VALUES) + b"\x0a" * MOST_VALUES, ""),
             ("one more", one_key + number(MOST_VALUES + 1) + b"\x0a" * (MOST_VALUES + 1), "TooMany"),
-            ("as many empty objects", b"\x00" + number(MOST_VALUES + 1) + b"\x01\x03\x00" * (MOST_VALUES + 1),
-             "TooMany"),
+            (
+                "as many empty objects",
+                b"\x00" + number(MOST_VALUES + 1) + b"\x01\x03\x00" * (MOST_VALUES + 1),
+                "TooMany",
+            ),
         ):
             self.same(name, fault_of(data), expected)
         bser = codec()

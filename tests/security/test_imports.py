@@ -19,10 +19,31 @@ OF_A_CLONE = ("tests/", "bench/", "docs/", "edits/", "crates/")
 WITH_TEXT = re.compile(r"\bpython3?(?: +-[A-Za-z]+)* +-[cm]\b(?! wqd_watchdog)")
 # A call of this Python for a script, from another one.
 OF_THIS_PYTHON = re.compile(r"\[sys\.executable, (?!\"-IB?\"|\*BEGIN)")
-MODULES = ("socket", "json", "struct", "stat", "argparse", "typing", "contextlib", "select", "subprocess", "pathlib",
-           "re",
-           "shlex", "time", "signal", "tempfile", "fcntl", "errno", "hashlib", "threading", "wq", "wqclient", "bridge",
-           "files")
+MODULES = (
+    "socket",
+    "json",
+    "struct",
+    "stat",
+    "argparse",
+    "typing",
+    "contextlib",
+    "select",
+    "subprocess",
+    "pathlib",
+    "re",
+    "shlex",
+    "time",
+    "signal",
+    "tempfile",
+    "fcntl",
+    "errno",
+    "hashlib",
+    "threading",
+    "wq",
+    "wqclient",
+    "bridge",
+    "files",
+)
 
 
 def lines_of(name: str) -> List[str]:
@@ -47,8 +68,11 @@ def faults() -> Iterator[str]:
 class Imports(Beside):
     def test_first_lines(self) -> None:
         self.same("scripts that take modules of the current directory", list(faults()), [])
-        self.same("scripts that are looked at",
-                  {"wq", "clients/wqasm", "install", "contrib/command.sh"} <= set(built.tracked()), True)
+        self.same(
+            "scripts that are looked at",
+            {"wq", "clients/wqasm", "install", "contrib/command.sh"} <= set(built.tracked()),
+            True,
+        )
 
     def test_planted_modules(self) -> None:
         """Each command, of the clone and installed, in a directory with modules of the names of Python's own."""
@@ -57,26 +81,46 @@ class Imports(Beside):
         stale = socket.socket(socket.AF_UNIX)
         stale.bind(str(self.room / "stale"))
         stale.close()
-        environment = {**os.environ, "WQD": str(built.program_path()), "WQD_SOCK": str(self.room / "stale"),
-                       "PYTHONPATH": ".",
-                       "HOME": str(self.room), "XDG_STATE_HOME": str(self.room / "state"),
-                       "WATCHMAN_SOCK": str(self.room / "watchman")}
+        environment = {
+            **os.environ,
+            "WQD": str(built.program_path()),
+            "WQD_SOCK": str(self.room / "stale"),
+            "PYTHONPATH": ".",
+            "HOME": str(self.room),
+            "XDG_STATE_HOME": str(self.room / "state"),
+            "WATCHMAN_SOCK": str(self.room / "watchman"),
+        }
 
         def call(*words: object) -> str:
-            ended = subprocess.run([str(word) for word in words], cwd=tree, env=environment, stdout=subprocess.PIPE,
-                                   stderr=subprocess.STDOUT, timeout=PATIENCE)
+            ended = subprocess.run(
+                [str(word) for word in words],
+                cwd=tree,
+                env=environment,
+                stdout=subprocess.PIPE,
+                stderr=subprocess.STDOUT,
+                timeout=PATIENCE,
+            )
             taken = marker.read_text() if marker.exists() else ""
             return taken or ("77" if ended.returncode == 77 else "")
 
         self.same("./install", call(built.TOP / "install", "--as-watchman", "--adapters", prefix), "")
         for home in (built.TOP, prefix / "bin"):
             in_clients = home if home == prefix / "bin" else built.TOP / "clients"
-            for words in ((home / "wq", "status"), (home / "wq", "--help"), (in_clients / "wqasm", "--help"),
-                          (in_clients / "watchman", "--no-spawn", "watch-list"), (home / "wqd", "check", "nothing")):
+            for words in (
+                (home / "wq", "status"),
+                (home / "wq", "--help"),
+                (in_clients / "wqasm", "--help"),
+                (in_clients / "watchman", "--no-spawn", "watch-list"),
+                (home / "wqd", "check", "nothing"),
+            ):
                 self.same(" ".join(map(str, words)), call(*words), "")
-        for words in ((built.TOP / "contrib/git-fsmonitor-hook", "2", ""), (built.TOP / "examples/client.py", "."),
-                      (built.TOP / "package", "--help"), (built.TOP / "package", "--adapters", self.room / "out"),
-                      (built.TOP / "contrib/completion.py", "bash")):
+        for words in (
+            (built.TOP / "contrib/git-fsmonitor-hook", "2", ""),
+            (built.TOP / "examples/client.py", "."),
+            (built.TOP / "package", "--help"),
+            (built.TOP / "package", "--adapters", self.room / "out"),
+            (built.TOP / "contrib/completion.py", "bash"),
+        ):
             self.same(" ".join(map(str, words)), call(*words), "")
         self.check_serve(tree, marker, environment, prefix)
 
@@ -87,11 +131,17 @@ class Imports(Beside):
                 path = tree.parent / f"listened{number}"
                 listener.bind(str(path))
                 listener.listen(1)
-                ended = subprocess.run([str(command), "serve", "--sockname", str(path)], cwd=tree, env=environment,
-                                       capture_output=True, timeout=PATIENCE)
+                ended = subprocess.run(
+                    [str(command), "serve", "--sockname", str(path)],
+                    cwd=tree,
+                    env=environment,
+                    capture_output=True,
+                    timeout=PATIENCE,
+                )
             said = ended.stderr.decode().splitlines()[-1:]
-            self.same(f"{command} serve", (said, marker.exists()),
-                      ([f"wqd: a server listens on {path} already"], False))
+            self.same(
+                f"{command} serve", (said, marker.exists()), ([f"wqd: a server listens on {path} already"], False)
+            )
         # The attack itself, so that the planted modules are known to work: a plain Python takes them.
         subprocess.run([sys.executable, "-c", "import socket"], cwd=tree, stderr=subprocess.DEVNULL)
         self.same("the planted module works", marker.exists(), True)

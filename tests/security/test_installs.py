@@ -10,8 +10,12 @@ from client import PATIENCE
 
 def install(room: Path, *words: str, umask: int = 0o022) -> built.Ended:
     environment = {**os.environ, "WQD": str(built.program_path()), "HOME": str(room)}
-    return built.call([str(built.TOP / "install"), *words], env=environment, timeout=PATIENCE,
-                      preexec_fn=lambda: os.umask(umask) and None)
+    return built.call(
+        [str(built.TOP / "install"), *words],
+        env=environment,
+        timeout=PATIENCE,
+        preexec_fn=lambda: os.umask(umask) and None,
+    )
 
 
 class Installs(Beside):
@@ -32,12 +36,15 @@ class Installs(Beside):
         """Whatever the umask is, nobody else may write to what is installed, and everybody may read it."""
         for umask in (0, 0o077):
             prefix = self.room / f"prefix{umask}"
-            self.same("./install", install(self.room, "--as-watchman", "--adapters", str(prefix), umask=umask).status,
-                      0)
+            self.same(
+                "./install", install(self.room, "--as-watchman", "--adapters", str(prefix), umask=umask).status, 0
+            )
             paths = [path for path in prefix.rglob("*")]
-            wrong = [f"{path} {path.stat().st_mode:o}" for path in paths
-                     if path.stat().st_mode & 0o777 != (0o755 if path.is_dir() or os.access(str(path), os.X_OK)
-                                                        else 0o644)]
+            wrong = [
+                f"{path} {path.stat().st_mode:o}"
+                for path in paths
+                if path.stat().st_mode & 0o777 != (0o755 if path.is_dir() or os.access(str(path), os.X_OK) else 0o644)
+            ]
             self.same(f"rights with the umask {umask:o}", wrong, [])
 
     def test_lists_of_others(self) -> None:

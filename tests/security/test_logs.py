@@ -23,10 +23,14 @@ class Logs(Beside):
             log = log_of(scene)
             listening = f"listening on {scene.sockname}\n"
             self.same("what a server says", log.read_text(), listening)
-            self.same("the rights of the log", (log.stat().st_mode & 0o777, log.parent.stat().st_mode & 0o777),
-                      (0o600, 0o700))
-            self.same("beside the socket", sorted(path.name for path in scene.runtime.iterdir()),
-                      ["wqd.sock", "wqd.sock.start"])
+            self.same(
+                "the rights of the log", (log.stat().st_mode & 0o777, log.parent.stat().st_mode & 0o777), (0o600, 0o700)
+            )
+            self.same(
+                "beside the socket",
+                sorted(path.name for path in scene.runtime.iterdir()),
+                ["wqd.sock", "wqd.sock.start"],
+            )
             scene.wq("stop")
             with open(log, "a", encoding="utf-8") as file:
                 file.write("x" * 1_000_000)
@@ -53,13 +57,23 @@ class Logs(Beside):
         (self.room / "run").mkdir(mode=0o700)
         (self.room / "tree").mkdir()
         (self.room / "tree" / "a.c").touch()
-        environment = {**os.environ, "HOME": str(home), "WQD": str(built.program_path()),
-                       "XDG_RUNTIME_DIR": str(self.room / "run")}
+        environment = {
+            **os.environ,
+            "HOME": str(home),
+            "WQD": str(built.program_path()),
+            "XDG_RUNTIME_DIR": str(self.room / "run"),
+        }
         for name in ("XDG_STATE_HOME", "WQD_SOCK"):
             environment.pop(name, None)
         for words in (["find"], ["since", "a"], ["watch"], ["stop"]):
-            ended = subprocess.run([COMMAND, *words], cwd=self.room / "tree", env=environment, stdout=subprocess.PIPE,
-                                   stderr=subprocess.PIPE, timeout=PATIENCE)
+            ended = subprocess.run(
+                [COMMAND, *words],
+                cwd=self.room / "tree",
+                env=environment,
+                stdout=subprocess.PIPE,
+                stderr=subprocess.PIPE,
+                timeout=PATIENCE,
+            )
             self.same(f"wq {words[0]}", ended.returncode, 0)
         self.same("what is written through the link", list(target.iterdir()), [])
         self.check_a_cache_of_another(self.room, {**environment, "PATH": f"{self.room}/kit:{environment['PATH']}"})
@@ -75,8 +89,15 @@ class Logs(Beside):
         (room / "open").mkdir()
         (room / "open").chmod(0o777)
         for values, culprit in (({}, room / "home"), ({"XDG_CACHE_HOME": str(room / "open")}, room / "open")):
-            ended = subprocess.run([built.TOP / "contrib" / "unproved"], env={**environment, **values},
-                                   capture_output=True, timeout=PATIENCE)
+            ended = subprocess.run(
+                [built.TOP / "contrib" / "unproved"],
+                env={**environment, **values},
+                capture_output=True,
+                timeout=PATIENCE,
+            )
             words = f"wqd: {culprit}: it is no directory of yours alone, and what is kept below is run\n"
-            self.same(f"programs below {culprit.name}", built.Ended(ended.stdout, ended.stderr, ended.returncode),
-                      built.Ended(b"", words.encode(), 1))
+            self.same(
+                f"programs below {culprit.name}",
+                built.Ended(ended.stdout, ended.stderr, ended.returncode),
+                built.Ended(b"", words.encode(), 1),
+            )

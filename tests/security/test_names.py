@@ -9,8 +9,16 @@ from case import Beside
 from scene import Scene
 from test_triggered import text_of
 
-HOSTILE = ["-specs=evil.c", "--init-hook=x.c", "@notes.c", "+:!touch taken.c", "-o.c", "a b.c", "new\nline.c",
-           "$(id).c"]
+HOSTILE = [
+    "-specs=evil.c",
+    "--init-hook=x.c",
+    "@notes.c",
+    "+:!touch taken.c",
+    "-o.c",
+    "a b.c",
+    "new\nline.c",
+    "$(id).c",
+]
 
 
 def plant(scene: Scene) -> None:
@@ -85,10 +93,20 @@ class Names(Beside):
         make_files(root, ["-x.c", "@y.c", "+z.c", "a.c", "_b.c", "c\x0bd.c", "e\u2028f.c"])
         script = f"{{ printf '%s|' \"$@\"; cat; }} > {out}.new; mv {out}.new {out}"
         with Bridge(self.room) as bridge, bridge.client() as client:
-            client.ask("trigger", str(root), {"name": "t", "command": ["sh", "-c", script, "sh"], "append_files": True,
-                                              "stdin": "NAME_PER_LINE", "expression": ["suffix", "c"]})
+            client.ask(
+                "trigger",
+                str(root),
+                {
+                    "name": "t",
+                    "command": ["sh", "-c", script, "sh"],
+                    "append_files": True,
+                    "stdin": "NAME_PER_LINE",
+                    "expression": ["suffix", "c"],
+                },
+            )
             text = text_of(out, lambda text: text)
             words, lines = text.rpartition("|")[0].split("|"), text.rpartition("|")[2].split("\n")[:-1]
-            self.same("names as arguments", words,
-                      ["./+z.c", "./-x.c", "./@y.c", "_b.c", "a.c", "c\x0bd.c", "e\u2028f.c"])
+            self.same(
+                "names as arguments", words, ["./+z.c", "./-x.c", "./@y.c", "_b.c", "a.c", "c\x0bd.c", "e\u2028f.c"]
+            )
             self.same("names on lines", lines, ["+z.c", "-x.c", "@y.c", "_b.c", "a.c", "c\x0bd.c", "e\u2028f.c"])

@@ -25,8 +25,14 @@ HOOK, EXAMPLE = str(built.TOP / "contrib/git-fsmonitor-hook"), str(built.TOP / "
 
 
 def environment_of(room: Path, **changed: str) -> Dict[str, str]:
-    found = {**os.environ, "WQD": str(built.program_path()), "HOME": str(room), "XDG_STATE_HOME": str(room / "state"),
-             "LC_ALL": "C.UTF-8", "NO_COLOR": "1"}
+    found = {
+        **os.environ,
+        "WQD": str(built.program_path()),
+        "HOME": str(room),
+        "XDG_STATE_HOME": str(room / "state"),
+        "LC_ALL": "C.UTF-8",
+        "NO_COLOR": "1",
+    }
     for name in ("WQD_SOCK", "WATCHMAN_SOCK", "XDG_RUNTIME_DIR", "TMPDIR"):
         found.pop(name, None)
     return {**found, **changed}
@@ -34,8 +40,14 @@ def environment_of(room: Path, **changed: str) -> Dict[str, str]:
 
 def called(words: List[str], room: Path, **changed: str) -> str:
     """What a call writes on both streams."""
-    ended = subprocess.run(words, cwd=room, env=environment_of(room, **changed), stdout=subprocess.PIPE,
-                           stderr=subprocess.STDOUT, timeout=PATIENCE)
+    ended = subprocess.run(
+        words,
+        cwd=room,
+        env=environment_of(room, **changed),
+        stdout=subprocess.PIPE,
+        stderr=subprocess.STDOUT,
+        timeout=PATIENCE,
+    )
     return ended.stdout.decode()
 
 
@@ -48,11 +60,19 @@ class Neighbours(Beside):
         rogue = str(place / "rogue")
         with other(serve, rogue):
             wait_until(lambda: os.path.exists(rogue))
-            for words in ([WQ, "find"], [WQ, "status"], [WQ, "roots"], [WQ, "follow"], [WQ, "run", "--", "true"],
-                          [WQ, "stop"],
-                          [WQASM, "add", "x", PROGRAM], [WQASM, "add", rogue, "x", PROGRAM], [HOOK, "2", ""],
-                          [EXAMPLE, "."],
-                          [WATCHMAN, "-U", rogue, "--no-spawn", "watch-list"]):
+            for words in (
+                [WQ, "find"],
+                [WQ, "status"],
+                [WQ, "roots"],
+                [WQ, "follow"],
+                [WQ, "run", "--", "true"],
+                [WQ, "stop"],
+                [WQASM, "add", "x", PROGRAM],
+                [WQASM, "add", rogue, "x", PROGRAM],
+                [HOOK, "2", ""],
+                [EXAMPLE, "."],
+                [WATCHMAN, "-U", rogue, "--no-spawn", "watch-list"],
+            ):
                 said = called(words, self.room, WQD_SOCK=rogue)
                 refused = f"user {OTHER}" in said
                 self.check(f"{Path(words[0]).name} {' '.join(words[1:])}", refused and "planted" not in said, [said])
@@ -76,8 +96,12 @@ class Neighbours(Beside):
             shell = f'program=/none version=0; . "{built.TOP}/contrib/command.sh"; default_sockname'
             said = called(["sh", "-c", shell], self.room, XDG_RUNTIME_DIR=str(place), TMPDIR=str(own))
             self.same("wqd serve", said, f"{own}/wqd-{os.getuid()}/wqd.sock\n")
-            said = called([WATCHMAN, "--no-spawn", "--no-pretty", "get-sockname"], self.room,
-                          XDG_RUNTIME_DIR=str(place), TMPDIR=str(own))
+            said = called(
+                [WATCHMAN, "--no-spawn", "--no-pretty", "get-sockname"],
+                self.room,
+                XDG_RUNTIME_DIR=str(place),
+                TMPDIR=str(own),
+            )
             self.same("watchman", json.loads(said)["sockname"], f"{own}/wqd-watchman-{os.getuid()}/sock")
         self.same("nothing was put there", sorted(os.listdir(place)), ["wqd.sock"])
 
@@ -114,8 +138,10 @@ class Neighbours(Beside):
             linked = self.room / "linked"
             linked.symlink_to(self.room)
             environment = {"WQD_SOCK": bridge.server.sockname, "PATH": "/none"}
-            quick = [called(words, self.room, WATCHMAN_SOCK=path, **environment)
-                     for path in (bridge.sockname, f"{linked}/bridge")]
+            quick = [
+                called(words, self.room, WATCHMAN_SOCK=path, **environment)
+                for path in (bridge.sockname, f"{linked}/bridge")
+            ]
             is_quick = [text.startswith('{"sockname"') for text in quick]
             self.same("the quick answer, by the path itself and by a link", is_quick, [True, False])
 
@@ -137,14 +163,22 @@ class Neighbours(Beside):
             reply = client.ask("watch-project", str(below))
             self.same("a root that is watched stays", reply.get("watch"), str(below))
             client.ask("watch-del", str(below))
-            self.same("the user's own project", client.ask("watch-project", str(below)).get("watch"),
-                      str(place / "mine"))
+            self.same(
+                "the user's own project", client.ask("watch-project", str(below)).get("watch"), str(place / "mine")
+            )
 
 
 def said_by_a_bridge(room: Path, server: str) -> str:
     """What a client of a bridge is told whose server is another user's."""
-    words = [sys.executable, "-IB", str(built.TOP / "clients" / "bridge"), "--server", server, "--sockname",
-             str(room / "own")]
+    words = [
+        sys.executable,
+        "-IB",
+        str(built.TOP / "clients" / "bridge"),
+        "--server",
+        server,
+        "--sockname",
+        str(room / "own"),
+    ]
     with subprocess.Popen(words, stderr=subprocess.DEVNULL, env=environment_of(room)) as bridge:
         wait_until(lambda: (room / "own").exists())
         said = called([WATCHMAN, "-U", str(room / "own"), "--no-spawn", "watch-list"], room)

@@ -13,10 +13,14 @@ from stand_ins import Answer, stand_in
 
 # The limits of the clients are for lists of 1,000,000 files. A run with lower ones takes less time and memory.
 SMALL = 1_048_576
-WQ = f"import sys; sys.path.insert(0, {str(built.TOP / 'clients')!r}); import wqclient.lines as lines; " \
-     f"lines.LONGEST = {SMALL}; from wq.command import main; sys.exit(main(sys.argv[1:], {str(built.TOP)!r}))"
-WQASM = f"import sys; sys.path.insert(0, {str(built.TOP / 'clients')!r}); import wqclient.lines as lines; " \
-        f"lines.LONGEST = {SMALL}; from wqprogram.command import main; sys.exit(main(sys.argv[1:]))"
+WQ = (
+    f"import sys; sys.path.insert(0, {str(built.TOP / 'clients')!r}); import wqclient.lines as lines; "
+    f"lines.LONGEST = {SMALL}; from wq.command import main; sys.exit(main(sys.argv[1:], {str(built.TOP)!r}))"
+)
+WQASM = (
+    f"import sys; sys.path.insert(0, {str(built.TOP / 'clients')!r}); import wqclient.lines as lines; "
+    f"lines.LONGEST = {SMALL}; from wqprogram.command import main; sys.exit(main(sys.argv[1:]))"
+)
 PIECE = b"[" * 65_536
 
 
@@ -45,8 +49,11 @@ class Replies(Beside):
             told = f"{scene.sockname}: the server sends over {SMALL:,} bytes in a line\n"
             for text, words, begin in ((WQ, ["roots"], "wq: "), (WQASM, ["add", "x", program], "wqasm: ")):
                 ended = said_by([sys.executable, "-I", "-c", text, *words], scene)
-                self.same(f"{begin}a line without end", (ended.status, ended.errors.decode()),
-                          (3 if text is WQ else 1, begin + told))
+                self.same(
+                    f"{begin}a line without end",
+                    (ended.status, ended.errors.decode()),
+                    (3 if text is WQ else 1, begin + told),
+                )
             hook = hook_with(self.room, "LONGEST = 268_435_456", f"LONGEST = {SMALL}")
             ended = said_by([sys.executable, "-I", "-S", hook, "2", ""], scene)
             reason = f"wqd: git looks at all files, since the server sends over {SMALL:,} bytes in a line\n"

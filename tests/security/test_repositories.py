@@ -11,9 +11,20 @@ from scene import Scene
 from wq.git import SAFELY, environment
 
 # Settings with which git runs a program.
-PROGRAMS = ("core.fsmonitor", "core.pager", "core.editor", "core.sshCommand", "core.gitProxy", "diff.external",
-            "credential.helper", "filter.x.clean", "filter.x.smudge", "filter.x.process", "alias.check-ignore",
-            "core.askPass")
+PROGRAMS = (
+    "core.fsmonitor",
+    "core.pager",
+    "core.editor",
+    "core.sshCommand",
+    "core.gitProxy",
+    "diff.external",
+    "credential.helper",
+    "filter.x.clean",
+    "filter.x.smudge",
+    "filter.x.process",
+    "alias.check-ignore",
+    "core.askPass",
+)
 # The files that rules which are large leave.
 LARGE = ["large/a.c", "large/holes/c.c"]
 
@@ -25,7 +36,7 @@ class Repositories(Beside):
             taken, tree = self.room / "taken", scene.tree / "cloned"
             tree.mkdir()
             script = self.room / "script"
-            script.write_text(f"#!/bin/sh\necho \"$0 $*\" >> {taken}\n")
+            script.write_text(f'#!/bin/sh\necho "$0 $*" >> {taken}\n')
             script.chmod(0o755)
             git(tree, "init", "-q")
             for name in ("a.c", "b.c", "c.c"):
@@ -39,8 +50,11 @@ class Repositories(Beside):
                 (tree / ".git" / "hooks").mkdir(exist_ok=True)
                 shutil.copy(str(script), str(tree / ".git" / "hooks" / hook))
             self.same("files that are not ignored", scene.names("find", "cloned", "*.c"), ["cloned/a.c", "cloned/c.c"])
-            for words in (["since", "n", "cloned"], ["find", "cloned", "--no-ignore"],
-                          ["run", "cloned", "--once", "--", "true"]):
+            for words in (
+                ["since", "n", "cloned"],
+                ["find", "cloned", "--no-ignore"],
+                ["run", "cloned", "--once", "--", "true"],
+            ):
                 self.same(f"wq {words[0]}", scene.wq(*words).status, 0)
             self.same("programs of the repository that were run", taken.read_text() if taken.exists() else "", "")
             subprocess.run(["git", "status"], cwd=tree, stdout=subprocess.DEVNULL, stderr=subprocess.DEVNULL)
@@ -60,8 +74,9 @@ class Repositories(Beside):
         scene.write("cloned/zero/y.c")
         os.mkfifo(str(tree / "zero" / ".gitignore"))
         found = scene.names("find", "cloned", "*.c")
-        self.same("rules that are no regular file", found,
-                  ["cloned/a.c", "cloned/c.c", "cloned/pipe/x.c", "cloned/zero/y.c"])
+        self.same(
+            "rules that are no regular file", found, ["cloned/a.c", "cloned/c.c", "cloned/pipe/x.c", "cloned/zero/y.c"]
+        )
 
     def check_fetching(self, scene: Scene) -> None:
         """A repository that lacks a directory of its sparse index, and allows a program that fetches it."""
@@ -72,19 +87,29 @@ class Repositories(Beside):
         git(tree, "add", ".")
         git(tree, "-c", "user.name=x", "-c", "user.email=x@y", "commit", "-q", "-m", "x")
         git(tree, "sparse-checkout", "set", "--cone", "--sparse-index", "in")
-        missing = subprocess.run(["git", "rev-parse", "HEAD:out"], cwd=tree,
-                                 stdout=subprocess.PIPE).stdout.decode().strip()
+        missing = (
+            subprocess.run(["git", "rev-parse", "HEAD:out"], cwd=tree, stdout=subprocess.PIPE).stdout.decode().strip()
+        )
         (tree / ".git" / "objects" / missing[:2] / missing[2:]).unlink()
-        for name, value in (("core.repositoryFormatVersion", "1"), ("extensions.partialClone", "origin"),
-                            ("remote.origin.promisor", "true"), ("remote.origin.url", f"ext::touch {taken}"),
-                            ("protocol.ext.allow", "always")):
+        for name, value in (
+            ("core.repositoryFormatVersion", "1"),
+            ("extensions.partialClone", "origin"),
+            ("remote.origin.promisor", "true"),
+            ("remote.origin.url", f"ext::touch {taken}"),
+            ("protocol.ext.allow", "always"),
+        ):
             git(tree, "config", name, value)
         found = scene.wq("find", "sparse", "*.c")
         self.same("files of a repository that lacks a part", (found.status, b"in/a.c" in found.output), (0, True))
         self.same("a program that fetches", taken.exists(), False)
         command = [*SAFELY, "ls-files"]
-        subprocess.run(command, cwd=tree, env={**environment(), "GIT_NO_LAZY_FETCH": "0"}, stdout=subprocess.DEVNULL,
-                       stderr=subprocess.DEVNULL)
+        subprocess.run(
+            command,
+            cwd=tree,
+            env={**environment(), "GIT_NO_LAZY_FETCH": "0"},
+            stdout=subprocess.DEVNULL,
+            stderr=subprocess.DEVNULL,
+        )
         self.same("a program that fetches, by a git that knows no way to fetch nothing", taken.exists(), False)
         subprocess.run(["git", "ls-files"], cwd=tree, stdout=subprocess.DEVNULL, stderr=subprocess.DEVNULL)
         self.same("the attack works without wq", taken.exists(), True)
@@ -103,8 +128,9 @@ class Repositories(Beside):
         os.truncate(str(tree / "holes" / ".gitignore"), 1 << 40)
         for name in (".gitignore/.gitignore", ".gitignore/.ignore", "x/.ignore/x"):
             scene.write(f"large/named/{name}", "")
-        self.same("a file of rules that is long, and directories of such names", scene.names("find", "large", "*.[co]"),
-                  LARGE)
+        self.same(
+            "a file of rules that is long, and directories of such names", scene.names("find", "large", "*.[co]"), LARGE
+        )
 
     def check_waiting(self, scene: Scene) -> None:
         """A file with rules that is a pipe, of which the server knows nothing: git waits for it, and is ended."""
@@ -121,5 +147,6 @@ class Repositories(Beside):
 
 def git(tree: Path, *words: str) -> None:
     environment = {**os.environ, "GIT_CONFIG_NOSYSTEM": "1", "HOME": str(tree.parent)}
-    subprocess.run(["git", *words], cwd=tree, env=environment, check=True, stdout=subprocess.DEVNULL,
-                   stderr=subprocess.DEVNULL)
+    subprocess.run(
+        ["git", *words], cwd=tree, env=environment, check=True, stdout=subprocess.DEVNULL, stderr=subprocess.DEVNULL
+    )

@@ -28,15 +28,26 @@ class Settings(Beside):
                 client.socket.settimeout(5)
                 self.same(f"a root with a {root.name}", client.ask("watch", str(root)).get("watch"), str(root))
                 self.same("its settings", client.ask("get-config", str(root)).get("config"), {})
-                self.same("another client beside it",
-                          len(other.ask("query", str(root), {"fields": ["name"]})["files"]) > 0, True)
+                self.same(
+                    "another client beside it",
+                    len(other.ask("query", str(root), {"fields": ["name"]})["files"]) > 0,
+                    True,
+                )
             self.same("the memory of the bridge", memory_of(bridge.process.pid) < MOST, True)
 
     def test_numbers(self) -> None:
         """A number that is too large for a time is no time, and the session goes on."""
-        for number, text in enumerate(('{"settle":1%s}' % ("0" * 400), '{"settle":1e400}',
-                                       '{"settle":999999999999999999}', "NaN",
-                                       '{"settle":-5}', '{"settle":true}', "[" * 100_000)):
+        for number, text in enumerate(
+            (
+                '{"settle":1%s}' % ("0" * 400),
+                '{"settle":1e400}',
+                '{"settle":999999999999999999}',
+                "NaN",
+                '{"settle":-5}',
+                '{"settle":true}',
+                "[" * 100_000,
+            )
+        ):
             root = self.room / str(number)
             make_files(root, ["a.c"])
             (root / ".watchmanconfig").write_text(text)

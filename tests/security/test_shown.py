@@ -28,17 +28,32 @@ class Shown(Beside):
             for name in (f"{ESCAPES}/.git/HEAD", f"{ESCAPES}/{ESCAPES}.c"):
                 scene.write(name)
             calls = (
-                ("watch", str(root)), ("roots",), ("roots", "--json"), ("roots", "-0"), ("find", str(root)),
+                ("watch", str(root)),
+                ("roots",),
+                ("roots", "--json"),
+                ("roots", "-0"),
+                ("find", str(root)),
                 ("status",),
-                ("find", str(root), "-0"), ("find", str(root), "-l"), ("find", str(root), "--json"),
+                ("find", str(root), "-0"),
+                ("find", str(root), "-l"),
+                ("find", str(root), "--json"),
                 ("status", "--json"),
-                ("since", "a", str(root)), ("since", "b", str(root), "--json"), ("ask", '["watch-list"]'),
-                ("trigger", str(root), ESCAPES, "--", "true", ESCAPES), ("triggers", str(root)),
+                ("since", "a", str(root)),
+                ("since", "b", str(root), "--json"),
+                ("ask", '["watch-list"]'),
+                ("trigger", str(root), ESCAPES, "--", "true", ESCAPES),
+                ("triggers", str(root)),
                 ("triggers", str(root), "--json"),
-                ("untrigger", str(root), f"{ESCAPES}x"), ("watch", f"{root}x"), ("find", ESCAPES),
+                ("untrigger", str(root), f"{ESCAPES}x"),
+                ("watch", f"{root}x"),
+                ("find", ESCAPES),
                 ("find", f"--{ESCAPES}"),
-                ("ask", json.dumps(["query", f"{root}x", {}])), ("explain", json.dumps(["name", ESCAPES])), (ESCAPES,),
-                ("run", "--once", "--", f"./{ESCAPES}"), ("unwatch", f"{root}x"), ("unwatch", str(root)),
+                ("ask", json.dumps(["query", f"{root}x", {}])),
+                ("explain", json.dumps(["name", ESCAPES])),
+                (ESCAPES,),
+                ("run", "--once", "--", f"./{ESCAPES}"),
+                ("unwatch", f"{root}x"),
+                ("unwatch", str(root)),
             )
             for words in calls:
                 found = at_terminal(scene, *words, NO_COLOR="1")
@@ -60,8 +75,11 @@ class Shown(Beside):
         changes = threading.Thread(target=change)
         changes.start()
         try:
-            for words in (["follow", str(root)], ["follow", str(root), "--json"],
-                          ["run", str(root), "--", "echo", "again.c"]):
+            for words in (
+                ["follow", str(root)],
+                ["follow", str(root), "--json"],
+                ["run", str(root), "--", "echo", "again.c"],
+            ):
                 ended = called_at_terminal(scene, words, {"NO_COLOR": "1"}, keys=b"\x03", after=".c")
                 found = (harm_in(ended.text.replace("^C", "")), ".c" in ended.text)
                 self.same(f"wq {words[0]} {words[2:]}", found, ([], True))
@@ -74,21 +92,38 @@ class Shown(Beside):
         with Scene(self.room, starts=False) as scene:
             error = json.dumps({"error": f"E99: {ESCAPES}"}, ensure_ascii=False).encode()
             stand_in(scene.sockname, answering(lambda line: error))
-            for words in (["find"], ["status"], ["stop"], ["roots"], ["ask", '["version"]'],
-                          ["trigger", ".", "t", "--", "true"]):
+            for words in (
+                ["find"],
+                ["status"],
+                ["stop"],
+                ["roots"],
+                ["ask", '["version"]'],
+                ["trigger", ".", "t", "--", "true"],
+            ):
                 found = at_terminal(scene, *words, NO_COLOR="1")
                 self.same(f"an error of wq {words[0]}", (harm_in(found), "E99" in found), ([], True))
-            environment = {**scene.environment, "WQD_SOCK": scene.sockname,
-                           "WATCHMAN_SOCK": str(scene.runtime / ESCAPES / "s")}
+            environment = {
+                **scene.environment,
+                "WQD_SOCK": scene.sockname,
+                "WATCHMAN_SOCK": str(scene.runtime / ESCAPES / "s"),
+            }
             program = built.TOP / "examples" / "large.program"
-            for words in ([built.TOP / "clients/wqasm", "explain", ESCAPES], [built.TOP / "clients/wqasm", ESCAPES],
-                          [built.TOP / "clients/wqasm", "add", "x", program],
-                          [built.TOP / "clients/watchman", f"--{ESCAPES}"],
-                          [built.TOP / "clients/watchman", "--no-spawn", "--no-local", "watch-list"],
-                          [built.TOP / "contrib/git-fsmonitor-hook", "2", ""]):
-                ended = subprocess.run([str(word) for word in words], cwd=scene.tree, env=environment,
-                                       stdout=subprocess.DEVNULL,
-                                       stderr=subprocess.PIPE)
+            for words in (
+                [built.TOP / "clients/wqasm", "explain", ESCAPES],
+                [built.TOP / "clients/wqasm", ESCAPES],
+                [built.TOP / "clients/wqasm", "add", "x", program],
+                [built.TOP / "clients/watchman", f"--{ESCAPES}"],
+                [built.TOP / "clients/watchman", "--no-spawn", "--no-local", "watch-list"],
+                [built.TOP / "contrib/git-fsmonitor-hook", "2", ""],
+            ):
+                ended = subprocess.run(
+                    [str(word) for word in words],
+                    cwd=scene.tree,
+                    env=environment,
+                    stdout=subprocess.DEVNULL,
+                    stderr=subprocess.PIPE,
+                )
                 text = ended.stderr.decode()
-                self.same(f"an error of {words[0].name} {words[1]!a}", (harm_in(text), "Traceback" in text),
-                          ([], False))
+                self.same(
+                    f"an error of {words[0].name} {words[1]!a}", (harm_in(text), "Traceback" in text), ([], False)
+                )

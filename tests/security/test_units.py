@@ -34,8 +34,13 @@ class Units(Beside):
     def test_units(self) -> None:
         """systemd takes each line, alone and with those that narrow it."""
         unit = (built.TOP / "contrib" / "wqd.service").read_text()
-        for line in ("LimitNOFILE=4096:524288", "TasksMax=4096", "MemoryMax=80%", "OOMPolicy=continue",
-                     "RestartPreventExitStatus=1 2"):
+        for line in (
+            "LimitNOFILE=4096:524288",
+            "TasksMax=4096",
+            "MemoryMax=80%",
+            "OOMPolicy=continue",
+            "RestartPreventExitStatus=1 2",
+        ):
             self.same(f"the unit has {line}", f"\n{line}\n" in unit, True)
         if shutil.which("systemd-analyze") is None:
             self.skipTest("what systemd says of the unit, since it is not installed")
@@ -45,8 +50,12 @@ class Units(Beside):
         (self.room / "wqd.service.d").mkdir()
         (self.room / "wqd.service.d" / "strict.conf").write_text(strict_lines())
         self.same("with the lines that narrow it", said_of(path), "")
-        analyzed = subprocess.run(["systemd-analyze", "security", "--offline=true", str(path)], stdout=subprocess.PIPE,
-                                  stderr=subprocess.DEVNULL, timeout=PATIENCE)
+        analyzed = subprocess.run(
+            ["systemd-analyze", "security", "--offline=true", str(path)],
+            stdout=subprocess.PIPE,
+            stderr=subprocess.DEVNULL,
+            timeout=PATIENCE,
+        )
         level = re.search(r"exposure level for wqd.service: ([0-9.]+)", analyzed.stdout.decode())
         if level is not None:
             self.check("how exposed it is", float(level[1]) < 3, [level[0]])
@@ -57,8 +66,9 @@ class Units(Beside):
         trace = self.room / "trace"
         (self.room / "root").mkdir()
         (self.room / "root" / "a.c").touch()
-        with Server(self.room, 50, through=["strace", "-f", "-qq", "-o", str(trace)],
-                    workers=2) as server, server.client() as client:
+        with Server(
+            self.room, 50, through=["strace", "-f", "-qq", "-o", str(trace)], workers=2
+        ) as server, server.client() as client:
             client.ask("watch", str(self.room / "root"))
             client.ask("query", str(self.room / "root"), {"fields": ["name"]})
             client.ask("subscribe", str(self.room / "root"), "s", {"fields": ["name"]})
@@ -89,16 +99,20 @@ class Units(Beside):
 
 
 def said_of(path: Path) -> str:
-    ended = subprocess.run(["systemd-analyze", "verify", "--man=no", str(path)], stdout=subprocess.PIPE,
-                           stderr=subprocess.STDOUT,
-                           timeout=PATIENCE)
+    ended = subprocess.run(
+        ["systemd-analyze", "verify", "--man=no", str(path)],
+        stdout=subprocess.PIPE,
+        stderr=subprocess.STDOUT,
+        timeout=PATIENCE,
+    )
     return ended.stdout.decode()
 
 
 def allowed(name: str) -> Set[str]:
     """The calls of a set of systemd, and of those in it."""
-    listed = subprocess.run(["systemd-analyze", "syscall-filter", name], stdout=subprocess.PIPE,
-                            check=True).stdout.decode()
+    listed = subprocess.run(
+        ["systemd-analyze", "syscall-filter", name], stdout=subprocess.PIPE, check=True
+    ).stdout.decode()
     lines: List[str] = [line.strip() for line in listed.splitlines()[1:]]
     found = {line for line in lines if line and line[0] not in "#@"}
     for inner in (line for line in lines if line.startswith("@")):

@@ -23,7 +23,9 @@ ENDED = b"a client ended the server by shutdown-server\n"
 VERSION = {"version": "wq-1"}
 # What ./wqd adds to it, so that memory which is freed goes back to the system or is used again.
 MALLOC = {
-    "MALLOC_ARENA_MAX": "2", "MALLOC_MMAP_THRESHOLD_": "131072", "GLIBC_TUNABLES": "glibc.malloc.tcache_count=0",
+    "MALLOC_ARENA_MAX": "2",
+    "MALLOC_MMAP_THRESHOLD_": "131072",
+    "GLIBC_TUNABLES": "glibc.malloc.tcache_count=0",
 }
 ENVIRONMENT = {**MALLOC, **os.environ}
 Row = Tuple[str, str, int, int]
@@ -123,8 +125,13 @@ class Server:
     With no interval, or no number of workers, the server takes its own. Other words may begin the command."""
 
     def __init__(
-        self, room: Path, interval: Optional[int] = 1000, is_plain: bool = False, through: Sequence[str] = (),
-        workers: Optional[int] = None, share: Optional[int] = None,
+        self,
+        room: Path,
+        interval: Optional[int] = 1000,
+        is_plain: bool = False,
+        through: Sequence[str] = (),
+        workers: Optional[int] = None,
+        share: Optional[int] = None,
     ) -> None:
         self.sockname = str(room / "socket")
         self.said = tempfile.TemporaryFile()

@@ -24,8 +24,12 @@ BROKEN_PIPE = 141
 @contextlib.contextmanager
 def environment(room: Path) -> Iterator[Dict[str, str]]:
     """The variables of commands that share a server, which is ended after them."""
-    found = {**os.environ, "WQD": str(built.program_path()), "WQD_SOCK": str(room / "asked.socket"),
-             "XDG_STATE_HOME": str(room)}
+    found = {
+        **os.environ,
+        "WQD": str(built.program_path()),
+        "WQD_SOCK": str(room / "asked.socket"),
+        "XDG_STATE_HOME": str(room),
+    }
     try:
         yield found
     finally:
@@ -58,8 +62,9 @@ class Asking(Case):
         fill_directory(root, FILES)
         line = query_line(root, {"fields": ["name", "size"]}).ljust(LINE_BYTES)
         with environment(self.room) as variables:
-            ended = subprocess.run(command(root, *[line] * LINES), stdout=subprocess.PIPE, env=variables,
-                                   timeout=PATIENCE)
+            ended = subprocess.run(
+                command(root, *[line] * LINES), stdout=subprocess.PIPE, env=variables, timeout=PATIENCE
+            )
         counts = [len(json.loads(reply).get("files", [])) for reply in ended.stdout.splitlines()]
         self.same("many long replies", (ended.returncode, counts), (0, [0] + [FILES] * LINES))
 
@@ -70,8 +75,11 @@ class Asking(Case):
         os.close(nobody)
         with environment(self.room) as variables:
             ended = subprocess.run(
-                command(self.room, '["version"]'), stdout=output, stderr=subprocess.PIPE, env=variables,
-                timeout=PATIENCE
+                command(self.room, '["version"]'),
+                stdout=output,
+                stderr=subprocess.PIPE,
+                env=variables,
+                timeout=PATIENCE,
             )
             os.close(output)
             self.same("ask fails if nobody reads", ended.returncode, BROKEN_PIPE)

@@ -83,8 +83,9 @@ class Clients(Case):
             other.send("get-sockname")
             self.same("the name of the socket", other.reply(), {"sockname": server.sockname, **VERSION})
             self.same("programs", one.reply(), {"programs": ["yes"], **VERSION})
-            self.same("a program deleted", other.ask("program-del", "yes"),
-                      {"deleted": True, "program-del": "yes", **VERSION})
+            self.same(
+                "a program deleted", other.ask("program-del", "yes"), {"deleted": True, "program-del": "yes", **VERSION}
+            )
             error = one.ask("query", str(root), {"program": "yes", **query_of_names()}).get("error")
             self.same("a program that another client deleted", error, "E34: no such program")
 
@@ -123,16 +124,18 @@ class Clients(Case):
             self.same("a root that is not absolute", client.ask("watch", "root0")["error"], "E10: root is not absolute")
             nothing = str(self.room / "nothing")
             self.same("a root that is not there", client.ask("watch", nothing)["error"], "E11: root cannot be read")
-            self.same("a root that is not watched", client.ask("query", nothing, {})["error"],
-                      "E14: root is not watched")
+            self.same(
+                "a root that is not watched", client.ask("query", nothing, {})["error"], "E14: root is not watched"
+            )
             for root in roots[:16]:
                 client.ask("watch-project", str(root) + "//")
             self.same("sixteen roots", client.ask("watch-list")["roots"], [str(root) for root in roots[:16]])
             self.same("a seventeenth root", client.ask("watch", str(roots[16]))["error"], "E13: too many roots")
             reply = client.ask("watch-del", str(roots[3]))
             self.same("a root deleted", reply, {"root": str(roots[3]), "watch-del": True, **VERSION})
-            self.same("a root deleted again", client.ask("watch-del", str(roots[3]))["error"],
-                      "E14: root is not watched")
+            self.same(
+                "a root deleted again", client.ask("watch-del", str(roots[3]))["error"], "E14: root is not watched"
+            )
             self.same("a root after it", client.ask("clock", str(roots[3]))["error"], "E14: root is not watched")
             client.ask("watch", str(roots[3]))
             self.same("a number that is new", client.ask("clock", str(roots[3]))["clock"], "c:7:9:17:0")
@@ -157,8 +160,14 @@ class Clients(Case):
                 query = b'["query",%s,{"expression":["pcre","x"]}]\n' % client.text(str(root))
                 client.send_bytes(b"[\n7\n" + query + b" " * LONGEST_LINE + b'\n["frob"]\n["version"]\n')
                 errors = [client.reply().get("error") for _ in range(6)]
-                expected = ["E2: not JSON", "E3: not a command array", "E24: unknown term", "E2: not JSON",
-                            "E4: unknown command", None]
+                expected = [
+                    "E2: not JSON",
+                    "E3: not a command array",
+                    "E24: unknown term",
+                    "E2: not JSON",
+                    "E4: unknown command",
+                    None,
+                ]
                 self.same("lines that are refused", errors, expected)
             with server.client() as client:
                 client.send_bytes(b" " * (LONGEST_LINE + 1))

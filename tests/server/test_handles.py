@@ -74,14 +74,17 @@ class Handles(Case):
             said = f"listening on {server.sockname}\n".encode()
             for turn in (1, 2):
                 scarcity.allow(scarcity.least)
-                self.check(f"want of handles is told by its name, {turn}", server.says(said + line),
-                           [repr(server.errors())])
-                self.same(f"a crawl without handles, {turn}", client.ask("query", str(root), query_of_names()),
-                          UNREADABLE)
+                self.check(
+                    f"want of handles is told by its name, {turn}", server.says(said + line), [repr(server.errors())]
+                )
+                self.same(
+                    f"a crawl without handles, {turn}", client.ask("query", str(root), query_of_names()), UNREADABLE
+                )
                 scarcity.allow(scarcity.most)
                 (root / f"after{turn}").touch()
-                seen = client.ask_until("query", str(root), {"sync_timeout": 0},
-                                        lambda reply: len(reply["files"]) == 1 + turn)
+                seen = client.ask_until(
+                    "query", str(root), {"sync_timeout": 0}, lambda reply: len(reply["files"]) == 1 + turn
+                )
                 self.same(f"a crawl with handles again, {turn}", len(seen["files"]), 1 + turn)
                 said += line + back
                 self.check(f"it is told that the root is back, {turn}", server.says(said), [repr(server.errors())])
@@ -99,8 +102,11 @@ class Handles(Case):
             self.same("clients beside it", [other.has_session() for other in others], [True] * OTHERS)
             for other in others:
                 other.close()
-            self.check("handles of clients that went", wait_until(lambda: handles(server) == before),
-                       [f"{handles(server)}, not {before}"])
+            self.check(
+                "handles of clients that went",
+                wait_until(lambda: handles(server) == before),
+                [f"{handles(server)}, not {before}"],
+            )
             self.same("a crawl after they went", client.ask("query", str(root), query_of_names())["files"], ["a"])
 
 

@@ -40,8 +40,9 @@ class Large(Case):
                     act(path)
                 query = {**query_of_names(), "since": clock, "expression": ["not", ["type", "d"]]}
                 found = client.ask("query", str(root), query)["files"]
-                self.same(f"many files that {what}", sorted(found),
-                          sorted(str(path.relative_to(root)) for path in paths))
+                self.same(
+                    f"many files that {what}", sorted(found), sorted(str(path.relative_to(root)) for path in paths)
+                )
 
     def check_most_files(self, room: Path, root: Path) -> None:
         named = {"path": [{"path": "", "depth": 0}], **query_of_names()}

@@ -49,14 +49,21 @@ class Locked(Case):
         (root / "etc" / "passwd").touch()
         files = ["etc", "etc/passwd"]
         with Server(self.room, interval=A_HOUR, is_plain=True) as server, server.client(root) as client:
-            for mode, expected in ((0o500, files), (0o400, []), (0o700, files), (0o000, None), (0o100, None),
-                                   (0o500, files)):
+            for mode, expected in (
+                (0o500, files),
+                (0o400, []),
+                (0o700, files),
+                (0o000, None),
+                (0o100, None),
+                (0o500, files),
+            ):
                 root.chmod(mode)
                 reply = client.ask("query", str(root), query_of_names())
                 self.same(f"a root of mode {mode:03o}", reply.get("files"), expected)
                 if expected is None:
-                    self.same(f"the refusal of mode {mode:03o}", reply,
-                              {"error": "E11: root cannot be read", **VERSION})
+                    self.same(
+                        f"the refusal of mode {mode:03o}", reply, {"error": "E11: root cannot be read", **VERSION}
+                    )
             root.chmod(0o700)
 
 

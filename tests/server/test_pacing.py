@@ -55,8 +55,9 @@ class Pacing(Case):
         # On a busy machine a walk of the large root may take longer than an interval, so the longest wait is no
         # measure.
         self.check("a list of a small root beside a large one", statistics.median(took) < 1.5 * INTERVAL + LATE, lines)
-        self.check("both roots keep to the share", share < 2 * PERCENT / 100,
-                   [f"{100 * share:.1f} percent of a processor"])
+        self.check(
+            "both roots keep to the share", share < 2 * PERCENT / 100, [f"{100 * share:.1f} percent of a processor"]
+        )
         self.check("the large root has its turn", is_seen)
 
     def test_a_pace_beside_clients(self) -> None:
@@ -89,8 +90,11 @@ class Pacing(Case):
             with server.client() as client:
                 found = client.names_without_a_crawl(root, 1)
                 self.same("a file that came while it rested", found, ["first"])
-                client.ask("trigger", str(root),
-                           {"name": "copy", "command": ["cp", "second", "third"], "expression": ["name", "second"]})
+                client.ask(
+                    "trigger",
+                    str(root),
+                    {"name": "copy", "command": ["cp", "second", "third"], "expression": ["name", "second"]},
+                )
             (root / "second").touch()
             self.check("a trigger without a client", wait_until((root / "third").exists))
             with server.client_when_free() as client:

@@ -43,8 +43,9 @@ class Setback(Case):
             back.write_text("0")
             (root / "fourth").touch()
             client.ask("query", str(root), {})
-            self.same("since a second after it, when it is right again", names_since(client, root, last + 2),
-                      ["fourth"])
+            self.same(
+                "since a second after it, when it is right again", names_since(client, root, last + 2), ["fourth"]
+            )
             self.same("the server goes on", client.ask("version"), VERSION)
             self.same("the end of a server whose clock was set back", server.shut_down(client), 0)
 

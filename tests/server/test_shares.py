@@ -32,8 +32,9 @@ class Shares(Case):
             self.check_a_crawl_in_a_pause(client, root)
         most = PERCENT / 100 * SPAN + SLACK
         self.check("rounds keep their share", shared <= most, [f"{shared:.2f} seconds of {SPAN}, at most {most:.2f}"])
-        self.check("rounds without a share take more", alone > 2 * shared,
-                   [f"{alone:.2f} and {shared:.2f} seconds of {SPAN}"])
+        self.check(
+            "rounds without a share take more", alone > 2 * shared, [f"{alone:.2f} and {shared:.2f} seconds of {SPAN}"]
+        )
 
     def check_a_crawl_in_a_pause(self, client: Client, root: Path) -> None:
         """Queries that synchronise see each change at once, one after the other."""

@@ -27,8 +27,9 @@ class Sockets(Case):
             command = [str(built.program_path()), "serve", "--sockname", path, "--start", "7", "--pid", "9"]
             try:
                 ended = subprocess.run(command, stderr=subprocess.PIPE, timeout=PATIENCE)
-                self.same("a start beside a server that hangs", (ended.returncode, ended.stderr),
-                          (1, b"cannot listen\n"))
+                self.same(
+                    "a start beside a server that hangs", (ended.returncode, ended.stderr), (1, b"cannot listen\n")
+                )
             except subprocess.TimeoutExpired:
                 self.check("a start beside a server that hangs", False, ["it waits for that server"])
             self.same("the socket of a server that hangs", os.stat(path).st_ino, number)

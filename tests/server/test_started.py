@@ -16,8 +16,9 @@ class Started(Case):
         """The socket's mode, a second server, a stale socket, a file that is none, a directory that is not there."""
         with Server(self.room) as server, server.client() as client:
             status = os.stat(server.sockname)
-            self.same("the mode of the socket", (stat.S_ISSOCK(status.st_mode), stat.S_IMODE(status.st_mode)),
-                      (True, 0o600))
+            self.same(
+                "the mode of the socket", (stat.S_ISSOCK(status.st_mode), stat.S_IMODE(status.st_mode)), (True, 0o600)
+            )
             self.same("nothing beside the socket", os.listdir(self.room), [os.path.basename(server.sockname)])
             self.same("a socket that is in use", refused(server.sockname), (1, b"cannot listen\n"))
             self.same("the first server goes on", client.ask("version"), VERSION)
@@ -44,7 +45,14 @@ class Started(Case):
     def test_words(self) -> None:
         """The words of the command line: what is missing, out of range, or of another shape."""
         sockname = str(self.room / "no" / "socket")
-        good = {"sockname": sockname, "start": "0", "pid": str(2**62), "interval": "10", "share": "1", "workers": "16"}
+        good = {
+            "sockname": sockname,
+            "start": "0",
+            "pid": str(2**62),
+            "interval": "10",
+            "share": "1",
+            "workers": "16",
+        }
         self.same("all words", status_of(good), (1, b"cannot listen\n"))
         self.same("an hour", status_of({**good, "interval": "3600000", "workers": "1"}), (1, b"cannot listen\n"))
         for name in ("interval", "share", "workers"):
@@ -52,9 +60,21 @@ class Started(Case):
             self.same(f"no {name}", status_of(left), (1, b"cannot listen\n"))
         wrong = [{key: value for key, value in good.items() if key != name} for name in ("sockname", "start", "pid")]
         changes = [
-            ("start", "-1"), ("start", "01"), ("start", str(2**62 + 1)), ("pid", "x"), ("pid", ""), ("interval", "9"),
-            ("interval", "3600001"), ("workers", "0"), ("workers", "17"), ("workers", "1.5"), ("frob", "1"),
-            ("share", "0"), ("share", "101"), ("share", "010"), ("share", "x"),
+            ("start", "-1"),
+            ("start", "01"),
+            ("start", str(2**62 + 1)),
+            ("pid", "x"),
+            ("pid", ""),
+            ("interval", "9"),
+            ("interval", "3600001"),
+            ("workers", "0"),
+            ("workers", "17"),
+            ("workers", "1.5"),
+            ("frob", "1"),
+            ("share", "0"),
+            ("share", "101"),
+            ("share", "010"),
+            ("share", "x"),
         ]
         wrong += [{**good, name: value} for name, value in changes]
         for words in wrong:

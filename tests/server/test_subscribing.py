@@ -100,7 +100,11 @@ class Subscribing(Case):
 def list_of(root: Path, name: str, files: List[object], is_fresh: bool) -> dict:
     """A list without its clock."""
     return {
-        "files": files, "is_fresh_instance": is_fresh, "root": str(root), "subscription": name, "unilateral": True,
+        "files": files,
+        "is_fresh_instance": is_fresh,
+        "root": str(root),
+        "subscription": name,
+        "unilateral": True,
         **VERSION,
     }
 

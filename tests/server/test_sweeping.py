@@ -27,8 +27,9 @@ class Sweeping(Case):
     def test_names_that_change_anywhere(self) -> None:
         """Names change in directories in which nothing changed lately, and no scan of the whole root comes meanwhile: a
         file that is written in place elsewhere is not listed yet."""
-        with in_memory(self.room) as shelf, Server(self.room, interval=50,
-                                                   share=FEW) as server, server.client() as client:
+        with in_memory(self.room) as shelf, Server(
+            self.room, interval=50, share=FEW
+        ) as server, server.client() as client:
             root = Path(shelf) / "large"
             fill(root)
             client.ask("watch", str(root))
@@ -38,8 +39,11 @@ class Sweeping(Case):
             for what, act, name, expected in changes(root):
                 act()
                 self.same(what, listed(client, root, name, len(expected)), expected)
-            written = {**query_of_names(), "expression": ["allof", ["name", "file1"], ["size", "gt", 0]],
-                       "sync_timeout": 0}
+            written = {
+                **query_of_names(),
+                "expression": ["allof", ["name", "file1"], ["size", "gt", 0]],
+                "sync_timeout": 0,
+            }
             found = client.ask("query", str(root), written)["files"]
             self.same("a file that is written in place elsewhere", found, [])
 
@@ -49,8 +53,9 @@ class Sweeping(Case):
         self.check_installed("strace")
         said = self.room / "calls"
         through = [*STRACE, "-o", str(said), "-e", "trace=statx,newfstatat,open,openat"]
-        with in_memory(self.room) as shelf, Server(self.room, interval=100, share=FEW, through=through) as server, \
-                server.client() as client:
+        with in_memory(self.room) as shelf, Server(
+            self.room, interval=100, share=FEW, through=through
+        ) as server, server.client() as client:
             root = Path(shelf) / "large"
             fill(root)
             client.ask("watch", str(root))
@@ -73,13 +78,21 @@ def changes(root: Path) -> List[Tuple[str, Callable[[], object], str, List[str]]
     near, far, third = root / "directory11", root / "directory222", root / "directory333"
     return [
         ("a new file", (near / "zfirst").touch, "zfirst", ["directory11/zfirst"]),
-        ("a file that is renamed", lambda: (far / "file2").rename(far / "zsecond"), "zsecond",
-         ["directory222/zsecond"]),
+        (
+            "a file that is renamed",
+            lambda: (far / "file2").rename(far / "zsecond"),
+            "zsecond",
+            ["directory222/zsecond"],
+        ),
         ("a file that is moved", lambda: (far / "zsecond").rename(third / "zthird"), "zthird", ["directory333/zthird"]),
         ("a file that went", (third / "zthird").unlink, "zthird", []),
         ("a new directory", lambda: deep_file(root / "directory444"), "zdeep", ["directory444/zin/zbelow/zdeep"]),
-        ("a file that an editor saves by a rename", lambda: save(root / "directory555" / "zsaved"), "zsaved",
-         ["directory555/zsaved"]),
+        (
+            "a file that an editor saves by a rename",
+            lambda: save(root / "directory555" / "zsaved"),
+            "zsaved",
+            ["directory555/zsaved"],
+        ),
     ]
 
 

@@ -67,7 +67,7 @@ class AWalkOfAMinute(Beside):
 def told_after_both(server: Server, root: Path, said: bytes) -> bytes:
     """The lines when both directories can be read again. A walk may come between the two."""
     server.says(left_out(root, 2, 0))
-    return server.errors()[len(said):]
+    return server.errors()[len(said) :]
 
 
 def left_out(root: Path, names: int, directories: int) -> bytes:

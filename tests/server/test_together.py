@@ -43,8 +43,10 @@ def leave_stale(path: Path) -> None:
 
 
 def first_status(servers: list) -> object:
-    return next(iter(look_until(lambda: [server.poll() for server in servers if server.poll() is not None], bool)),
-                "both run on")
+    return next(
+        iter(look_until(lambda: [server.poll() for server in servers if server.poll() is not None], bool)),
+        "both run on",
+    )
 
 
 def answer_at(path: Path) -> object:

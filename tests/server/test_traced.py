@@ -26,7 +26,11 @@ class Traced(Case):
         with Server(self.room / "in", through=through):
             found = calls_in(said, f"{self.room}/in/")
         expected = [
-            "mkdir .wqd0 0700", "bind .wqd0/s", "chmod .wqd0/s 0600", "link .wqd0/s socket", "unlink .wqd0/s",
+            "mkdir .wqd0 0700",
+            "bind .wqd0/s",
+            "chmod .wqd0/s 0600",
+            "link .wqd0/s socket",
+            "unlink .wqd0/s",
             "rmdir .wqd0",
         ]
         self.same("how the socket comes", found, expected)

@@ -61,9 +61,24 @@ def readable(root: Path) -> List[Row]:
 
 def make_tree(root: Path) -> None:
     names = [
-        "a/x", "a-b/y", "a.b/z", "a0", "a/b-c", "a/b/c", "a/b.c", "a/b/d/e", "a!/q", 'a"b', "ab", "-", ".hidden/x",
+        "a/x",
+        "a-b/y",
+        "a.b/z",
+        "a0",
+        "a/b-c",
+        "a/b/c",
+        "a/b.c",
+        "a/b/d/e",
+        "a!/q",
+        'a"b',
+        "ab",
+        "-",
+        ".hidden/x",
         "..x",
-        "\u00fc/\u00f6", "line\nbreak", " blank", "back\\slash",
+        "\u00fc/\u00f6",
+        "line\nbreak",
+        " blank",
+        "back\\slash",
     ]
     for name in names:
         path = root / name

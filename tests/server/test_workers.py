@@ -16,8 +16,11 @@ DIRECTORIES = 20
 # All files, most of some directories, and few.
 QUERIES = [
     {"fields": ["name", "type", "size", "mtime_ms"]},
-    {"path": [f"directory{number:02}" for number in range(3, 8)], "expression": ["not", ["match", "*7"]],
-     **query_of_names()},
+    {
+        "path": [f"directory{number:02}" for number in range(3, 8)],
+        "expression": ["not", ["match", "*7"]],
+        **query_of_names(),
+    },
     {"expression": ["allof", ["type", "l"], ["match", "*99"]], **query_of_names()},
 ]
 
@@ -31,8 +34,9 @@ class Workers(Case):
                 make_names(root, DIRECTORIES, FILES)
                 many, one = (replies(self.room, root, workers) for workers in (4, 1))
                 for query, reply, plain in zip(QUERIES, many, one):
-                    self.check(f"four workers and one: {query}", reply == plain,
-                               [f"{len(reply)} bytes, {len(plain)} bytes"])
+                    self.check(
+                        f"four workers and one: {query}", reply == plain, [f"{len(reply)} bytes, {len(plain)} bytes"]
+                    )
                 self.check_few(one[-1])
                 self.check_a_list_that_is_read_late(self.room, root, many[0])
             finally:

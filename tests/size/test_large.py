@@ -150,8 +150,9 @@ def expression_cases() -> List[Asked]:
     for _ in range(63):
         nested = ["not", nested]
     return [
-        expression_case("allof of eight hundred terms", hundreds,
-                        lambda record: record.exists and not is_named(record)),
+        expression_case(
+            "allof of eight hundred terms", hundreds, lambda record: record.exists and not is_named(record)
+        ),
         expression_case("name of ten thousand", ["name", many]),
         expression_case("iname of ten thousand", ["iname", [name.upper() for name in many]]),
         expression_case("a pattern of 255 atoms", ["match", stars], fits_stars),
@@ -169,8 +170,11 @@ def generator_cases() -> List[Asked]:
     suffixes = [f"s{number}" for number in range(999)] + ["C"]
     return [
         Asked("a suffix list of a thousand", {"suffix": suffixes, "fields": ["name"]}),
-        Asked("a path list of twenty thousand", {"path": [path.decode() for path in paths], "fields": ["name"]},
-             lambda record: record.name in named and record.kind != "d"),
+        Asked(
+            "a path list of twenty thousand",
+            {"path": [path.decode() for path in paths], "fields": ["name"]},
+            lambda record: record.name in named and record.kind != "d",
+        ),
         Asked("a path and a tick", {"path": ["d007/"], "since": "c:7:9:1:1", "fields": ["name", "exists"]}),
     ]
 

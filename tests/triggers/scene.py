@@ -67,7 +67,7 @@ class Scene:
         return (
             f"cd {out} && mkdir new && for arg; do printf '%s\\0' \"$arg\"; done > new/args && env -0 > new/env && "
             f"cat > new/input && "
-            f"printf %s \"$OLDPWD\" > new/directory && ls /proc/self/fd > new/handles && mv new run$(ls | wc -l)"
+            f'printf %s "$OLDPWD" > new/directory && ls /proc/self/fd > new/handles && mv new run$(ls | wc -l)'
         )
 
     def run(self, number: int) -> Run:
@@ -77,7 +77,10 @@ class Scene:
             raise ValueError(f"there is no run {number}: {self.server.errors()!r}")
         env = dict(text.split("=", 1) for text in texts(place / "env"))
         return Run(
-            texts(place / "args"), env, (place / "input").read_bytes(), (place / "directory").read_text(),
+            texts(place / "args"),
+            env,
+            (place / "input").read_bytes(),
+            (place / "directory").read_text(),
             (place / "handles").read_text().split(),
         )
 

@@ -23,8 +23,9 @@ class Dear(Case):
         """No reply waits for half of the time that the trigger's program takes on all files."""
         with Scene(self.room) as scene, scene.server.client() as other:
             scene.make(*("a" * 200 + f"{number:03}" for number in range(FILES)), "last")
-            alone = time_of(lambda: scene.client.ask("query", str(scene.root),
-                                                     {"expression": EXPRESSION, "fields": ["name"]}))
+            alone = time_of(
+                lambda: scene.client.ask("query", str(scene.root), {"expression": EXPRESSION, "fields": ["name"]})
+            )
             self.check("the time of the program", alone >= LEAST, [f"{alone:.3f} seconds"])
             begun = scene.out / "begun"
             waits: List[float] = []

@@ -52,8 +52,10 @@ class Ends(Case):
             number = scene.lines()[0].split()[0]
             self.same("no start while it is stopped", scene.lines(), [f"{number} a"])
             os.kill(int(number), signal.SIGCONT)
-            self.check("the next start is stopped too",
-                       wait_until(lambda: len(scene.lines()) == 3 and scene.children() == ["T"]))
+            self.check(
+                "the next start is stopped too",
+                wait_until(lambda: len(scene.lines()) == 3 and scene.children() == ["T"]),
+            )
             self.same("it went on", scene.lines()[1], "over a")
             next_number, *files = scene.lines()[2].split()
             self.same("what came meanwhile", files, ["b"])

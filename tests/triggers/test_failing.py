@@ -13,9 +13,12 @@ MISSING = 63
 
 # Files that may be executed or are not there, and why they cannot be.
 NO_PROGRAMS = (
-    ("directory", b"Permission denied"), ("link", b"No such file or directory"),
+    ("directory", b"Permission denied"),
+    ("link", b"No such file or directory"),
     ("loop", b"Too many levels of symbolic links"),
-    ("plain", b"Exec format error"), ("empty", b"Exec format error"), ("strange", b"No such file or directory"),
+    ("plain", b"Exec format error"),
+    ("empty", b"Exec format error"),
+    ("strange", b"No such file or directory"),
     ("cut", b"Exec format error"),
 )
 
@@ -117,8 +120,12 @@ def make_no_programs(directory: Path) -> None:
     (directory / "directory").mkdir()
     (directory / "link").symlink_to("/there/is/nothing")
     (directory / "loop").symlink_to("loop")
-    texts = (("plain", b"echo\n"), ("empty", b""), ("strange", b"#!/there/is/nothing\n"),
-             ("cut", b"\x7fELF" + b"\0" * 100))
+    texts = (
+        ("plain", b"echo\n"),
+        ("empty", b""),
+        ("strange", b"#!/there/is/nothing\n"),
+        ("cut", b"\x7fELF" + b"\0" * 100),
+    )
     for name, text in texts:
         (directory / name).write_bytes(text)
         (directory / name).chmod(0o755)

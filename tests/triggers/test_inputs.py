@@ -43,10 +43,15 @@ class Inputs(Case):
             for number in range(ON_A_ROOT):
                 for root in (scene.root, second):
                     add_reader(scene, root, f"{number}")
-            self.check("as many commands run as may", wait_until(lambda: len(scene.children()) == MOST),
-                       [f"{len(scene.children())}"])
-            replies = [scene.client.ask("query", str(root), {"expression": ["name", "no"], **query_of_names()})
-                       for root in (scene.root, second) * 3]
+            self.check(
+                "as many commands run as may",
+                wait_until(lambda: len(scene.children()) == MOST),
+                [f"{len(scene.children())}"],
+            )
+            replies = [
+                scene.client.ask("query", str(root), {"expression": ["name", "no"], **query_of_names()})
+                for root in (scene.root, second) * 3
+            ]
             self.check("scans go on beside them", all(reply.get("files") == [] for reply in replies), [f"{replies}"])
             self.check("no more commands run then", len(scene.children()) == MOST, [f"{len(scene.children())}"])
             self.finish(scene, 2 * ON_A_ROOT)
@@ -59,8 +64,11 @@ class Inputs(Case):
             for number in range(LARGE):
                 add_reader(scene, scene.root, f"{number}")
             most = MOST_BYTES // (LONG_NAMES * (LONG + 1))
-            self.check("as many run as inputs may wait", wait_until(lambda: len(scene.children()) == most),
-                       [f"{len(scene.children())}"])
+            self.check(
+                "as many run as inputs may wait",
+                wait_until(lambda: len(scene.children()) == most),
+                [f"{len(scene.children())}"],
+            )
             is_small = scene.server.has_memory_below(before + MOST_BYTES + MORE_MEMORY)
             self.check("memory beside them", is_small, [f"{scene.server.memory()} bytes, before {before}"])
             self.check("no more run then", len(scene.children()) == most, [f"{len(scene.children())}"])

@@ -39,8 +39,10 @@ class Reading(Case):
                 self.check("it ends", wait_until(over.exists))
             self.check("replies while it runs", len(times) > 10, [f"{len(times)} replies"])
             self.check("the slowest reply while it runs", max(times) < LATE, [f"{max(times):.3f} seconds"])
-            print(f"beside a command that never reads, the slowest of {len(times)} replies took "
-                  f"{max(times) * 1000:.1f} ms")
+            print(
+                f"beside a command that never reads, the slowest of {len(times)} replies took "
+                f"{max(times) * 1000:.1f} ms"
+            )
             self.check("nobody waits for it any more", wait_until(lambda: not scene.children()))
 
     def test_a_command_that_reads_and_writes_much(self) -> None:

@@ -51,11 +51,15 @@ class Several(Case):
             scene.trigger("t", f"{scene.log('begun')}; {scene.waits()}; {scene.log('over')}")
             self.check("it begins before its root is deleted", scene.has_lines(1))
             scene.client.ask("watch-del", root)
-            self.same("no triggers without a root", scene.client.ask("trigger-list", root)["error"],
-                      "E14: root is not watched")
+            self.same(
+                "no triggers without a root",
+                scene.client.ask("trigger-list", root)["error"],
+                "E14: root is not watched",
+            )
             scene.client.ask("watch", root)
-            self.same("no triggers of a root that is watched anew", scene.client.ask("trigger-list", root)["triggers"],
-                      [])
+            self.same(
+                "no triggers of a root that is watched anew", scene.client.ask("trigger-list", root)["triggers"], []
+            )
             scene.make("b")
             scene.go()
             self.check("it goes on after its root is deleted", scene.has_lines(2))
@@ -92,7 +96,7 @@ class Several(Case):
 
 def makes(scene: Scene, name: str) -> str:
     """A command that makes a file for each name that it is given."""
-    return f"for file; do touch {shlex.quote(str(scene.out / name))}-\"$file\"; done"
+    return f'for file; do touch {shlex.quote(str(scene.out / name))}-"$file"; done'
 
 
 def has_made(scene: Scene, names: list, ending: str) -> bool:

@@ -87,16 +87,18 @@ class Starts(Case):
         """Each form of input, with a limit and without."""
         objects = [{"exists": True, "name": "a.c"}, {"exists": True, "name": "b.c"}]
         text = json.dumps(objects, separators=(",", ":")).encode() + b"\n"
-        for place, (more, data, is_cut) in enumerate((
-            ({}, b"", False),
-            ({"stdin": "/dev/null"}, b"", False),
-            ({"stdin": "NAME_PER_LINE"}, b"a.c\nb.c\n", False),
-            ({"stdin": "NAME_PER_LINE", "max_files_stdin": 2}, b"a.c\nb.c\n", False),
-            ({"stdin": "NAME_PER_LINE", "max_files_stdin": 1}, b"a.c\n", True),
-            ({"stdin": ["name"], "max_files_stdin": 1}, b'["a.c"]\n', True),
-            ({"stdin": ["name", "exists"]}, text, False),
-            ({"max_files_stdin": 1}, b"", False),
-        )):
+        for place, (more, data, is_cut) in enumerate(
+            (
+                ({}, b"", False),
+                ({"stdin": "/dev/null"}, b"", False),
+                ({"stdin": "NAME_PER_LINE"}, b"a.c\nb.c\n", False),
+                ({"stdin": "NAME_PER_LINE", "max_files_stdin": 2}, b"a.c\nb.c\n", False),
+                ({"stdin": "NAME_PER_LINE", "max_files_stdin": 1}, b"a.c\n", True),
+                ({"stdin": ["name"], "max_files_stdin": 1}, b'["a.c"]\n', True),
+                ({"stdin": ["name", "exists"]}, text, False),
+                ({"max_files_stdin": 1}, b"", False),
+            )
+        ):
             part = self.room / str(place)
             part.mkdir()
             with Scene(part) as scene:

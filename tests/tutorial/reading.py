@@ -66,13 +66,13 @@ def end_of_block(lines: List[str], place: int) -> int:
 
 
 def shown(lines: List[str]) -> List[str]:
-    return lines[1:-1] if lines[0].startswith(FENCE) else [line[len(INDENT):] for line in lines]
+    return lines[1:-1] if lines[0].startswith(FENCE) else [line[len(INDENT) :] for line in lines]
 
 
 def commands_of(lines: List[str]) -> List[Command]:
     starts = [place for place, line in enumerate(lines) if line.startswith(PROMPT)]
     ends = [*starts[1:], len(lines)]
-    return [Command(lines[start][len(PROMPT):], lines[start + 1:end]) for start, end in zip(starts, ends)]
+    return [Command(lines[start][len(PROMPT) :], lines[start + 1 : end]) for start, end in zip(starts, ends)]
 
 
 def is_as_shown(written: str, expected: List[str]) -> bool:

@@ -38,14 +38,20 @@ class Begun:
         self.seen = 0
         with open(log, "wb") as file:
             self.process = subprocess.Popen(
-                ["sh", "-c", f"exec {line}"], cwd=directory, env=environment, stdin=subprocess.DEVNULL, stdout=file,
-                stderr=subprocess.STDOUT, start_new_session=True,
+                ["sh", "-c", f"exec {line}"],
+                cwd=directory,
+                env=environment,
+                stdin=subprocess.DEVNULL,
+                stdout=file,
+                stderr=subprocess.STDOUT,
+                start_new_session=True,
             )
 
     def next_output(self, expected: List[str]) -> str:
         """What was written since the last look, when it is what is expected, or after a long time."""
-        text = look_until(lambda: self.log.read_text(encoding="utf-8")[self.seen:],
-                          lambda text: is_as_shown(text, expected))
+        text = look_until(
+            lambda: self.log.read_text(encoding="utf-8")[self.seen :], lambda text: is_as_shown(text, expected)
+        )
         self.seen += len(text)
         return text
 
@@ -64,12 +70,18 @@ class Terminal:
             (self.room / name).mkdir(mode=0o700)
         self.directory = str(self.room / "home")
         self.environment = {
-            "PATH": f"{self.room / 'bin'}:{os.environ['PATH']}", "HOME": self.directory, "LC_ALL": "C.UTF-8",
-            "XDG_RUNTIME_DIR": str(self.room / "run"), "WQD": str(built.program_path()), "GIT_CONFIG_NOSYSTEM": "1",
+            "PATH": f"{self.room / 'bin'}:{os.environ['PATH']}",
+            "HOME": self.directory,
+            "LC_ALL": "C.UTF-8",
+            "XDG_RUNTIME_DIR": str(self.room / "run"),
+            "WQD": str(built.program_path()),
+            "GIT_CONFIG_NOSYSTEM": "1",
         }
-        for name, words in (("wq", [sys.executable, "-B", str(built.TOP / "wq")]),
-                            ("wqasm", [sys.executable, "-B", str(built.TOP / "clients" / "wqasm")]),
-                            ("wqd", [str(built.TOP / "wqd")])):
+        for name, words in (
+            ("wq", [sys.executable, "-B", str(built.TOP / "wq")]),
+            ("wqasm", [sys.executable, "-B", str(built.TOP / "clients" / "wqasm")]),
+            ("wqd", [str(built.TOP / "wqd")]),
+        ):
             command = self.room / "bin" / name
             command.write_text("#!/bin/sh\nexec " + " ".join(f"'{word}'" for word in words) + ' "$@"\n')
             command.chmod(0o755)
@@ -87,8 +99,12 @@ class Terminal:
     def run(self, block: Block) -> Iterator[Done]:
         kind, _, word = block.mark.partition(": ")[2].partition(" ")
         rules: Dict[str, Callable[[str, List[str]], Iterator[Done]]] = {
-            "session": self.session, "waits": self.waits_for, "begins": self.begins, "then": self.then,
-            "interrupts": self.interrupts, "file": self.file,
+            "session": self.session,
+            "waits": self.waits_for,
+            "begins": self.begins,
+            "then": self.then,
+            "interrupts": self.interrupts,
+            "file": self.file,
         }
         if block.mark.startswith("not run: "):
             return iter(())
@@ -102,8 +118,13 @@ class Terminal:
 
     def waits_for(self, _: str, lines: List[str]) -> Iterator[Done]:
         for command in commands_of(lines):
-            yield done(command, look_until(lambda command=command: self.do(command.line),
-                                           lambda written, command=command: is_as_shown(written, command.output)))
+            yield done(
+                command,
+                look_until(
+                    lambda command=command: self.do(command.line),
+                    lambda written, command=command: is_as_shown(written, command.output),
+                ),
+            )
 
     def begins(self, name: str, lines: List[str]) -> Iterator[Done]:
         command = commands_of(lines)[0]
@@ -133,8 +154,15 @@ class Terminal:
         """The output of a command, standard output and standard error. A `cd` in it holds for the commands after it."""
         note = self.room / "directory"
         words = ["sh", "-c", f'{line}\nstatus=$?\npwd > "$0"\nexit $status', str(note)]
-        ended = subprocess.run(words, cwd=self.directory, env=self.environment, stdin=subprocess.DEVNULL,
-                               stdout=subprocess.PIPE, stderr=subprocess.STDOUT, timeout=PATIENCE)
+        ended = subprocess.run(
+            words,
+            cwd=self.directory,
+            env=self.environment,
+            stdin=subprocess.DEVNULL,
+            stdout=subprocess.PIPE,
+            stderr=subprocess.STDOUT,
+            timeout=PATIENCE,
+        )
         self.directory = note.read_text().rstrip("\n") if note.exists() else self.directory
         return ended.stdout.decode("utf-8", "backslashreplace")
 

@@ -37,8 +37,14 @@ class Scene:
         for name in FILES:
             self.write(name, name)
         self.environment: Dict[str, str] = {
-            **os.environ, "WQD": str(built.program_path()), "XDG_RUNTIME_DIR": str(self.runtime), "HOME": str(room),
-            "XDG_STATE_HOME": str(room / "state"), "TMPDIR": str(room), "LC_ALL": "C.UTF-8", "TERM": "xterm",
+            **os.environ,
+            "WQD": str(built.program_path()),
+            "XDG_RUNTIME_DIR": str(self.runtime),
+            "HOME": str(room),
+            "XDG_STATE_HOME": str(room / "state"),
+            "TMPDIR": str(room),
+            "LC_ALL": "C.UTF-8",
+            "TERM": "xterm",
         }
         for name in ("WQD_SOCK", "NO_COLOR"):
             self.environment.pop(name, None)
@@ -67,8 +73,9 @@ class Scene:
 
     def call(self, words: List[object], enters: bytes = b"", **environment: str) -> built.Ended:
         """A call in the tree, with a standard input."""
-        return built.call([COMMAND, *words], input=enters, cwd=self.tree, env={**self.environment, **environment},
-                          timeout=PATIENCE)
+        return built.call(
+            [COMMAND, *words], input=enters, cwd=self.tree, env={**self.environment, **environment}, timeout=PATIENCE
+        )
 
     def wq(self, *words: object, **environment: str) -> built.Ended:
         return self.call(list(words), **environment)
@@ -95,14 +102,23 @@ class Going:
     """A call that goes on, whose two streams are read as they come."""
 
     def __init__(
-        self, scene: Scene, words: List[str], output: Optional[int] = None, ignores: Optional[int] = None,
+        self,
+        scene: Scene,
+        words: List[str],
+        output: Optional[int] = None,
+        ignores: Optional[int] = None,
         **environment: str,
     ) -> None:
         self.output, self.errors = b"", b""
         self.process = subprocess.Popen(
-            [COMMAND, *words], cwd=scene.tree, stdin=subprocess.DEVNULL, stderr=subprocess.PIPE,
-            stdout=subprocess.PIPE if output is None else output, env={**scene.environment, **environment},
-            preexec_fn=lambda: hear(ignores), start_new_session=True,
+            [COMMAND, *words],
+            cwd=scene.tree,
+            stdin=subprocess.DEVNULL,
+            stderr=subprocess.PIPE,
+            stdout=subprocess.PIPE if output is None else output,
+            env={**scene.environment, **environment},
+            preexec_fn=lambda: hear(ignores),
+            start_new_session=True,
         )
 
     def __enter__(self) -> "Going":
@@ -174,7 +190,11 @@ def at_terminal(scene: Scene, *words: str, **environment: str) -> str:
 
 
 def called_at_terminal(
-    scene: Scene, words: List[str], environment: Optional[Dict[str, str]] = None, keys: bytes = b"", after: str = "",
+    scene: Scene,
+    words: List[str],
+    environment: Optional[Dict[str, str]] = None,
+    keys: bytes = b"",
+    after: str = "",
     more: Sequence[Tuple[str, bytes]] = (),
 ) -> AtTerminal:
     """A call at a terminal. Keys are pressed when it has written a text, and more of them when it has written others
@@ -206,14 +226,13 @@ def called_at_terminal(
     return AtTerminal(found.decode("utf-8", "backslashreplace").replace("\r\n", "\n"), code)
 
 
-
 FOLLOWING = re.compile(rb"wq: following [0-9,]+ files? below \S+; scans about each [0-9.]+ s\n")
 
 
 def following(going: Going) -> bytes:
     """What a window says after its first line, which says what it follows."""
     found = FOLLOWING.match(going.errors)
-    return going.errors[found.end():] if found else b"no first line: " + going.errors
+    return going.errors[found.end() :] if found else b"no first line: " + going.errors
 
 
 def said(*lines: str) -> bytes:

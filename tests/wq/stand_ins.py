@@ -23,10 +23,12 @@ class Answer(socketserver.StreamRequestHandler):
 
 def answering(each: Callable[[bytes], bytes]) -> Type[Answer]:
     """Each line is answered by itself."""
+
     class Lines(Answer):
         def answer(self, lines: BinaryIO, replies: BinaryIO) -> None:
             for line in lines:
                 replies.write(each(line) + b"\n")
+
     return Lines
 
 

@@ -35,8 +35,11 @@ class Changing(Beside):
             scene.write("dir/third", "x")
             self.same("unless it is asked for", scene.names("since", "a", "--all"), ["~ dir", "+ dir/third"])
             self.same("another question has a place of its own", scene.names("since", "a"), ["+ dir/third"])
-            self.same("two names do not disturb each other", scene.names("since", "b"),
-                      ["+ dir", "+ dir/in", "+ dir/other", "+ dir/third"])
+            self.same(
+                "two names do not disturb each other",
+                scene.names("since", "b"),
+                ["+ dir", "+ dir/in", "+ dir/other", "+ dir/third"],
+            )
             self.check_since_questions(scene)
             self.check_since_narrowed(scene)
             self.check_since_restarted(scene)
@@ -44,9 +47,16 @@ class Changing(Beside):
 
     def check_since_questions(self, scene: Scene) -> None:
         """A directory, globs and options make questions of their own, and none forgets what another one was told."""
-        questions = (["q", "src"], ["q", "dir"], ["q", "src", "*.h"], ["q", "-e", "h"], ["q", ".", "src/*"], [],
-                     ["*.h"],
-                     ["q", "dir", "src"])
+        questions = (
+            ["q", "src"],
+            ["q", "dir"],
+            ["q", "src", "*.h"],
+            ["q", "-e", "h"],
+            ["q", ".", "src/*"],
+            [],
+            ["*.h"],
+            ["q", "dir", "src"],
+        )
         first = said("this was not asked as q before, so all files are listed")
         for words in questions[:5]:
             self.same(f"a first since {words}", scene.wq("since", *words).errors, first)
@@ -56,15 +66,24 @@ class Changing(Beside):
         scene.write("src/deep/d.h")
         scene.write("src/e.c")
         scene.write("dir/f.c")
-        for words, expected in zip(questions, (
-            ["+ src/deep/d.h", "+ src/e.c"], ["+ dir/f.c"], ["+ src/deep/d.h"], ["+ src/deep/d.h"], ["+ src/e.c"],
-            ["+ dir/f.c", "+ src/deep/d.h", "+ src/e.c"], ["+ src/deep/d.h"],
-            ["+ dir/f.c", "+ src/deep/d.h", "+ src/e.c"],
-        )):
+        for words, expected in zip(
+            questions,
+            (
+                ["+ src/deep/d.h", "+ src/e.c"],
+                ["+ dir/f.c"],
+                ["+ src/deep/d.h"],
+                ["+ src/deep/d.h"],
+                ["+ src/e.c"],
+                ["+ dir/f.c", "+ src/deep/d.h", "+ src/e.c"],
+                ["+ src/deep/d.h"],
+                ["+ dir/f.c", "+ src/deep/d.h", "+ src/e.c"],
+            ),
+        ):
             self.same(f"since {words}", scene.names("since", *words), expected)
             self.same(f"since {words} once more", scene.wq("since", *words), built.Ended(b"", b"", 1))
-        self.same("one question in other words", scene.wq("since", "q", "*.h", "./src/", "*.h"),
-                  built.Ended(b"", b"", 1))
+        self.same(
+            "one question in other words", scene.wq("since", "q", "*.h", "./src/", "*.h"), built.Ended(b"", b"", 1)
+        )
 
     def check_since_narrowed(self, scene: Scene) -> None:
         scene.wq("since", "c")
@@ -76,11 +95,17 @@ class Changing(Beside):
         scene.wq("since", "c", "src")
         scene.write("src/i.c")
         reply = json.loads(scene.wq("since", "c", "src", "--json").output)
-        self.same("since DIR --json", (reply["root"], reply["below"], [file["name"] for file in reply["files"]]),
-                  (str(scene.tree), "src", ["src/i.c"]))
+        self.same(
+            "since DIR --json",
+            (reply["root"], reply["below"], [file["name"] for file in reply["files"]]),
+            (str(scene.tree), "src", ["src/i.c"]),
+        )
         scene.write("src/j.c")
-        self.same("since --json --lines", scene.names("since", "c", "src", "--json", "--lines"),
-                  ['{"exists":true,"name":"src/j.c","new":true,"type":"f"}'])
+        self.same(
+            "since --json --lines",
+            scene.names("since", "c", "src", "--json", "--lines"),
+            ['{"exists":true,"name":"src/j.c","new":true,"type":"f"}'],
+        )
 
     def check_since_restarted(self, scene: Scene) -> None:
         """All files are listed, and why is said."""
@@ -95,15 +120,20 @@ class Changing(Beside):
         ended = scene.wq("since", "a")
         self.same("since after a restart", (ended.status, ended.output.startswith(b"+ dir\n")), (0, True))
         text = ended.errors.decode()
-        is_said = (text.startswith("wq: the server was restarted since: it is of 2")
-                   and text.endswith(", so all files are listed\n"))
+        is_said = text.startswith("wq: the server was restarted since: it is of 2") and text.endswith(
+            ", so all files are listed\n"
+        )
         self.check("what is said of a restart", is_said, [text, start])
         self.same("since after that", scene.wq("since", "a"), built.Ended(b"", b"", 1))
 
     def check_since_words(self, scene: Scene) -> None:
         wrong(self, scene, ["since", "."], ". is a directory, and a name comes before it: wq since NAME .")
-        wrong(self, scene, ["since", "src", "*.c"],
-              "src is a directory, and a name comes before it: wq since NAME src '*.c'")
+        wrong(
+            self,
+            scene,
+            ["since", "src", "*.c"],
+            "src is a directory, and a name comes before it: wq since NAME src '*.c'",
+        )
         scene.wq("since")
         first = said("this was not asked here before, so all files are listed")
         self.same("a first glob without a name", scene.wq("since", "*.d").errors, first)
@@ -113,9 +143,11 @@ class Changing(Beside):
         (scene.room / "state" / "wq" / "clocks").rename(scene.room / "kept")
         (scene.room / "state" / "wq" / "clocks").write_text("no directory")
         ended = scene.wq("since", "d", "*.h")
-        self.same("clocks that cannot be kept",
-                  (ended.status, ended.output, b"so --peek does not know" in ended.errors),
-             (0, b"+ src/deep/c.h\n+ src/deep/d.h\n", True))
+        self.same(
+            "clocks that cannot be kept",
+            (ended.status, ended.output, b"so --peek does not know" in ended.errors),
+            (0, b"+ src/deep/c.h\n+ src/deep/d.h\n", True),
+        )
 
     def test_follow(self) -> None:
         with Scene(self.room) as scene:
@@ -144,11 +176,15 @@ class Changing(Beside):
             self.same("follow --json", found, ("src", "src/a.c", True))
         with scene.begin("follow", "*.c", "src", "dir", "--json", "--lines") as going:
             touch_until(scene, going, "src/a.c")
-            self.same("follow --json --lines", going.output.splitlines()[0],
-                      b'{"exists":true,"name":"src/a.c","new":false,"type":"f"}')
+            self.same(
+                "follow --json --lines",
+                going.output.splitlines()[0],
+                b'{"exists":true,"name":"src/a.c","new":false,"type":"f"}',
+            )
             scene.write("dir/g.c")
-            self.check("follow of two directories",
-                       going.prints('{"exists":true,"name":"dir/g.c","new":true,"type":"f"}\n'))
+            self.check(
+                "follow of two directories", going.prints('{"exists":true,"name":"dir/g.c","new":true,"type":"f"}\n')
+            )
         with scene.begin("follow", "src", "-0", "-t", "f") as going:
             touch_until(scene, going, "src/b b.c")
             self.same("follow -0 below a directory", going.output.split(b"\0")[0], b"~ src/b b.c")

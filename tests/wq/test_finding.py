@@ -62,8 +62,7 @@ class Finding(Beside):
             (["src", "--exclude", "/deep"], C_FILES),
         ):
             self.same(f"find {words}", scene.names("find", *words), expected)
-        self.same("find in another directory", scene.names("find", scene.tree / "src", "a*"),
-                  [f"{scene.tree}/src/a.c"])
+        self.same("find in another directory", scene.names("find", scene.tree / "src", "a*"), [f"{scene.tree}/src/a.c"])
 
     def check_options(self, scene: Scene) -> None:
         scene.write("large", "x" * 5_000)
@@ -100,8 +99,11 @@ class Finding(Beside):
     def check_printing(self, scene: Scene) -> None:
         self.same("find -0", scene.wq("find", "-0", "*.c").output, b"src/a.c\0src/b b.c\0")
         reply = json.loads(scene.wq("find", "--json", "*.h").output)
-        self.same("find --json", (reply["files"], reply["is_fresh_instance"], reply["version"]),
-                  (["src/deep/c.h"], True, "wq-1"))
+        self.same(
+            "find --json",
+            (reply["files"], reply["is_fresh_instance"], reply["version"]),
+            (["src/deep/c.h"], True, "wq-1"),
+        )
         long = json.loads(scene.wq("find", "--json", "-l", "*.h").output)["files"][0]
         self.same("find --json -l", sorted(long), ["mtime_ms", "name", "size", "type"])
         rows = scene.names("find", "-l", "large", "empty")
@@ -110,24 +112,38 @@ class Finding(Beside):
         self.same("a pipe has no colours", scene.wq("find", "-t", "d").output, b"src\nsrc/deep\n")
         scene.names("find", "--keep")
         scene.write("later")
-        self.same("find --no-sync of a tree that was just watched", scene.names("find", "--no-sync", "Makefile"),
-                  ["Makefile"])
+        self.same(
+            "find --no-sync of a tree that was just watched", scene.names("find", "--no-sync", "Makefile"), ["Makefile"]
+        )
 
     def check_json(self, scene: Scene) -> None:
         """The names are those that find prints, also in JSON; each directory is one line, or each file with --lines."""
         reply = json.loads(scene.wq("find", "src", "*.h", "--json").output)
-        self.same("find DIR --json", (reply["root"], reply["below"], reply["files"]),
-                  (str(scene.tree), "src", ["src/deep/c.h"]))
+        self.same(
+            "find DIR --json",
+            (reply["root"], reply["below"], reply["files"]),
+            (str(scene.tree), "src", ["src/deep/c.h"]),
+        )
         both = [json.loads(line) for line in scene.names("find", "src", "target", "*.c", "--json")]
-        self.same("two directories", [(reply["below"], reply["files"]) for reply in both],
-                  [("src", C_FILES), ("target", ["target/z.c"])])
-        self.same("find --json --lines", scene.names("find", "src", "target", "*.c", "--json", "--lines"),
-                  [f'{{"name":"{name}","type":"f"}}' for name in [*C_FILES, "target/z.c"]])
-        self.same("find --lines alone", scene.names("find", "src", "*.h", "--lines"),
-                  ['{"name":"src/deep/c.h","type":"f"}'])
+        self.same(
+            "two directories",
+            [(reply["below"], reply["files"]) for reply in both],
+            [("src", C_FILES), ("target", ["target/z.c"])],
+        )
+        self.same(
+            "find --json --lines",
+            scene.names("find", "src", "target", "*.c", "--json", "--lines"),
+            [f'{{"name":"{name}","type":"f"}}' for name in [*C_FILES, "target/z.c"]],
+        )
+        self.same(
+            "find --lines alone", scene.names("find", "src", "*.h", "--lines"), ['{"name":"src/deep/c.h","type":"f"}']
+        )
         counts = [json.loads(line) for line in scene.names("find", "src", "target", "*.c", "--json", "--count")]
-        self.same("find --json --count", [(reply["below"], reply["count"], "files" in reply) for reply in counts],
-                  [("src", 2, False), ("target", 1, False)])
+        self.same(
+            "find --json --count",
+            [(reply["below"], reply["count"], "files" in reply) for reply in counts],
+            [("src", 2, False), ("target", 1, False)],
+        )
         self.same("find --count of two directories", scene.names("find", "src", "target", "*.c", "--count"), ["3"])
 
     def check_unknown(self, scene: Scene) -> None:
@@ -135,13 +151,19 @@ class Finding(Beside):
         for command in (["find"], ["since", "name"], ["follow"], ["run"]):
             ends = ["--", "true"] if command == ["run"] else []
             for words in (["scr", "*.c"], ["*.c", "scr"], ["src", "scr"]):
-                wrong(self, scene, [*command, *words, *ends],
-                      "scr is no directory here; write './scr' for a file of that name")
-        wrong(self, scene, ["find", "src/b.c"],
-              "src/b.c is no directory here; write './src/b.c' for a file of that name")
+                wrong(
+                    self,
+                    scene,
+                    [*command, *words, *ends],
+                    "scr is no directory here; write './scr' for a file of that name",
+                )
+        wrong(
+            self, scene, ["find", "src/b.c"], "src/b.c is no directory here; write './src/b.c' for a file of that name"
+        )
         wrong(self, scene, ["find", "scr/"], "scr/ is no directory here")
-        wrong(self, scene, ["find", "../scr"],
-              "../scr is no directory here, and no name below a directory has '..' in it")
+        wrong(
+            self, scene, ["find", "../scr"], "../scr is no directory here, and no name below a directory has '..' in it"
+        )
         wrong(self, scene, ["find", "/dev/null"], "/dev/null is no directory here")
         self.same("a file that may come", scene.wq("find", "./scr"), built.Ended(b"", b"", 1))
         scene.write("src/gone.c")
@@ -164,14 +186,25 @@ class Finding(Beside):
         self.same("a directory with a class in its name", scene.names("find", "odd", "ü"), ["odd/ü"])
         (scene.tree / "[x]" / "y").mkdir(parents=True)
         scene.write("[x]/y/target/in")
-        self.same("a directory like a pattern", scene.names("find", "[x]", "--all"),
-                  ["[x]/y", "[x]/y/target", "[x]/y/target/in"])
+        self.same(
+            "a directory like a pattern",
+            scene.names("find", "[x]", "--all"),
+            ["[x]/y", "[x]/y/target", "[x]/y/target/in"],
+        )
         self.same("a glob below it", scene.names("find", "[x]", "y/*", "--all"), ["[x]/y/target"])
-        for words in (["find", b"\xff"], ["since", b"\xff"], ["find", ".", b"a\xff"], ["watch", b"\xff"],
-                      ["find", "--program", b"\xff"]):
+        for words in (
+            ["find", b"\xff"],
+            ["since", b"\xff"],
+            ["find", ".", b"a\xff"],
+            ["watch", b"\xff"],
+            ["find", "--program", b"\xff"],
+        ):
             ended = scene.call(words)
-            self.same(f"{words}", (ended.status, b"is not UTF-8, and the server sees no such names" in ended.errors),
-                      (2, True))
+            self.same(
+                f"{words}",
+                (ended.status, b"is not UTF-8, and the server sees no such names" in ended.errors),
+                (2, True),
+            )
             self.same(f"{words}: one line", ended.errors.count(b"\n"), 1)
         other = {"LC_ALL": "C", "PYTHONUTF8": "0", "PYTHONCOERCECLOCALE": "0"}
         self.same("a locale without UTF-8", scene.wq("find", "odd", "ü", **other).output, "odd/ü\n".encode())
@@ -182,29 +215,41 @@ class Finding(Beside):
         for words, reason in (
             (["-t", "x"], f'{letters} "x"; the server sees no permissions'),
             (["--size", "big"], f'{size} "big"'),
-            (["--newer", "soon"],
-             "--newer takes an age, such as 30s, 10min, 2h, 3d or 1w, or a date, such as 2026-11-28 or '2026-11-28 "
-             "10:00', "
-             'and not "soon"'),
+            (
+                ["--newer", "soon"],
+                "--newer takes an age, such as 30s, 10min, 2h, 3d or 1w, or a date, such as 2026-11-28 or '2026-11-28 "
+                "10:00', "
+                'and not "soon"',
+            ),
             (["--frob"], "there is no option --frob; see `wq find --help`"),
             (["-e"], "argument -e/--extension: expected one argument; see `wq find --help`"),
             (["/not/there"], "/not/there: No such file or directory"),
-            (["--program", "p", "-t", "f"],
-             "--program takes the place of -i, -t, --size, --newer, --older, --exclude, --max-depth, --min-depth and "
-             "--expression; "
-             "take them out"),
+            (
+                ["--program", "p", "-t", "f"],
+                "--program takes the place of -i, -t, --size, --newer, --older, --exclude, --max-depth, --min-depth and "
+                "--expression; "
+                "take them out",
+            ),
             (["--program", "p", "*.c", "-e", "c"], "--program takes globs or -e beside it, and not both"),
         ):
             wrong(self, scene, ["find", *words], reason)
-        json_reason = ("--expression, column 2: Expecting value; a text has double quotes, and the shell takes them "
-                       "away: put single quotes around the whole")
+        json_reason = (
+            "--expression, column 2: Expecting value; a text has double quotes, and the shell takes them "
+            "away: put single quotes around the whole"
+        )
         wrong(self, scene, ["find", "--expression", "[suffix,c]"], "E2: not JSON", json_reason, status=3)
 
     def check_programs(self, scene: Scene) -> None:
         tool = [str(built.TOP / "clients" / "wqasm"), "add", "large", str(built.TOP / "examples" / "large.program")]
         with scene.client() as client:
-            wrong(self, scene, ["find", "--program", "large"], "E34: no such program",
-                  'no program is stored as "large"; none is stored, and `wqasm add NAME FILE` stores one', status=3)
+            wrong(
+                self,
+                scene,
+                ["find", "--program", "large"],
+                "E34: no such program",
+                'no program is stored as "large"; none is stored, and `wqasm add NAME FILE` stores one',
+                status=3,
+            )
             added = subprocess.run(tool, env=scene.environment, stdout=subprocess.PIPE)
             self.same("wqasm add at the default socket", added.returncode, 0)
             scene.write("huge/h", "x" * 1_048_577)
@@ -212,30 +257,54 @@ class Finding(Beside):
             self.same("find --program", scene.names("find", "--program", "large"), ["huge/h"])
             self.same("find DIR --program", scene.names("find", "huge", "--program", "large"), ["huge/h"])
             for globs, expected in (
-                (["h*"], "huge/h\n"), (["*.c"], ""), (["huge/*"], "huge/h\n"), (["./h"], ""),
+                (["h*"], "huge/h\n"),
+                (["*.c"], ""),
+                (["huge/*"], "huge/h\n"),
+                (["./h"], ""),
                 (["*.c", "h*"], "huge/h\n"),
-                (["huge", "h"], "huge/h\n"), (["huge", "./h"], "huge/h\n"), (["src", "h*"], ""), (["-e", "c"], ""),
+                (["huge", "h"], "huge/h\n"),
+                (["huge", "./h"], "huge/h\n"),
+                (["src", "h*"], ""),
+                (["-e", "c"], ""),
             ):
                 found = scene.wq("find", "--program", "large", *globs)
                 self.same(f"find --program {globs}", found, built.Ended(expected.encode(), b"", 0 if expected else 1))
-            wrong(self, scene, ["find", "huge", "--program", "large", "-e", "c"],
-                  "-e beside --program is for a whole root; take a glob for a directory below it")
-            self.same("find --program --all", scene.names("find", "--program", "large", "--all"),
-                      ["huge/h", "target/t"])
-            wrong(self, scene, ["find", "--program", "lage"], "E34: no such program",
-                  'no program is stored as "lage"; did you mean "large"?', status=3)
+            wrong(
+                self,
+                scene,
+                ["find", "huge", "--program", "large", "-e", "c"],
+                "-e beside --program is for a whole root; take a glob for a directory below it",
+            )
+            self.same(
+                "find --program --all", scene.names("find", "--program", "large", "--all"), ["huge/h", "target/t"]
+            )
+            wrong(
+                self,
+                scene,
+                ["find", "--program", "lage"],
+                "E34: no such program",
+                'no program is stored as "lage"; did you mean "large"?',
+                status=3,
+            )
             self.same("the programs", client.ask("program-list")["programs"], ["large"])
 
     def test_roots(self) -> None:
         """The root of a project is watched, and find gives it back."""
         with Scene(self.room) as scene, scene.client() as client:
+
             def watched() -> object:
                 return client.ask("watch-list")["roots"]
 
             scene.names("find", "src")
             self.same("find leaves no root", watched(), [])
-            wrong(self, scene, ["find", "--expression", '["sufix","c"]'], "E24: unknown term",
-                  'at expression: "sufix" is no term; did you mean "suffix"?', status=3)
+            wrong(
+                self,
+                scene,
+                ["find", "--expression", '["sufix","c"]'],
+                "E24: unknown term",
+                'at expression: "sufix" is no term; did you mean "suffix"?',
+                status=3,
+            )
             self.same("nor does one that is refused", watched(), [])
             scene.names("find", "src", "--keep")
             self.same("find --keep", watched(), [str(scene.tree)])
@@ -247,16 +316,23 @@ class Finding(Beside):
                 (project / name).touch()
                 self.same(f"the root by {name}", scene.names("watch", project / "in" / "side"), [str(project)])
             (self.room / "plain" / "below").mkdir(parents=True)
-            self.same("a directory of no project", scene.names("watch", self.room / "plain"),
-                      [str(self.room / "plain")])
-            self.same("one below a watched root", scene.names("watch", self.room / "plain" / "below"),
-                      [str(self.room / "plain")])
+            self.same(
+                "a directory of no project", scene.names("watch", self.room / "plain"), [str(self.room / "plain")]
+            )
+            self.same(
+                "one below a watched root",
+                scene.names("watch", self.room / "plain" / "below"),
+                [str(self.room / "plain")],
+            )
             (self.room / "link").symlink_to(scene.tree / "src")
-            self.same("a link to a directory", scene.names("find", self.room / "link", "*.h"),
-                      [f"{self.room}/link/deep/c.h"])
-            self.same("ten directories of a project are one root", watched(),
-                      [str(scene.tree), str(self.room / "hg"), str(self.room / "watchmanconfig"),
-                       str(self.room / "plain")])
+            self.same(
+                "a link to a directory", scene.names("find", self.room / "link", "*.h"), [f"{self.room}/link/deep/c.h"]
+            )
+            self.same(
+                "ten directories of a project are one root",
+                watched(),
+                [str(scene.tree), str(self.room / "hg"), str(self.room / "watchmanconfig"), str(self.room / "plain")],
+            )
             # As if another command had begun to need the root while find had it watched.
             client.ask("watch-del", str(scene.tree))
             scene.names("find", "src")

@@ -18,10 +18,57 @@ TREES, AT_ONCE = 300, 15
 DIRECTORIES = ["a", "b", "build", "a b", ".x"]
 FILES = ["a", "b", "c.o", "keep.o", "#c", "!d", "a b", "Build", ".x", "é", "[a]"]
 LINES = [
-    "a", "/a", "a/", "/a/", "b", "b/", "*.o", "!keep.o", "build/", "/build/*", "!/build/keep.o", "!build/", "b/*",
-    "!b/a", "**/b", "a/**", "!a/**/keep.o", "a/**/b", "[ab]", "[!a]", "?", "\\#c", "#c", "\\!d", "!d", "a b", "a b ",
-    "a\\ b", "*", "!*/", "!a", "!*.o", ".x", ".*", "!.gitignore", "é", "??", "\\[a\\]", "[a]", "b/build", "/*/a",
-    "a/b/c.o", "\\", "[", "**", "B*", "b**/", "***/a", "", "   ", "x" * 300,
+    "a",
+    "/a",
+    "a/",
+    "/a/",
+    "b",
+    "b/",
+    "*.o",
+    "!keep.o",
+    "build/",
+    "/build/*",
+    "!/build/keep.o",
+    "!build/",
+    "b/*",
+    "!b/a",
+    "**/b",
+    "a/**",
+    "!a/**/keep.o",
+    "a/**/b",
+    "[ab]",
+    "[!a]",
+    "?",
+    "\\#c",
+    "#c",
+    "\\!d",
+    "!d",
+    "a b",
+    "a b ",
+    "a\\ b",
+    "*",
+    "!*/",
+    "!a",
+    "!*.o",
+    ".x",
+    ".*",
+    "!.gitignore",
+    "é",
+    "??",
+    "\\[a\\]",
+    "[a]",
+    "b/build",
+    "/*/a",
+    "a/b/c.o",
+    "\\",
+    "[",
+    "**",
+    "B*",
+    "b**/",
+    "***/a",
+    "",
+    "   ",
+    "x" * 300,
 ]
 
 
@@ -43,15 +90,16 @@ class Ignoring(Beside):
             for name in names:
                 draw_tree(draw, self.room / "drawn" / name, model / ".git", is_large=name.endswith(("00", "50")))
             for place in range(0, TREES, AT_ONCE):
-                some = names[place:place + AT_ONCE]
+                some = names[place : place + AT_ONCE]
                 ended = scene.call(["find", "-0", "-t", "f,l", *(str(self.room / "drawn" / name) for name in some)])
                 front = f"{self.room}/drawn/"
-                found = [line[len(front):] for line in os.fsdecode(ended.output).split("\0")[:-1]]
+                found = [line[len(front) :] for line in os.fsdecode(ended.output).split("\0")[:-1]]
                 for name in some:
-                    listed = git(self.room / "drawn" / name, "ls-files", "-z", "--cached", "--others",
-                                 "--exclude-standard")
+                    listed = git(
+                        self.room / "drawn" / name, "ls-files", "-z", "--cached", "--others", "--exclude-standard"
+                    )
                     expected = sorted(set(listed.split(b"\0")[:-1]))
-                    own = [os.fsencode(line[len(name) + 1:]) for line in found if line.startswith(f"{name}/")]
+                    own = [os.fsencode(line[len(name) + 1 :]) for line in found if line.startswith(f"{name}/")]
                     rules = [] if own == expected else (self.room / "drawn" / name).rglob(".gitignore")
                     self.same(f"{name}: {[path.read_text() for path in rules]}", (own, ended.errors), (expected, b""))
 
@@ -72,8 +120,16 @@ class Ignoring(Beside):
             self.check_without_git(scene)
 
     def check_ignored_in_lists(self, scene: Scene) -> None:
-        left = [".gitignore", "Makefile", "src/.gitignore", "src/a.c", "src/b b.c", "src/deep/c.h", "src/keep.o",
-                "src/out"]
+        left = [
+            ".gitignore",
+            "Makefile",
+            "src/.gitignore",
+            "src/a.c",
+            "src/b b.c",
+            "src/deep/c.h",
+            "src/keep.o",
+            "src/out",
+        ]
         ignored = ["dist/in/y.js", "dist/x.js", "out", "src/a.o", "src/dist/z.js"]
         for words, expected in (
             ([], left),
@@ -101,17 +157,21 @@ class Ignoring(Beside):
         for path, settings in (
             (".config/git/ignore", {"XDG_CONFIG_HOME": ""}),
             ("xdg/git/ignore", {"XDG_CONFIG_HOME": str(scene.room / "xdg")}),
-            ("mine", {"GIT_CONFIG_COUNT": "1", "GIT_CONFIG_KEY_0": "core.excludesFile",
-                      "GIT_CONFIG_VALUE_0": "~/mine"}),
+            (
+                "mine",
+                {"GIT_CONFIG_COUNT": "1", "GIT_CONFIG_KEY_0": "core.excludesFile", "GIT_CONFIG_VALUE_0": "~/mine"},
+            ),
         ):
             (scene.room / path).parent.mkdir(parents=True, exist_ok=True)
             (scene.room / path).write_text("c.h\n")
             self.same(f"ignored by {path}", scene.wq("find", "*.h", "M*", **settings).output, b"Makefile\n")
             (scene.room / path).unlink()
         scene.write(".ignore", "Makefile\n!src/a.o\ndeep/\n")
-        self.same(".ignore beside .gitignore", scene.names("find", "-t", "f"),
-                  [".gitignore", ".ignore", "src/.gitignore", "src/a.c", "src/a.o", "src/b b.c", "src/keep.o",
-                   "src/out"])
+        self.same(
+            ".ignore beside .gitignore",
+            scene.names("find", "-t", "f"),
+            [".gitignore", ".ignore", "src/.gitignore", "src/a.c", "src/a.o", "src/b b.c", "src/keep.o", "src/out"],
+        )
         (scene.tree / ".ignore").unlink()
         plain = scene.room / "plain"
         for name, text in (("a.o", "x"), ("b", "x"), ("in/c", "x"), (".gitignore", "*.o\nin/\n")):
@@ -121,14 +181,20 @@ class Ignoring(Beside):
         self.same("a .gitignore in no repository", scene.names("find", plain), names)
         self.same("--gitignore in no repository", scene.names("find", plain, "--gitignore"), [names[0], names[2]])
         (plain / ".ignore").write_text("!a.o\n")
-        self.same("--gitignore with .ignore", scene.names("find", plain, "--gitignore"),
-                  [names[0], f"{plain}/.ignore", *names[1:3]])
+        self.same(
+            "--gitignore with .ignore",
+            scene.names("find", plain, "--gitignore"),
+            [names[0], f"{plain}/.ignore", *names[1:3]],
+        )
 
     def check_tracked(self, scene: Scene) -> None:
         """An ignored file that git tracks is listed, and of its directory nothing else."""
         git(scene.tree, "add", "--force", "dist/in/y.js", "src/a.o")
-        self.same("ignored files that are tracked", scene.names("find", "*.o", "dist/**", "/dis?"),
-                  ["dist", "dist/in", "dist/in/y.js", "src/a.o", "src/keep.o"])
+        self.same(
+            "ignored files that are tracked",
+            scene.names("find", "*.o", "dist/**", "/dis?"),
+            ["dist", "dist/in", "dist/in/y.js", "src/a.o", "src/keep.o"],
+        )
         git(scene.tree, "rm", "--quiet", "--cached", "dist/in/y.js", "src/a.o")
         self.same("once they are not", scene.names("find", "*.o", "dist/**"), ["src/keep.o"])
 
@@ -188,14 +254,17 @@ class Ignoring(Beside):
         git(inner, "init", "--quiet")
         for name, text in (("a.o", "x"), ("b.c", "x"), (".gitignore", "b.c\n")):
             (inner / name).write_text(text)
-        self.same("a repository in another one", scene.names("find", "inner/*", "*.o"),
-                  ["inner/.gitignore", "inner/a.o", "src/keep.o"])
+        self.same(
+            "a repository in another one",
+            scene.names("find", "inner/*", "*.o"),
+            ["inner/.gitignore", "inner/a.o", "src/keep.o"],
+        )
         scene.write("dist/inner/x")
         shutil.copytree(inner / ".git", scene.tree / "dist" / "inner" / ".git")
         self.same("one that the other ignores", scene.wq("find", "?", "-t", "f"), built.Ended(b"", b"", 1))
         scene.write("src/.watchmanconfig", "{}")
         self.same("a root below its repository", scene.names("find", "src", "*.o", "*.js"), ["src/keep.o"])
-        (scene.room / "monitor").write_text("#!/bin/sh\necho > \"$0.ran\"\n")
+        (scene.room / "monitor").write_text('#!/bin/sh\necho > "$0.ran"\n')
         (scene.room / "monitor").chmod(0o755)
         git(scene.tree, "config", "core.fsmonitor", str(scene.room / "monitor"))
         self.same("a repository that names a program", scene.names("find", "src", "*.o"), ["src/keep.o"])

@@ -34,14 +34,23 @@ def cases() -> List[Wrong]:
 LONG_ONES: List[Wrong] = [
     (f'"glob":["*.c","{LONG}"]', "E28: pattern too long", f"at glob[1]: {TOO_LONG}"),
     (f'"expression":["anyof",["match","{LONG}"]]', "E28: pattern too long", f"at expression[1]: {TOO_LONG}"),
-    ('"expression":' + '["not",' * 64 + '"exists"' + "]" * 64, "E26: expression too deep",
-     f"{DEEPEST}: 64 terms may be inside one another, and this one is the 65th"),
+    (
+        '"expression":' + '["not",' * 64 + '"exists"' + "]" * 64,
+        "E26: expression too deep",
+        f"{DEEPEST}: 64 terms may be inside one another, and this one is the 65th",
+    ),
     ('"expression":' + '["not",' * 63 + '["sufix"]' + "]" * 63, UNKNOWN, f"{DEEPEST}: {SUFIX}"),
-    ('"expression":["allof"' + ',["anyof","true"]' * 20_000 + ',["type","f"],["sufix"],["sufix"]]', UNKNOWN,
-     f"at expression[20002]: {SUFIX}"),
-    ('"expression":["allof"' + ',"true"' * 21_846 + "]", "E30: program too large",
-     "the program of an expression has at most 65,536 instructions, and a list of it as many texts; name many files by "
-     'one list: ["name",[..]]'),
+    (
+        '"expression":["allof"' + ',["anyof","true"]' * 20_000 + ',["type","f"],["sufix"],["sufix"]]',
+        UNKNOWN,
+        f"at expression[20002]: {SUFIX}",
+    ),
+    (
+        '"expression":["allof"' + ',"true"' * 21_846 + "]",
+        "E30: program too large",
+        "the program of an expression has at most 65,536 instructions, and a list of it as many texts; name many files by "
+        'one list: ["name",[..]]',
+    ),
 ]
 
 
@@ -98,7 +107,7 @@ class Placing(Beside):
             lines = cases()
             ended, answers = relayed(scene, "".join(line.replace("@", root) + "\n" for line, _, _ in lines))
             replies = [json.loads(line) for line in ended.output.splitlines()]
-            sentences = [line[len("wq: "):] for line in ended.errors.decode().splitlines()]
+            sentences = [line[len("wq: ") :] for line in ended.errors.decode().splitlines()]
             self.same("a reply and a sentence for each line", (len(replies), len(sentences)), (len(lines), len(lines)))
             for (line, error, expected), reply, sentence in zip(lines, replies, sentences):
                 short = line if len(line) < 80 else line[:80] + ".."
@@ -119,8 +128,14 @@ class Placing(Beside):
             term = '["allof",["type","f"],["sufix","c"]]'
             called = ["find", "src", "*.c", "--expression", term]
             wrong(self, scene, called, UNKNOWN, f"at expression[2]: {SUFIX}", status=3)
-            wrong(self, scene, ["find", "--expression", '["type","f"'], "E2: not JSON",
-                  "--expression, column 12: Expecting ',' delimiter", status=3)
+            wrong(
+                self,
+                scene,
+                ["find", "--expression", '["type","f"'],
+                "E2: not JSON",
+                "--expression, column 12: Expecting ',' delimiter",
+                status=3,
+            )
 
     def test_no_places(self) -> None:
         """A server that ends, or lets the root go, before it has said where the fault is: the error has no place."""
@@ -131,8 +146,10 @@ class Placing(Beside):
             reply = b'{"error":"E25: wrong term arguments","version":"wq-1"}\n'
             whole, answers = relayed(scene, line)
             lines = len(answers)
-            sentence = ('at expression[2][1]: "type" takes one letter (f file, d directory, l link, b c p s D), such '
-                        'as ["type","f"], and this is ["type","dir"]; did you mean ["type","d"]?')
+            sentence = (
+                'at expression[2][1]: "type" takes one letter (f file, d directory, l link, b c p s D), such '
+                'as ["type","f"], and this is ["type","dir"]; did you mean ["type","d"]?'
+            )
             self.same("a place through a relay", whole, built.Ended(reply, said(sentence), 3))
             for last in range(1, lines):
                 found, _ = relayed(scene, line, lambda count: count < last)

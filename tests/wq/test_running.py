@@ -95,8 +95,9 @@ class Running(Beside):
         with scene.begin("run", "src", "*.h", "--stdin", "-0", "--once", "--", "cat") as going:
             self.same("with bytes 0", (going.ends(), going.output), (0, b"./src/-z.h\0./src/deep/c.h\0"))
         with scene.begin("run", scene.tree / "src", "?z.h", "--once", "--", "echo", "{}") as going:
-            self.same("a directory by its whole path", (going.ends(), going.output),
-                      (0, f"{scene.tree}/src/-z.h\n".encode()))
+            self.same(
+                "a directory by its whole path", (going.ends(), going.output), (0, f"{scene.tree}/src/-z.h\n".encode())
+            )
         with scene.begin("run", "?z.h", "src/deep", "src", "--once", "--", "echo", "{}") as going:
             self.same("two directories", (going.ends(), going.output), (0, b"./src/-z.h\n"))
         wrong(self, scene, ["run", "*.nothing", "--once", "--", "echo", "{}"], "no file matches", status=1)
@@ -106,8 +107,9 @@ class Running(Beside):
             self.same("run --postpone --once", (going.ends(), going.output), (0, b"./src/deep/c.h\n"))
         with scene.begin("run", "*.nothing", "--", "echo", "{}") as going:
             going.waits_for(lambda _: is_asked(scene))
-            self.same("no run without a name", (going.ends(signal.SIGINT), going.output, following(going)),
-                      (130, b"", b""))
+            self.same(
+                "no run without a name", (going.ends(signal.SIGINT), going.output, following(going)), (130, b"", b"")
+            )
 
     def check_restart_of_runs(self, scene: Scene, log: Log) -> None:
         """A run and all that it started get SIGTERM; one that stays gets SIGKILL."""
@@ -119,8 +121,9 @@ class Running(Beside):
             self.same("Ctrl-C ends the other", going.ends(signal.SIGINT), 130)
         log.hold.unlink()
         log.clear()
-        stays = ("trap '' TERM; sleep 1000 & echo $! > \"$LOG.child\"; echo run >> \"$LOG\"; "
-                 "while :; do sleep 0.05; done")
+        stays = (
+            'trap \'\' TERM; sleep 1000 & echo $! > "$LOG.child"; echo run >> "$LOG"; ' "while :; do sleep 0.05; done"
+        )
         with scene.begin("run", "--restart", "*.c", "--", "sh", "-c", stays) as going:
             self.check("a run that stays", going.waits_for(has_runs(log, 1)))
             child = int(Path(f"{log.path}.child").read_text())
@@ -144,18 +147,28 @@ class Running(Beside):
                 self.same(f"run --once of {script}", ended, built.Ended(b"", said(words), status))
             self.same("what a command prints", scene.wq("run", "--once", "--", "echo", "a b").output, b"a b\n")
             self.same("two dashes in a command", scene.wq("run", "--once", "--", "echo", "--", "-x").output, b"-- -x\n")
-            self.same("the directory of a command", scene.wq("run", "src", "--once", "--", "pwd").output,
-                      f"{scene.tree}\n".encode())
-            self.same("bytes that are no UTF-8 for a command",
-                      scene.call(["run", "--once", "--", "printf", b"\xff"]).output, b"\xff")
+            self.same(
+                "the directory of a command",
+                scene.wq("run", "src", "--once", "--", "pwd").output,
+                f"{scene.tree}\n".encode(),
+            )
+            self.same(
+                "bytes that are no UTF-8 for a command",
+                scene.call(["run", "--once", "--", "printf", b"\xff"]).output,
+                b"\xff",
+            )
             wrong(self, scene, ["run", "--once", "--", "not-there"], "not-there: there is no such command", status=127)
             (scene.tree / "plain").write_text("no program")
             wrong(self, scene, ["run", "--once", "--", "./plain"], "./plain: Permission denied", status=126)
             reason = "run takes `--` and a command after it, such as: wq run '*.c' -- make"
             for words in (["run"], ["run", "*.c"], ["run", "*.c", "--"]):
                 wrong(self, scene, words, reason)
-            wrong(self, scene, ["run", "--quiet", "x", "--", "true"],
-                  "argument --quiet: invalid int value: 'x'; see `wq run --help`")
+            wrong(
+                self,
+                scene,
+                ["run", "--quiet", "x", "--", "true"],
+                "argument --quiet: invalid int value: 'x'; see `wq run --help`",
+            )
             wrong(self, scene, ["run", "--quiet=-1", "--", "true"], "--quiet takes a number of milliseconds from 0 on")
 
 

@@ -39,13 +39,17 @@ class ServingTold(Beside):
             self.same("the words of the server", words_of(process)[-6:], words)
             ended = said(f"the server at {scene.sockname} has ended")
             self.same("restart", scene.wq("restart"), built.Ended(b"", ended + started, 0))
-            self.same("restart keeps the words", words_of(facts(scene)["process"])[-4:],
-                      ["--interval", "50", "--workers", "2"])
+            self.same(
+                "restart keeps the words",
+                words_of(facts(scene)["process"])[-4:],
+                ["--interval", "50", "--workers", "2"],
+            )
             self.same("another process", facts(scene)["process"] != process, True)
             scene.wq("watch")
             gone = said("1 root with triggers and cursors went with it; commands that need one watch it again")
-            self.same("restart with words", scene.wq("restart", "--share", "50"),
-                      built.Ended(b"", ended + gone + started, 0))
+            self.same(
+                "restart with words", scene.wq("restart", "--share", "50"), built.Ended(b"", ended + gone + started, 0)
+            )
             self.same("those words", words_of(facts(scene)["process"])[-4:], ["--interval", "100", "--share", "50"])
             self.same("stop", scene.wq("stop"), built.Ended(b"", ended, 0))
             self.same("restart of none", scene.wq("restart"), built.Ended(b"", started, 0))
@@ -53,8 +57,11 @@ class ServingTold(Beside):
             self.same("the usual words", words_of(facts(scene)["process"])[-4:], usual)
             scene.wq("stop")
             failed = scene.wq("start", "--interval", "1")
-            self.same("start with a wrong word", (failed.status, b"--interval takes a number from 10" in failed.errors),
-                      (3, True))
+            self.same(
+                "start with a wrong word",
+                (failed.status, b"--interval takes a number from 10" in failed.errors),
+                (3, True),
+            )
             self.check_starts_at_once(scene)
             self.check_sockets(scene)
 
@@ -64,7 +71,8 @@ class ServingTold(Beside):
             ("0::/user.slice/user-1000.slice/user@1000.service/app.slice/wqd.service\n", True),
             ("1:name=systemd:/a/wqd.service\n0::/b\n", True),
             ("0::/user.slice/user-1000.slice/user@1000.service/app.slice/vte.scope\n", False),
-            ("0::/\n", False), ("", False),
+            ("0::/\n", False),
+            ("", False),
         ):
             self.same(f"the unit in {groups!r}", names_unit(groups), expected)
         self.same("the unit of this process", is_of_unit(os.getpid()), False)
@@ -80,8 +88,9 @@ class ServingTold(Beside):
         for state, expected in (("active", True), ("activating", True), ("inactive", False)):
             systemctl.write_text(f"#!/bin/sh\necho {state}\n")
             systemctl.chmod(0o755)
-            with socket.socket(socket.AF_UNIX) as stream, \
-                    mock.patch.dict(os.environ, PATH=f"{commands}:{os.environ['PATH']}"):
+            with socket.socket(socket.AF_UNIX) as stream, mock.patch.dict(
+                os.environ, PATH=f"{commands}:{os.environ['PATH']}"
+            ):
                 stream.bind(sockname)
                 listening = Timer(0.2, stream.listen)
                 listening.start()
@@ -94,18 +103,24 @@ class ServingTold(Beside):
     def test_journal(self) -> None:
         """What the unit's server wrote of a trigger is in the journal of systemd. Lines from before it was registered
         are of another one."""
-        entries = [(10, "listening on /run/wqd.sock"), (20, '"/r": trigger "t" ended with status 1'),
-                   (40, '"/r": trigger "t" ended with status 2'), (50, list(b"\xff")), (60, None)]
-        written = "".join(json.dumps({"__REALTIME_TIMESTAMP": str(second), "MESSAGE": message}) + "\n"
-                          for second, message in entries)
+        entries = [
+            (10, "listening on /run/wqd.sock"),
+            (20, '"/r": trigger "t" ended with status 1'),
+            (40, '"/r": trigger "t" ended with status 2'),
+            (50, list(b"\xff")),
+            (60, None),
+        ]
+        written = "".join(
+            json.dumps({"__REALTIME_TIMESTAMP": str(second), "MESSAGE": message}) + "\n" for second, message in entries
+        )
         (self.room / "journal").write_text(written)
         journalctl = self.room / "journalctl"
         journalctl.write_text(f"#!/bin/sh\ncat '{self.room}/journal'\n")
         journalctl.chmod(0o755)
         server = SimpleNamespace(sockname="/run/wqd.sock", peer=SimpleNamespace(process=os.getpid()))
-        with mock.patch.dict(os.environ, PATH=f"{self.room}:{os.environ['PATH']}"), \
-                mock.patch("wq.server_log.is_in_journal", return_value=True), \
-                mock.patch("wq.server_log.registered_at", return_value=30):
+        with mock.patch.dict(os.environ, PATH=f"{self.room}:{os.environ['PATH']}"), mock.patch(
+            "wq.server_log.is_in_journal", return_value=True
+        ), mock.patch("wq.server_log.registered_at", return_value=30):
             log = Log(server)
             self.same("failures", log.failures("/r", "t"), Failures(1, "ended with status 2"))
             self.same("where the log is", log.words(), "journalctl --user -u wqd")
@@ -114,9 +129,16 @@ class ServingTold(Beside):
 
     def check_starts_at_once(self, scene: Scene) -> None:
         """Of commands that start a server at once one does, and the others wait for it."""
-        calls = [subprocess.Popen([COMMAND, "find", "*.h", "--keep"], cwd=scene.tree, stdout=subprocess.PIPE,
-                                  stderr=subprocess.PIPE,
-                                  env=scene.environment) for _ in range(4)]
+        calls = [
+            subprocess.Popen(
+                [COMMAND, "find", "*.h", "--keep"],
+                cwd=scene.tree,
+                stdout=subprocess.PIPE,
+                stderr=subprocess.PIPE,
+                env=scene.environment,
+            )
+            for _ in range(4)
+        ]
         ended = [call.communicate(timeout=PATIENCE) for call in calls]
         self.same("what commands at once find", [output for output, _ in ended], [b"src/deep/c.h\n"] * 4)
         started = said(f"started a server at {scene.sockname}")
@@ -127,8 +149,9 @@ class ServingTold(Beside):
         """Places of the socket, and sockets that cannot be."""
         named = scene.room / "named"
         self.same("WQD_SOCK", scene.wq("start", WQD_SOCK=str(named)).errors, said(f"started a server at {named}"))
-        self.same("its status", json.loads(scene.wq("status", "--json", WQD_SOCK=str(named)).output)["socket"],
-                  str(named))
+        self.same(
+            "its status", json.loads(scene.wq("status", "--json", WQD_SOCK=str(named)).output)["socket"], str(named)
+        )
         scene.wq("stop", WQD_SOCK=str(named))
         own = scene.room / f"wqd-{os.getuid()}"
         ended = scene.wq("start", XDG_RUNTIME_DIR="")
@@ -142,8 +165,9 @@ class ServingTold(Beside):
         own.symlink_to(scene.runtime)
         self.same("a link in its place", scene.wq("find", XDG_RUNTIME_DIR=""), refused)
         missing = scene.wq("find", WQD_SOCK=str(scene.room / "no" / "sock"))
-        self.same("a socket in no directory", (missing.status, b"No such file or directory" in missing.errors),
-                  (3, True))
+        self.same(
+            "a socket in no directory", (missing.status, b"No such file or directory" in missing.errors), (3, True)
+        )
         long = scene.wq("find", WQD_SOCK=str(scene.room / ("x" * 120)))
         self.same("a path that is too long", (long.status, long.errors.count(b"\n")), (3, 1))
         broken = scene.room / "broken"
@@ -179,16 +203,24 @@ class ServingTold(Beside):
             self.same("its last change", root["changed_within"] in (1, 10, 60), True)
             triggers = [(trigger["name"], trigger["command"]) for trigger in root["triggers"]]
             self.same("its triggers", triggers, [("build", ["make", "all targets"])])
-            self.same("a root that is gone", found["roots"][1],
-                      {"root": str(self.room / "gone"), "error": "E11: root cannot be read"})
+            self.same(
+                "a root that is gone",
+                found["roots"][1],
+                {"root": str(self.room / "gone"), "error": "E11: root cannot be read"},
+            )
             programs = [{"name": "large", "budget": 7}, {"name": "other", "budget": None}]
             self.same("the programs", found["programs"], programs)
             text = scene.wq("status").output.decode()
-            for part in (f"socket    {scene.sockname}\n", "clients   1 beside this one",
-                         "7 files and 6 directories, tick 1, a crawl takes",
-                         "trigger build: make 'all targets'", "E11: root cannot be read",
-                         "program   large, budget 7 steps a file",
-                         "program   other, budget unknown", f"process   {found['process']}, "):
+            for part in (
+                f"socket    {scene.sockname}\n",
+                "clients   1 beside this one",
+                "7 files and 6 directories, tick 1, a crawl takes",
+                "trigger build: make 'all targets'",
+                "E11: root cannot be read",
+                "program   large, budget 7 steps a file",
+                "program   other, budget unknown",
+                f"process   {found['process']}, ",
+            ):
                 self.check(f"status has {part!r}", part in text, text.splitlines())
 
     def test_watches(self) -> None:
@@ -200,8 +232,9 @@ class ServingTold(Beside):
             self.same("roots --json", json.loads(scene.wq("roots", "--json").output)["roots"], [str(scene.tree)])
             wrong(self, scene, ["watch", "not-there"], "not-there: No such file or directory")
             wrong(self, scene, ["watch", "Makefile"], "Makefile: Not a directory")
-            wrong(self, scene, ["unwatch", self.room], f"{self.room} is not watched; watched are {scene.tree}",
-                  status=1)
+            wrong(
+                self, scene, ["unwatch", self.room], f"{self.room} is not watched; watched are {scene.tree}", status=1
+            )
             self.same("unwatch of a part", scene.names("unwatch", "src"), [str(scene.tree)])
             wrong(self, scene, ["unwatch"], ". is not watched; no root is", status=1)
             names = [str(self.room / f"r{number:02}") for number in range(17)]
@@ -236,16 +269,35 @@ class ServingTold(Beside):
             self.same("untrigger", scene.wq("untrigger", ".", "t"), built.Ended(b"", b"", 0))
             wrong(self, scene, ["untrigger", ".", "t"], f"{scene.tree} has no trigger t", status=1)
             self.same("no triggers", scene.wq("triggers"), built.Ended(b"", b"", 1))
-            wrong(self, scene, ["trigger", ".", "t"],
-                  "trigger takes `--` and a command after it, such as: wq trigger build '*.c' -- make")
+            wrong(
+                self,
+                scene,
+                ["trigger", ".", "t"],
+                "trigger takes `--` and a command after it, such as: wq trigger build '*.c' -- make",
+            )
             for command in (["echo", "{}", "x"], ["{}"]):
-                wrong(self, scene, ["trigger", ".", "t", "--", *command],
-                      "the names of files come last in the command of a trigger, so {} may be its last word alone")
-            wrong(self, scene, ["trigger", ".", "n" * 256, "--", "true"], "E36: bad name",
-                  f'the name has 256 bytes, and at most 255 may be: "{"n" * 59}..', status=3)
-            wrong(self, scene, ["triggers", self.room], "E14: root is not watched",
-                  f'"{self.room}" is not watched; did you mean "{scene.tree}"?. ["watch","{self.room}"] watches it',
-                  status=3)
+                wrong(
+                    self,
+                    scene,
+                    ["trigger", ".", "t", "--", *command],
+                    "the names of files come last in the command of a trigger, so {} may be its last word alone",
+                )
+            wrong(
+                self,
+                scene,
+                ["trigger", ".", "n" * 256, "--", "true"],
+                "E36: bad name",
+                f'the name has 256 bytes, and at most 255 may be: "{"n" * 59}..',
+                status=3,
+            )
+            wrong(
+                self,
+                scene,
+                ["triggers", self.room],
+                "E14: root is not watched",
+                f'"{self.room}" is not watched; did you mean "{scene.tree}"?. ["watch","{self.room}"] watches it',
+                status=3,
+            )
 
     def check_names_of_triggers(self, scene: Scene) -> None:
         """The directory may come before the name, and is the current one without. What is neither is refused."""
@@ -254,11 +306,15 @@ class ServingTold(Beside):
         self.same("untrigger here", scene.wq("untrigger", "u"), built.Ended(b"", b"", 0))
         for words, sentence in (
             (["trigger", "srk", "build", "--", "true"], "build is no file here; write './build' for one that may come"),
-            (["trigger", "build", "src", "--", "true"],
-             "src is a directory; a trigger has one, which comes before its name"),
+            (
+                ["trigger", "build", "src", "--", "true"],
+                "src is a directory; a trigger has one, which comes before its name",
+            ),
             (["trigger", "src", "*.c", "--", "true"], "src is a directory, and the name of the trigger comes after it"),
-            (["trigger", "--", "true"],
-             "the name of the trigger is missing, such as in: wq trigger build '*.c' -- make"),
+            (
+                ["trigger", "--", "true"],
+                "the name of the trigger is missing, such as in: wq trigger build '*.c' -- make",
+            ),
             (["untrigger"], "the name of the trigger is missing, such as in: wq untrigger build"),
             (["untrigger", ".", "t", "u"], "untrigger takes one name: u"),
         ):
@@ -274,33 +330,44 @@ class ServingTold(Beside):
             scene.wq("trigger", "good", "*.h", "--", "true")
             once = "; failed 1 time since it was registered"
             lines = [
-                "fails: sh -c 'echo unread; exit 3'", f"  last failure: ended with status 3{once}",
-                "killed: sh -c 'kill -9 $$'", f"  last failure: ended by signal 9{once}",
-                "no-file: ./not-there", "  last failure: could not be started: No such file or directory (os error 2)",
+                "fails: sh -c 'echo unread; exit 3'",
+                f"  last failure: ended with status 3{once}",
+                "killed: sh -c 'kill -9 $$'",
+                f"  last failure: ended by signal 9{once}",
+                "no-file: ./not-there",
+                "  last failure: could not be started: No such file or directory (os error 2)",
                 "no-command: not-there {}",
                 f"  last failure: ended with status 127, which shells say of a command that is not there{once}",
                 "good: true",
             ]
-            self.check("failures of triggers", wait_until(lambda: scene.names("triggers") == lines),
-                       scene.names("triggers"))
+            self.check(
+                "failures of triggers", wait_until(lambda: scene.names("triggers") == lines), scene.names("triggers")
+            )
             scene.write("src/deep/c.h", "changed")
             # A scan may come in the middle of a write, so it may be two more.
             more = re.compile("  last failure: ended with status 3; failed [2-9] times since it was registered")
             self.check("a second failure", wait_until(lambda: bool(more.fullmatch(scene.names("triggers")[1]))))
             scene.wq("trigger", "fails", "*.h", "--", "true")
-            self.same("one that is registered anew has none", scene.names("triggers")[:2],
-                      ["fails: true", "killed: sh -c 'kill -9 $$'"])
+            self.same(
+                "one that is registered anew has none",
+                scene.names("triggers")[:2],
+                ["fails: true", "killed: sh -c 'kill -9 $$'"],
+            )
             (scene.tree / os.fsdecode(b"not\xffutf8")).touch()
             (scene.tree / "closed").mkdir(mode=0)
             shown = "          left out: names that are not UTF-8: 1"
-            self.check("names that are left out", wait_until(lambda: shown in scene.names("status")),
-                       scene.names("status"))
+            self.check(
+                "names that are left out", wait_until(lambda: shown in scene.names("status")), scene.names("status")
+            )
             found = facts(scene)
             closed = 0 if os.getuid() == 0 else 1
             self.same("what is left out", found["roots"][0]["left_out"], {"names": 1, "directories": closed})
             text = scene.names("status")
-            for line in (f"log       {found['log']}", "          trigger killed: sh -c 'kill -9 $$'",
-                         "            last failure: could not be started: No such file or directory (os error 2)"):
+            for line in (
+                f"log       {found['log']}",
+                "          trigger killed: sh -c 'kill -9 $$'",
+                "            last failure: could not be started: No such file or directory (os error 2)",
+            ):
                 self.check(f"status has {line!r}", line in text, text)
             self.same("the log is a file", "listening on" in Path(found["log"]).read_text(), True)
 

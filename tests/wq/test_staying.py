@@ -59,9 +59,13 @@ class Staying(Beside):
             changes = b"~ src/a.c\n~ src/b b.c\n"
             self.same("Ctrl-C after two servers", (going.ends(signal.SIGINT), going.output), (130, changes))
             gap = "; what changed between is not listed"
-            self.is_said("a line for each server", going.errors, FOLLOWING,
-                         f"the server has ended, and another one was started; {FOLLOWING}{gap}",
-                         f"the server has ended, and another one listens; {FOLLOWING}{gap}")
+            self.is_said(
+                "a line for each server",
+                going.errors,
+                FOLLOWING,
+                f"the server has ended, and another one was started; {FOLLOWING}{gap}",
+                f"the server has ended, and another one listens; {FOLLOWING}{gap}",
+            )
         self.same("the root is given back to the third", scene.wq("roots"), built.Ended(b"", b"", 1))
 
     def check_run_after(self, scene: Scene) -> None:
@@ -116,8 +120,10 @@ class Staying(Beside):
             with scene.begin("follow") as window:
                 self.check("a window of a server that will be stopped", window.says("following"))
                 os.kill(process, signal.SIGSTOP)
-                words = f"the server, process {process}, has not answered for 5 s: it is stopped; " \
-                        f"`kill -CONT {process}` lets it go on, and `wq stop` ends it"
+                words = (
+                    f"the server, process {process}, has not answered for 5 s: it is stopped; "
+                    f"`kill -CONT {process}` lets it go on, and `wq stop` ends it"
+                )
                 with scene.begin("find", "*.h") as going:
                     self.check("a stopped server", going.says(f"wq: {words}\n"))
                     self.check("in a window", window.says(f"wq: the server, process {process}, is stopped; "))
@@ -135,18 +141,25 @@ class Staying(Beside):
         busy_at, deaf_at = str(scene.room / "busy"), str(scene.room / "deaf")
         with silent(BUSY, busy_at) as busy, silent(DEAF, deaf_at) as deaf:
             with scene.begin("find", WQD_SOCK=busy_at) as going:
-                asked = (f"the server, process {deaf.pid}, was asked to end, and has not answered: it waits, and took "
-                         "no processor time")
-                lines = said(asked, f"process {deaf.pid} is sent SIGTERM", f"process {deaf.pid} is sent SIGKILL",
-                             f"the server at {deaf_at} has ended")
+                asked = (
+                    f"the server, process {deaf.pid}, was asked to end, and has not answered: it waits, and took "
+                    "no processor time"
+                )
+                lines = said(
+                    asked,
+                    f"process {deaf.pid} is sent SIGTERM",
+                    f"process {deaf.pid} is sent SIGKILL",
+                    f"the server at {deaf_at} has ended",
+                )
                 ended = scene.wq("stop", WQD_SOCK=deaf_at)
                 self.same("stop of a process that hears nothing", ended, built.Ended(b"", lines, 0))
                 self.same("it was killed", deaf.wait(PATIENCE), -signal.SIGKILL)
                 words = f"wq: the server, process {busy.pid}, has not answered for 5 s: it is busy, and took "
                 self.check("a busy server", going.says(words))
                 busy.kill()
-                self.same("one that is killed", (going.ends(), going.errors.endswith(said("the server has ended"))),
-                          (3, True))
+                self.same(
+                    "one that is killed", (going.ends(), going.errors.endswith(said("the server has ended"))), (3, True)
+                )
 
     def test_given_back(self) -> None:
         """A window gives a root back that was watched for windows alone, when the last one ends."""
@@ -172,8 +185,11 @@ class Staying(Beside):
             self.same("the root of another client stays", scene.names("roots"), [str(scene.tree)])
             names = [str(scene.room / name) for name in "ab"]
             [os.mkdir(name) for name in names]
-            self.same("run --once gives back too", (scene.wq("run", names[0], "--once", "--", "true").status,
-                                                      scene.names("roots")), (0, [str(scene.tree)]))
+            self.same(
+                "run --once gives back too",
+                (scene.wq("run", names[0], "--once", "--", "true").status, scene.names("roots")),
+                (0, [str(scene.tree)]),
+            )
 
     def check_stays(self, scene: Scene, words: List[str], is_before: bool) -> None:
         """The root of a command that needs it for longer stays, whether that came before the window or in it."""

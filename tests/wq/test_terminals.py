@@ -23,7 +23,8 @@ def slowly(line: bytes) -> bytes:
     if name == "watch":
         time.sleep(SLOW)
     replies = {
-        "watch": {"watch": rest[:1]}, "watch-list": {"roots": []},
+        "watch": {"watch": rest[:1]},
+        "watch-list": {"roots": []},
         "query": {"files": [], "is_fresh_instance": True, "clock": "c:1:2:3:4"},
     }
     return json.dumps({**replies.get(name, {}), "version": "wq-1"}).encode()
@@ -35,13 +36,15 @@ class Terminals(Beside):
         with Scene(self.room) as scene:
             (scene.tree / "link").symlink_to("Makefile")
             self.same("no link below a directory", at_terminal(scene, "find", "src", "./link", "-t", "d,l"), "")
-            self.same("a directory in its colour", at_terminal(scene, "find", "-t", "d", "deep"),
-                      "\x1b[34msrc/deep\x1b[0m\n")
+            self.same(
+                "a directory in its colour", at_terminal(scene, "find", "-t", "d", "deep"), "\x1b[34msrc/deep\x1b[0m\n"
+            )
             self.same("a link in its colour", at_terminal(scene, "find", "link"), "\x1b[36mlink\x1b[0m\n")
             self.same("a file has none", at_terminal(scene, "find", "Makefile"), "Makefile\n")
             self.same("NO_COLOR", at_terminal(scene, "find", "link", NO_COLOR="1"), "link\n")
-            self.same("an empty NO_COLOR is none", at_terminal(scene, "find", "link", NO_COLOR=""),
-                      "\x1b[36mlink\x1b[0m\n")
+            self.same(
+                "an empty NO_COLOR is none", at_terminal(scene, "find", "link", NO_COLOR=""), "\x1b[36mlink\x1b[0m\n"
+            )
             self.same("a dumb terminal", at_terminal(scene, "find", "link", TERM="dumb"), "link\n")
             scene.write("new\nline\x1b[31m")
             self.same("control characters", at_terminal(scene, "find", "new*"), "new\\x0aline\\x1b[31m\n")
@@ -56,14 +59,19 @@ class Terminals(Beside):
             self.same("an error in red", (error[:9], error[-5:]), ("\x1b[31mwq: ", "\x1b[0m\n"))
             self.same("a reply laid out", at_terminal(scene, "ask", '["version"]'), '{\n  "version": "wq-1"\n}\n')
             ran = at_terminal(scene, "run", "--once", "--clear", "--", "echo", "done")
-            self.same("a run at a terminal", ran,
-                      "\x1b[H\x1b[2J\x1b[3Jdone\n\x1b[32mwq: echo ended with status 0\x1b[0m\n")
-            self.same("a run that fails", at_terminal(scene, "run", "--once", "--", "false"),
-                      "\x1b[31mwq: false ended with status 1\x1b[0m\n")
+            self.same(
+                "a run at a terminal", ran, "\x1b[H\x1b[2J\x1b[3Jdone\n\x1b[32mwq: echo ended with status 0\x1b[0m\n"
+            )
+            self.same(
+                "a run that fails",
+                at_terminal(scene, "run", "--once", "--", "false"),
+                "\x1b[31mwq: false ended with status 1\x1b[0m\n",
+            )
             self.check_keys(scene)
             self.same("status at a terminal", "\x1b[36msocket    \x1b[0m" in at_terminal(scene, "status"), True)
-            self.same("status --json at a terminal", json.loads(at_terminal(scene, "status", "--json"))["protocol"],
-                      "wq-1")
+            self.same(
+                "status --json at a terminal", json.loads(at_terminal(scene, "status", "--json"))["protocol"], "wq-1"
+            )
 
     def check_keys(self, scene: Scene) -> None:
         """Ctrl-C at a terminal ends a command and what it runs; a command that runs may read the terminal."""
@@ -71,9 +79,9 @@ class Terminals(Beside):
         for option in ("--once", "--restart"):
             ended = called_at_terminal(scene, ["run", option, "--", "sh", "-c", script], keys=b"\x03", after="ready")
             self.same(f"Ctrl-C at run {option}", (ended.status, "Traceback" in ended.text), (130, False))
-        ended = called_at_terminal(scene, ["run", "--once", "--", "sh", "-c", "echo ready; read a; echo got $a"],
-                                   keys=b"key\n",
-                                   after="ready")
+        ended = called_at_terminal(
+            scene, ["run", "--once", "--", "sh", "-c", "echo ready; read a; echo got $a"], keys=b"key\n", after="ready"
+        )
         self.same("a command that reads the terminal", (ended.status, "got key\n" in ended.text), (0, True))
 
     def test_words(self) -> None:
@@ -84,8 +92,12 @@ class Terminals(Beside):
             self.same("wq --version", scene.wq("--version"), built.Ended(f"wq {version}\n".encode(), b"", 0))
             wrong(self, scene, [], "there is no command; `wq --help` says which there are")
             wrong(self, scene, ["frobnicate"], "there is no command frobnicate; `wq --help` says which there are")
-            wrong(self, scene, ["finde"],
-                  "there is no command finde; did you mean find?; `wq --help` says which there are")
+            wrong(
+                self,
+                scene,
+                ["finde"],
+                "there is no command finde; did you mean find?; `wq --help` says which there are",
+            )
             wrong(self, scene, ["stop", "now"], "stop takes no further words: now; see `wq stop --help`")
             for command in FORMS:
                 text = scene.wq(command, "--help")
@@ -94,14 +106,19 @@ class Terminals(Beside):
                 self.check_examples(command, text.output.decode())
                 self.same(f"{command} in the help", f" {command}" in USAGE, True)
             full = scene.wq("--help")
-            self.same("the help fits a terminal of 80 columns", max(map(len, full.output.decode().splitlines())) <= 80,
-                      True)
+            self.same(
+                "the help fits a terminal of 80 columns", max(map(len, full.output.decode().splitlines())) <= 80, True
+            )
             with open("/dev/full", "wb") as device, scene.begin("--help", output=device.fileno()) as going:
-                self.same("a device that is full", (going.ends(), going.errors),
-                          (3, said("output: No space left on device")))
+                self.same(
+                    "a device that is full", (going.ends(), going.errors), (3, said("output: No space left on device"))
+                )
             with scene.begin("find") as going:
-                self.same("a server that is started for a command", (going.ends(), going.errors),
-                          (0, said(f"started a server at {scene.sockname}")))
+                self.same(
+                    "a server that is started for a command",
+                    (going.ends(), going.errors),
+                    (0, said(f"started a server at {scene.sockname}")),
+                )
 
     def check_examples(self, command: str, text: str) -> None:
         """The page of help ends with examples, whose words the command takes."""
@@ -129,8 +146,11 @@ class Terminals(Beside):
             self.check("how long it took", took.startswith("wq: that took 2.") and took.endswith(" s"), lines)
             looks = f"the server looks at all files below {scene.tree} again; `wq watch` would keep it watched"
             shown = at_terminal(scene, "find", NO_COLOR="1")
-            self.check("a slow crawl at a terminal",
-                       f"\rwq: {looks}, 1 s so far" in shown and f"{looks}, 2 s so far" in shown, [shown])
+            self.check(
+                "a slow crawl at a terminal",
+                f"\rwq: {looks}, 1 s so far" in shown and f"{looks}, 2 s so far" in shown,
+                [shown],
+            )
             with scene.begin("find") as going:
                 self.check("a crawl that goes on", going.says(looks))
                 began = time.monotonic()

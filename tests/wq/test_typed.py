@@ -63,8 +63,11 @@ class Typed(Beside):
             wrong(self, scene, ["find", *words], reason)
 
     def check_times(self, scene: Scene) -> None:
-        for name, second in (("Makefile", 1_500_000_000), ("src/a.c", 1_600_000_000),
-                             ("src/b b.c", time.time() - 5_400)):
+        for name, second in (
+            ("Makefile", 1_500_000_000),
+            ("src/a.c", 1_600_000_000),
+            ("src/b b.c", time.time() - 5_400),
+        ):
             os.utime(scene.tree / name, (second, second))
         for words, expected in (
             (["--changed-within", "2h"], ["src/b b.c", "src/deep/c.h"]),
@@ -77,8 +80,10 @@ class Typed(Beside):
             (["--changed-before", "2018-01-01"], ["Makefile"]),
         ):
             self.same(f"find {words}", scene.names("find", "-t", "f", *words), expected)
-        takes = "--newer takes an age, such as 30s, 10min, 2h, 3d or 1w, or a date, such as 2026-11-28 or " \
-                "'2026-11-28 10:00'"
+        takes = (
+            "--newer takes an age, such as 30s, 10min, 2h, 3d or 1w, or a date, such as 2026-11-28 or "
+            "'2026-11-28 10:00'"
+        )
         for word in ("soon", "10 fortnights", "2026-13-01"):
             wrong(self, scene, ["find", "--newer", word], f'{takes}, and not "{word}"')
         wrong(self, scene, ["find", "--older", "90y"], '--older takes a time since 1970, and not "90y"')
@@ -87,7 +92,14 @@ class Typed(Beside):
         """As GNU's tools have it, k is 1,024 bytes, and kB 1,000."""
         scene.write("size", "x" * 1_024)
         for size, expected in (
-            ("1k", 1), ("1KiB", 1), ("+1k", 1), ("1kB", 0), ("+1kB", 1), ("-1kB", 0), ("1024", 1), ("1024b", 1),
+            ("1k", 1),
+            ("1KiB", 1),
+            ("+1k", 1),
+            ("1kB", 0),
+            ("+1kB", 1),
+            ("-1kB", 0),
+            ("1024", 1),
+            ("1024b", 1),
         ):
             found = scene.wq("find", "size", "--size", size)
             self.same(f"find --size {size}", (found.output.count(b"\n"), found.errors), (expected, b""))
@@ -98,8 +110,10 @@ class Typed(Beside):
         for words, expected in (
             (["*.c", "-x", "echo", "{}"], "./src/a.c\n./src/b b.c\n"),
             (["*.c", "-x", "echo"], "./src/a.c\n./src/b b.c\n"),
-            (["src", "*.c", "--exec", "echo", "{.}.o", "{/}", "{//}", "{/.}"],
-             "./src/a.o a.c src a\n./src/b b.o b b.c src b b\n"),
+            (
+                ["src", "*.c", "--exec", "echo", "{.}.o", "{/}", "{//}", "{/.}"],
+                "./src/a.o a.c src a\n./src/b b.o b b.c src b b\n",
+            ),
             (["*.h", "-x", "echo", "x{}y", "{"], "x./src/deep/c.hy {\n"),
             (["*.c", "-X", "printf", "%s;", "{}"], "./src/a.c;./src/b b.c;"),
             (["*.c", "--exec-batch", "echo"], "./src/a.c ./src/b b.c\n"),
@@ -108,8 +122,11 @@ class Typed(Beside):
         ):
             self.same(f"find {words}", scene.wq("find", *words), built.Ended(expected.encode(), b"", 0))
         for words, status in (
-            (["*.c", "-x", "sh", "-c", "exit 7"], 7), (["*.h", "-x", "sh", "-c", "kill $$"], 143),
-            (["*.h", "-X", "false"], 1), (["*.nothing", "-x", "echo"], 1), (["*.nothing", "-X", "echo"], 1),
+            (["*.c", "-x", "sh", "-c", "exit 7"], 7),
+            (["*.h", "-x", "sh", "-c", "kill $$"], 143),
+            (["*.h", "-X", "false"], 1),
+            (["*.nothing", "-x", "echo"], 1),
+            (["*.nothing", "-X", "echo"], 1),
         ):
             self.same(f"the status of find {words}", scene.wq("find", *words), built.Ended(b"", b"", status))
         wrong(self, scene, ["find", "*.c", "-x", "not-there"], "not-there: there is no such command", status=127)
@@ -152,8 +169,10 @@ class Typed(Beside):
             (["find", "--color=never"], "no option --color; the variable NO_COLOR takes colours away"),
             (["follow", "-m"], "no option -m; it goes on until you stop it"),
             (["find", "--frob"], "there is no option --frob; see `wq find --help`"),
-            (["find", "--expresion", "7"],
-             "there is no option --expresion; did you mean --expression?; see `wq find --help`"),
+            (
+                ["find", "--expresion", "7"],
+                "there is no option --expresion; did you mean --expression?; see `wq find --help`",
+            ),
             (["--hlep"], "there is no option --hlep; did you mean --help?; `wq --help` says which there are"),
             (["watch-del", "."], "there is no command watch-del; use `wq unwatch`; `wq --help` says which there are"),
             (["version"], "there is no command version; use `wq --version`; `wq --help` says which there are"),

@@ -59,8 +59,9 @@ class WaysOfRuns(Beside):
         counts = [int(word) for word in ended.output.split()]
         self.check("names for several processes", len(counts) > 1 and sum(counts) == 900, [str(ended)[:300]])
         status = 1 if max(counts or [0]) > 400 else 0
-        self.same("how they end together", (ended.status, ended.errors),
-                  (status, said(f"sh ended with status {status}")))
+        self.same(
+            "how they end together", (ended.status, ended.errors), (status, said(f"sh ended with status {status}"))
+        )
 
     def check_shell(self, scene: Scene) -> None:
         scene.write("src/$x.h")
@@ -126,11 +127,15 @@ class WaysOfRuns(Beside):
     def check_ways(self, scene: Scene) -> None:
         for words, line in (
             (["--on-busy", "queue"], "--on-busy takes wait, restart, ignore or signal, and not queue"),
-            (["--restart", "--on-busy", "wait"],
-             "--restart is --on-busy restart, and --on-busy wait is beside it: take one out"),
-            (["--no-self", "--restart"],
-             "--no-self leaves out what changes while the command runs, and --on-busy restart goes by that: take one "
-             "out"),
+            (
+                ["--restart", "--on-busy", "wait"],
+                "--restart is --on-busy restart, and --on-busy wait is beside it: take one out",
+            ),
+            (
+                ["--no-self", "--restart"],
+                "--no-self leaves out what changes while the command runs, and --on-busy restart goes by that: take one "
+                "out",
+            ),
             (["--stop-signal", "never"], "--stop-signal takes a signal, such as INT, HUP or 15, and not never"),
             (["--delay=-1"], "--delay takes a number of milliseconds from 0 on"),
         ):
@@ -172,8 +177,9 @@ class WaysOfRuns(Beside):
             self.check("the keys are named", first.endswith("; Enter runs it again, q ends, c clears"), [first])
             held = ["run", "--restart", "--", "sh", "-c", "echo begun; sleep 1000"]
             found = called_at_terminal(scene, held, keys=b"\r", after="begun", more=[("begun", b"q")])
-            self.same("Enter restarts", (found.status, found.text.count("begun"), "SIGTERM" in found.text),
-                      (0, 2, True))
+            self.same(
+                "Enter restarts", (found.status, found.text.count("begun"), "SIGTERM" in found.text), (0, 2, True)
+            )
             for variables, end in (({}, "\a"), ({"TERM": "xterm-kitty"}, "\x1b]9;true ended with status 0\a")):
                 words = ["run", "--once", "--notify", "--", "true"]
                 found = called_at_terminal(scene, words, {**variables, "NO_COLOR": "1"})
@@ -188,14 +194,17 @@ class WaysOfRuns(Beside):
         before = termios.tcgetattr(second)
         script = "stty -a | grep -o -- '-*icanon'"
         words = ["setsid", "-c", "-w", COMMAND, "run", "--", "sh", "-c", script]
-        with subprocess.Popen(words, cwd=scene.tree, env=scene.environment, stdin=second, stdout=subprocess.PIPE,
-                              stderr=subprocess.PIPE) as going:
+        with subprocess.Popen(
+            words, cwd=scene.tree, env=scene.environment, stdin=second, stdout=subprocess.PIPE, stderr=subprocess.PIPE
+        ) as going:
             assert going.stdout is not None and going.stderr is not None
             self.same("the mode in a command", going.stdout.readline(), b"icanon\n")
             for _ in range(2):
                 going.stderr.readline()
-            self.check("keys are read at once between runs",
-                       wait_until(lambda: not termios.tcgetattr(second)[3] & termios.ICANON))
+            self.check(
+                "keys are read at once between runs",
+                wait_until(lambda: not termios.tcgetattr(second)[3] & termios.ICANON),
+            )
             os.write(first, b"q")
             self.same("q ends", going.wait(PATIENCE), 0)
         self.same("the mode after the end", termios.tcgetattr(second), before)

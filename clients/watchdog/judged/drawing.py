@@ -25,8 +25,18 @@ class Drawn:
     def step(self) -> str:
         """Makes one change, and says which."""
         changes: List[Callable[[], str]] = [
-            self.create, self.create, self.write, self.write, self.save, self.rename, self.delete,
-            self.make_directories, self.rename_directory, self.delete_directory, self.link, self.change_outside,
+            self.create,
+            self.create,
+            self.write,
+            self.write,
+            self.save,
+            self.rename,
+            self.delete,
+            self.make_directories,
+            self.rename_directory,
+            self.delete_directory,
+            self.link,
+            self.change_outside,
         ]
         done = ""
         while not done:
@@ -49,8 +59,12 @@ class Drawn:
         return [Path(path) for path, _, _ in os.walk(self.root)]
 
     def files(self) -> List[Path]:
-        return [Path(path) / name for path, _, names in os.walk(self.root) for name in names
-                if not (Path(path) / name).is_symlink()]
+        return [
+            Path(path) / name
+            for path, _, names in os.walk(self.root)
+            for name in names
+            if not (Path(path) / name).is_symlink()
+        ]
 
     def free(self) -> Path:
         return self.one(self.directories()) / f"{self.draw.choice(NAMES)}{self.draw.randrange(100)}"

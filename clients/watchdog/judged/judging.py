@@ -125,8 +125,11 @@ def changed(before: Found, after: Found) -> Set[str]:
     """The paths that came, went, or have another size or time; of a directory the time says nothing that its files do
     not."""
     came_or_went = {path for path, _ in before[0].items() ^ after[0].items()}
-    written = {path for path, is_directory in after[0].items()
-               if not is_directory and path in before[1] and before[1][path] != after[1][path]}
+    written = {
+        path
+        for path, is_directory in after[0].items()
+        if not is_directory and path in before[1] and before[1][path] != after[1][path]
+    }
     return came_or_went | written
 
 

@@ -38,8 +38,14 @@ class Tool:
 
     def __init__(self, command: Sequence[str], directory: Path, environment: Optional[Dict[str, str]] = None) -> None:
         settings = {**os.environ, "PYTHONUNBUFFERED": "1", **(environment or {})}
-        self.process = subprocess.Popen(command, cwd=directory, stdin=subprocess.DEVNULL, stdout=subprocess.PIPE,
-                                        stderr=subprocess.STDOUT, env=settings)
+        self.process = subprocess.Popen(
+            command,
+            cwd=directory,
+            stdin=subprocess.DEVNULL,
+            stdout=subprocess.PIPE,
+            stderr=subprocess.STDOUT,
+            env=settings,
+        )
         self.said = ""
 
     def __enter__(self) -> "Tool":

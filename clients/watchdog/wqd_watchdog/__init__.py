@@ -16,5 +16,6 @@ def __getattr__(name: str) -> Any:
     """The observer is read when it is asked for: the rest needs no watchdog."""
     if name == "WqdObserver":
         from .observer import WqdObserver
+
         return WqdObserver
     raise AttributeError(f"module {__name__!r} has no attribute {name!r}")

@@ -26,8 +26,14 @@ WAKE: Value = {"wake": True}
 class WqdEmitter(EventEmitter):
     """Watches one directory. The timeout is how often it looks at the directory itself and where its links lead."""
 
-    def __init__(self, server: Server, event_queue: EventQueue, watch: ObservedWatch,
-                 timeout: float = DEFAULT_EMITTER_TIMEOUT, **given: Any) -> None:
+    def __init__(
+        self,
+        server: Server,
+        event_queue: EventQueue,
+        watch: ObservedWatch,
+        timeout: float = DEFAULT_EMITTER_TIMEOUT,
+        **given: Any,
+    ) -> None:
         super().__init__(event_queue, watch, timeout=timeout, **given)
         self.server = server
         self.tree: Optional[Tree] = None

@@ -3,7 +3,12 @@
 from typing import Iterator, List, Optional
 
 from watchdog.events import (
-    DirCreatedEvent, DirDeletedEvent, DirModifiedEvent, FileCreatedEvent, FileDeletedEvent, FileModifiedEvent,
+    DirCreatedEvent,
+    DirDeletedEvent,
+    DirModifiedEvent,
+    FileCreatedEvent,
+    FileDeletedEvent,
+    FileModifiedEvent,
     FileSystemEvent,
 )
 

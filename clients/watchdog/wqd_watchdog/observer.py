@@ -22,8 +22,9 @@ class WqdObserver(BaseObserver):
         # Some tools end without stopping it.
         atexit.register(self.server.close)
 
-    def new_emitter(self, event_queue: Any, watch: Any, timeout: float = DEFAULT_EMITTER_TIMEOUT,
-                    **given: Any) -> EventEmitter:
+    def new_emitter(
+        self, event_queue: Any, watch: Any, timeout: float = DEFAULT_EMITTER_TIMEOUT, **given: Any
+    ) -> EventEmitter:
         if os.path.exists(watch.path) and not os.path.isdir(watch.path):
             return PollingEmitter(event_queue, watch, timeout=timeout, **given)
         return WqdEmitter(self.server, event_queue, watch, timeout=timeout, **given)

@@ -18,6 +18,7 @@ def put_in_place() -> None:
     except ImportError:
         raise Unserved(f"the Python {sys.executable} has no module watchdog") from None
     from .observer import WqdObserver
+
     setattr(polling, "PollingObserver", WqdObserver)
     setattr(observers, "Observer", WqdObserver)
 

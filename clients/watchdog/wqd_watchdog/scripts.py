@@ -60,6 +60,8 @@ def words_of(head: str) -> Optional[List[str]]:
 def is_this_python(path: str) -> bool:
     """Whether a path names the Python that runs this: the same file by the same directory, since an environment links
     to a Python that has other packages."""
+
     def place(each: str) -> str:
         return os.path.realpath(os.path.dirname(os.path.abspath(each)))
+
     return place(path) == place(sys.executable) and os.path.realpath(path) == os.path.realpath(sys.executable)

@@ -56,7 +56,7 @@ class Branch:
 
     def name_of(self, whole: str) -> str:
         """The name below the branch of a file of the root."""
-        return whole[len(self.below) + 1:] if self.below else whole
+        return whole[len(self.below) + 1 :] if self.below else whole
 
     def query(self, is_recursive: bool) -> Value:
         """All below the branch, or what is directly in it."""

@@ -27,6 +27,7 @@ class Finder:
         def execute_and_replace(module: ModuleType) -> None:
             execute(module)
             replace()
+
         setattr(spec.loader, "exec_module", execute_and_replace)
         return spec
 
