@@ -4,8 +4,9 @@ from typing import Callable, Dict, FrozenSet, List, NamedTuple, Optional, Tuple
 
 from items import Function, Items, Kind
 from standard import given_by
-from tokens import Reader, Unread, is_name, tokens
-from types_of import BOOL, UNIT, UNKNOWN, Type, any_of, bind, element, inside, is_open, put, read_given, read_type, traits_of
+from tokens import Reader, Unread, is_name
+from types_of import BOOL, UNIT, UNKNOWN, Type
+from types_of import any_of, bind, element, inside, is_open, put, read_given, read_type, traits_of
 
 # A variant of an enum, or a struct with the empty name.
 Made = Tuple[str, str]
@@ -42,7 +43,6 @@ class Body:
         self.guards: List[Guard] = []
         self.calls: List[Call] = []
         self.makes: List[Tuple[Tuple[Guard, ...], Made]] = []
-        self.unsure: List[str] = []
         for pattern, type in function.parameters:
             self.pattern_of(pattern, put(type, self.bound))
         if function.body:
@@ -55,8 +55,7 @@ class Body:
         return self.items.name_of(self.function.file, path, list(self.function.bounds), owner)
 
     def type(self) -> Type:
-        found = put(read_type(self.reader, self.named), self.bound)
-        return put(self.function.owner, self.bound) if found.name == self.function.owner.name and not found.given else found
+        return put(read_type(self.reader, self.named), self.bound)
 
     def variable(self, name: str) -> Optional[Type]:
         return next((names[name] for names in reversed(self.names) if name in names), None)
@@ -287,13 +286,15 @@ class Body:
 
     def several(self, closing: str, item: Type = UNKNOWN) -> List[Type]:
         """Reads expressions between brackets. A closure among them may take an item."""
-        reader, found = self.reader, []
+        reader = self.reader
+        found: List[Type] = []
         reader.next()
         while reader.peek() and not reader.take(closing):
             if reader.take(",", ";"):
                 continue
             is_closure = reader.peek() in ("|", "||") or reader.peek() == "move"
-            found.append(self.closure(item) if is_closure else self.expression())
+            taken = found[-1] if found and item == UNKNOWN else item
+            found.append(self.closure(taken) if is_closure else self.expression())
         return found
 
     def block_of(self, word: str) -> Type:
@@ -400,13 +401,11 @@ class Body:
             return self.call(found[0], [type, *given])
         if type.name.startswith("$"):
             return self.of_traits(type, name, given)
-        closure = next((inside(it) for it in given if it.name == "Fn"), UNKNOWN)
-        result = given_by(type, name, closure)
+        result = given_by(type, name, given)
         if type.name in self.items.kinds:
             default = self.items.default(type.name, name)
             return self.call(default, [type, *given]) if default is not None else result
         if type == UNKNOWN and self.items.is_method(name):
-            self.unsure.append(name)
             self.add(Call(tuple(self.guards), None, (), ("?", name)))
         return result
 
@@ -479,12 +478,15 @@ class Body:
         return self.make(made, given)
 
     def make(self, made: Made, given: Dict[str, Type]) -> Type:
-        """A value of a variant or a struct with these fields."""
+        """A value of a variant or a struct with these fields. One of no crate here has the empty name."""
+        if not made[0]:
+            return UNKNOWN
         if made[0] in ("Option", "Result"):
             item = given.get("0", UNKNOWN)
             return Type(made[0], (UNKNOWN, item) if made[1] == "Err" else (item,))
         self.makes.append((tuple(self.guards), made))
-        kind, bound = self.items.kinds[made[0]], {}
+        kind = self.items.kinds[made[0]]
+        bound: Bound = {}
         for name, type in given.items():
             bind(kind.variants.get(made[1], {}).get(name, UNKNOWN), type, bound)
         return Type(kind.name, tuple(bound.get(it, UNKNOWN) for it in kind.parameters))

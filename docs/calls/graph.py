@@ -35,8 +35,8 @@ class Graph:
         return self.bodies[instance]
 
     def targets(self, caller: Function, call: Call, types: AbstractSet[str]) -> Iterator[Instance]:
-        """What a call may run: by a trait, the function of each of these types. If the type of a value is not known, it is
-        the method of this name, if the crates that the caller uses have only one."""
+        """What a call may run: by a trait, the function of each of these types. If the type of a value is not known, it
+        is the method of this name, if the crates that the caller uses have only one."""
         trait, name = call.virtual
         methods = self.items.named.get(name, [])
         if call.function is not None:

@@ -64,6 +64,11 @@ class Function:
         owner = whole.rpartition("::")[2] if self.owner != UNKNOWN else ""
         return f"{owner}::{self.name}" if owner else self.name
 
+    @property
+    def is_law(self) -> bool:
+        """Whether only the prover reads it: what it says of the definitions is its contract."""
+        return not self.body or self.file.module[-1:] == ("law",)
+
     def __hash__(self) -> int:
         return id(self)
 
@@ -133,7 +138,8 @@ class Items:
         crate = caller.crate if whole[0] in ("crate", "self", "super") else whole[0]
         crate = crate if crate in self.below else caller.crate
         there = [it for it in free if it.crate == crate]
-        return max(there, key=lambda it: len(set(it.file.module) & set(whole)), default=None)
+        there.sort(key=lambda it: -len(set(it.file.module) & set(whole)))
+        return there[0] if there else None
 
     def whole(self, file: File, name: str) -> str:
         """The name of a type or a trait with its crate, or alone if it is of no crate here."""
@@ -147,7 +153,8 @@ class Items:
         return f"{path[0] if path and path[0] in known else known[0]}::{name}"
 
     def read(self, file: File) -> None:
-        owner, trait, bounds, ends = UNKNOWN, "", {}, 0
+        owner, trait, ends = UNKNOWN, "", 0
+        bounds: Bounds = {}
         for found in ITEM.finditer(file.text):
             if found["kind"]:
                 owner, trait, bounds, ends = self.read_kind(file, found)
@@ -155,12 +162,9 @@ class Items:
                 owner, trait, bounds = self.read_head(file, found["head"])
                 ends = end_of(file.text, found.end(), found["indent"])
             else:
-                is_inside = found.start() < ends
-                self.functions.append(
-                    self.function(
-                        file, found, owner if is_inside else UNKNOWN, trait if is_inside else "", bounds if is_inside else {}
-                    )
-                )
+                if found.start() >= ends:
+                    owner, trait, bounds = UNKNOWN, "", {}
+                self.functions.append(self.function(file, found, owner, trait, bounds))
 
     def read_kind(self, file: File, found: "re.Match[str]") -> Tuple[Type, str, Bounds, int]:
         """Reads a type or a trait, and gives what its functions are of."""
@@ -335,8 +339,8 @@ def end_of(text: str, begins: int, indent: str) -> int:
 
 
 def signature_of(text: str, begins: int) -> Tuple[str, int]:
-    """The signature that begins there, and where its body begins, or 0 if it has none. The clauses of the contract, which
-    only the prover reads, are between them."""
+    """The signature that begins there, and where its body begins, or 0 if it has none. The clauses of the contract,
+    which only the prover reads, are between them."""
     ends, place = 0, begins
     while True:
         found = HEAD.search(text, place)

@@ -1,21 +1,26 @@
 """What the calls of the standard library give that the crates use most."""
 
-from typing import Optional
+from typing import List
 
 from types_of import BOOL, LISTS, UNKNOWN, Type, element, inside
 
 SAME = set(
-    "as_ref as_mut as_deref as_deref_mut take cloned copied filter by_ref rev skip peekable clone to_owned as_slice as_mut_slice "
-    "to_vec borrow borrow_mut inspect replace step_by skip_while take_while chain fuse or or_else".split()
+    "as_ref as_mut as_deref as_deref_mut take cloned copied filter by_ref rev skip peekable clone to_owned as_slice "
+    "as_mut_slice to_vec borrow borrow_mut inspect replace step_by skip_while take_while chain fuse or or_else".split()
 )
-INSIDE = set("unwrap expect unwrap_or unwrap_or_default unwrap_or_else lock write read get_mut".split())
-OPTIONS = set("get get_mut first last first_mut last_mut pop pop_front pop_back find next next_back max min front back".split())
+INSIDE = set("unwrap expect unwrap_or unwrap_or_default unwrap_or_else".split())
+OPTIONS = set(
+    "get get_mut first last first_mut last_mut pop pop_front pop_back find next next_back max min front back".split()
+)
 ITERATORS = set("iter iter_mut into_iter drain chunks windows values".split())
 
 
-def given_by(type: Type, name: str, closure: Type) -> Type:
-    """What a method gives, where a closure that it takes gives a type."""
+def given_by(type: Type, name: str, given: List[Type]) -> Type:
+    """What a method gives for values of these types."""
     item = element(type)
+    closure = next((inside(it) for it in given if it.name == "Fn"), UNKNOWN)
+    if name in ("wait", "wait_while") and len(given) > 1:
+        return given[1]
     if type.name == "Mutex" and name == "lock":
         return inside(type)
     if type.name in ("Option", "Result"):

@@ -1,5 +1,5 @@
-"""What scripts write into pages and pictures is what they write today, and no file has the marks of a merge that was left
-in the middle."""
+"""What scripts write into pages and pictures is what they write today, and no file has the marks of a merge that was
+left in the middle."""
 
 import re
 from pathlib import Path
@@ -9,7 +9,7 @@ import built
 from case import Case
 
 # Each ends with 1, and says what to run, if something is not as it writes it. tests/definitions/run has docs/crates.
-CHECKS = ["docs/counts --check", "docs/figures", "docs/terminal/draw"]
+CHECKS = ["docs/counts --check", "docs/figures", "docs/ways --check", "docs/terminal/draw"]
 MERGE = re.compile(rb"^(?:<{7}|[|]{7}|>{7})(?: .*)?$|^={7}$", re.M)
 
 

@@ -12,7 +12,6 @@ from case import Case
 from limits import missing_limits
 from measures import wrong_measures
 from recipes import wrong_rooms
-from ways import wrong_ways
 from words import GENERATED, wordy
 
 PAGES = [
@@ -46,9 +45,6 @@ class Pages(Case):
 
     def test_recipes_name_rooms_that_are_there(self) -> None:
         self.assertEqual(list(wrong_rooms(built.TOP)), [])
-
-    def test_the_way_of_a_query_is_by_functions_that_are_there(self) -> None:
-        self.assertEqual(list(wrong_ways(built.TOP)), [])
 
     def test_pages_keep_to_their_words(self) -> None:
         self.assertEqual(list(wordy(built.TOP)), [])

@@ -1,6 +1,6 @@
 """`./wqd --build`: it proves a copy of the program's crates alone, several at once, tells how far that is, and leaves
-the program and a note. `./verify` says whether a program is the one that comes out. A stand-in for the kit's `rt` says what the real one
-says, and leaves the built program as that does."""
+the program and a note. `./verify` says whether a program is the one that comes out. A stand-in for the kit's `rt` says
+what the real one says, and leaves the built program as that does."""
 
 import hashlib
 import os

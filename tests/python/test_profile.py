@@ -1,5 +1,5 @@
-"""contrib/profile follows a check that runs. A stand-in for the prover takes processor time, and writes the modules that
-the prover would write."""
+"""contrib/profile follows a check that runs. A stand-in for the prover takes processor time, and writes the modules
+that the prover would write."""
 
 import os
 import re
