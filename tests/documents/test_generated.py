@@ -9,7 +9,7 @@ import built
 from case import Case
 
 # Each ends with 1, and says what to run, if something is not as it writes it. tests/definitions/run has docs/crates.
-CHECKS = ["docs/counts --check", "docs/figures", "docs/ways --check", "docs/terminal/draw"]
+CHECKS = ["docs/counts --check", "docs/figures", "docs/chain --check", "docs/ways --check", "docs/terminal/draw"]
 MERGE = re.compile(rb"^(?:<{7}|[|]{7}|>{7})(?: .*)?$|^={7}$", re.M)
 
 
