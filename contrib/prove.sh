@@ -1,5 +1,6 @@
 # How `./wqd --build` proves and builds the program. It sets `top`, the directory of the repository, and `built`, the path of the
 # program, first.
+. "$top/contrib/lanes.sh"
 
 # The crates that the program is built from, and the program itself, lowest first.
 crates() {
@@ -58,7 +59,7 @@ prove_copy() {
     : > "$1/log"
     # The kit's own temporary files have names that can be guessed, so they are in the copy too.
     mkdir "$1/tmp" || return 1
-    (cd "$1" && TMPDIR="$1/tmp" exec rt ci) > "$1/log" 2>&1 &
+    (cd "$1" && TMPDIR="$1/tmp" RT_JOBS="${RT_JOBS:-$(lanes)}" exec rt ci) > "$1/log" 2>&1 &
     prover=$!
     while kill -0 "$prover" 2> /dev/null; do
         tell "$1"

@@ -1,10 +1,8 @@
-"""Looks at the pages of the project as they are: each link leads to a file and a heading, README fits three screens and
-has the numbers of docs/figures.json, limits are those of the definitions, figures are those of docs/SPEED.md, recipes
+"""Looks at the pages of the project as they are: each link leads to a file and a heading, README fits three screens,
+limits are those of the definitions, figures are those of docs/SPEED.md, recipes
 name rooms that are there, and no paragraph and no row of a table is on two pages."""
 
-import json
 import re
-import subprocess
 from collections import defaultdict
 from pathlib import Path
 from typing import Dict, Iterator, List, Set, Tuple
@@ -14,7 +12,6 @@ from case import Case
 from limits import missing_limits
 from measures import wrong_measures
 from recipes import wrong_rooms
-from ways import wrong_ways
 from words import GENERATED, wordy
 
 PAGES = [
@@ -30,8 +27,6 @@ MOST_LINES = 150
 MOST_COLUMNS = 120
 # Parts of fewer words may be on two pages, as heads of tables.
 FEWEST_WORDS = 12
-# So far may the numbers of lines in docs/figures.json be from those of the tree.
-FAR = 0.1
 
 
 class Pages(Case):
@@ -51,9 +46,6 @@ class Pages(Case):
     def test_recipes_name_rooms_that_are_there(self) -> None:
         self.assertEqual(list(wrong_rooms(built.TOP)), [])
 
-    def test_the_way_of_a_query_is_by_functions_that_are_there(self) -> None:
-        self.assertEqual(list(wrong_ways(built.TOP)), [])
-
     def test_pages_keep_to_their_words(self) -> None:
         self.assertEqual(list(wordy(built.TOP)), [])
 
@@ -62,21 +54,6 @@ class Pages(Case):
         self.check(f"README.md has at most {MOST_LINES} lines", len(lines) <= MOST_LINES, [f"it has {len(lines)}"])
         long = [line for line in lines if len(line) > MOST_COLUMNS and not line.startswith("|")]
         self.check(f"README.md has lines of at most {MOST_COLUMNS} characters", not long, long)
-
-    def test_figures(self) -> None:
-        """README has the figures of the file, and the file counts about as many lines as there are."""
-        said = subprocess.run([str(built.TOP / "docs" / "figures")], stdout=subprocess.PIPE, stderr=subprocess.STDOUT)
-        self.check(
-            "README has the numbers of docs/figures.json", said.returncode == 0, said.stdout.decode().splitlines()
-        )
-        kept = json.loads((built.TOP / "docs" / "figures.json").read_text(encoding="utf-8"))["counts"]
-        counted = json.loads(subprocess.check_output([str(built.TOP / "docs" / "counts"), "--sums"]))
-        far = [
-            f"{name}: {kept.get(name, 0)}, and there are {count}"
-            for name, count in counted.items()
-            if abs(kept.get(name, 0) - count) > FAR * count
-        ]
-        self.check("docs/figures.json has the lines of the tree: docs/counts --write", not far, far)
 
     def test_parts(self) -> None:
         """No paragraph, item or row is there twice."""

@@ -55,6 +55,27 @@ NUMBERS = [
 POWERS = (2**31, 2**32, 2**53, MAX, 2**63, 2**64)
 NUMBERS += [str(sign * (power + more)) for power in POWERS for more in (-1, 0, 1) for sign in (1, -1)]
 
+# A session on a root: lines that are wrong, lines that keep something, one that ends it, and one that nobody may see.
+SESSION = [
+    b"[",
+    b"7",
+    b'["frob"]',
+    b'["query",ROOT,{"expression":["pcre","x"]}]',
+    b"",
+    b'["version"]',
+    b'["query",ROOT,{"fields":["name"],"since":"n:pieces"}]',
+    b'["query",ROOT,{"fields":["name"],"since":"n:pieces"}]',
+    b'["watch-del",ROOT]',
+    b'["clock",ROOT]',
+    b'["watch","r"]',
+    b'["watch",ROOT]',
+    b'["watch-list"]',
+    b" ",
+    b'["get-sockname"]',
+    b"\0\1",
+    b'["version"]',
+]
+
 # Bytes between two quotation marks: escapes of half surrogates, forms of UTF-8 that are too long or cut, and the
 # longest characters that there are.
 TEXTS = [
@@ -146,6 +167,13 @@ class Groups(StageCase):
         data += b'["query",%s,{"expression":["name","\\ud83d\\ude00.txt"],"fields":["name"]}]\n7\n["version"' % root
         for length in range(1, len(data) + 1):
             self.compare(f"pieces of {length}", data, cut_in(data, length))
+
+    def test_sessions_in_pieces(self) -> None:
+        """A session, up to a line that ends it, is answered alike in pieces of each length."""
+        root = compact_text(str(self.stage.root)).encode()
+        data = b"".join(line.replace(b"ROOT", root) + b"\n" for line in SESSION)
+        for length in (1, 7, 65_536):
+            self.compare(f"a session in pieces of {length}", data, cut_in(data, length))
 
     def test_newlines(self) -> None:
         refusal = self.stage.plain_replies(b"\n")

@@ -252,7 +252,7 @@ def tools(room: Path) -> Path:
     directory.mkdir()
     for name in (
         "sh dirname sed head tail find cat awk wc date mktemp rm touch env python3 cp mkdir mv grep sleep id "
-        "sha256sum sort xargs cut cmp"
+        "sha256sum sort xargs cut cmp nproc"
     ).split():
         (directory / name).symlink_to(shutil.which(name))
     return directory

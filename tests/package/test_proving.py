@@ -1,6 +1,6 @@
-"""`./wqd --build`: it proves a copy of the program's crates alone, tells how far that is, and leaves the program and a
-note. `./verify` says whether a program is the one that comes out. A stand-in for the kit's `rt` says what the real one
-says, and leaves the built program as that does."""
+"""`./wqd --build`: it proves a copy of the program's crates alone, several at once, tells how far that is, and leaves
+the program and a note. `./verify` says whether a program is the one that comes out. A stand-in for the kit's `rt` says
+what the real one says, and leaves the built program as that does."""
 
 import hashlib
 import os
@@ -19,6 +19,7 @@ KIT = """#!/bin/sh
 if [ "$*" = version ]; then echo 'a kit'; exit; fi
 [ "$*" = ci ] || exit 9
 { ls -R crates; cat crates.txt HANDLES; } > "$SEEN"
+echo "$RT_JOBS" > "$SEEN.jobs"
 echo 'rt: wq_base is kept: an earlier run on this machine proved the same files over the same libraries'
 echo 'rt: wqd proved'
 if [ -n "$FAULT" ]; then echo "$FAULT"; exit 1; fi
@@ -60,6 +61,31 @@ BEGINS = "wqd: the program is proved and built; that takes about an hour on four
 STEPS = r"wqd: wq_base is proved, 1 of 2 \(\d+ s so far.*\)\nwqd: wqd is proved, 2 of 2 \(\d+ s so far\)\n"
 
 
+# How many checks run at once: with so many processors, and so many kibibytes of free memory.
+LANES = [
+    (1, 99_000_000, 1),
+    (2, 99_000_000, 2),
+    (64, 99_000_000, 4),
+    (4, 11_718_750, 4),
+    (4, 11_718_749, 3),
+    (4, 8_789_063, 3),
+    (4, 6_000_000, 2),
+    (2, 3_000_000, 1),
+    (4, 100_000, 1),
+    (4, -100_000, 1),
+]
+
+
+class Lanes(Case):
+    def test_rule(self) -> None:
+        for processors, memory, lanes in LANES:
+            name = f"{processors} processors and {memory} KiB"
+            self.same(name, said_by(f"lanes_for {processors} {memory}"), f"{lanes}\n")
+
+    def test_machine(self) -> None:
+        self.check("the rule for this machine", re.fullmatch("[1-4]\n", said_by("lanes")), [said_by("lanes")])
+
+
 class Proving(Case):
     def test_proving(self) -> None:
         bare(self.room)
@@ -89,12 +115,18 @@ class Proving(Case):
         self.same("a program that is proved first", (proved.status, proved.output), (0, b""))
         self.said("what is said on the way", proved.errors, STEPS + r"wqd: built in \d+ s\n")
         self.same("the copy that is proved", (self.room / "seen").read_text(), SEEN)
+        self.check_jobs((self.room / "seen.jobs").read_text())
         self.same("the copies are gone", list((self.room / "temporary").iterdir()), [])
         self.same("a run of it", run("not asked", "replay"), built.Ended(b"", b"", 0))
         again = built.Ended(b"", b"wqd: it is built already\n", 0)
         self.same("the next build", run("not asked", "--build"), again)
         self.check_note((self.room / "crates" / "wqd" / "out" / "wqd.proof").read_text())
         self.check_verifying(self.room, values_for(self.room, kit))
+
+    def check_jobs(self, said: str) -> None:
+        """The kit is told how many crates it may prove at once."""
+        given = os.environ.get("RT_JOBS", "[1-4]")
+        self.check("how many crates are proved at once", re.fullmatch(f"{given}\n", said), [said])
 
     def check_note(self, note: str) -> None:
         """It names the program, its sources, and what the kit said."""
@@ -124,6 +156,12 @@ class Proving(Case):
     def said(self, name: str, errors: bytes, pattern: str) -> None:
         text = errors.decode()
         self.same(name, text if re.fullmatch(re.escape(BEGINS) + pattern, text) else "another text: " + text, text)
+
+
+def said_by(call: str) -> str:
+    """What a function of contrib/lanes.sh prints in the plainest shell."""
+    ended = built.call(["sh", "-euc", f". ./lanes.sh; {call}"], cwd=built.TOP / "contrib")
+    return (ended.output + ended.errors).decode()
 
 
 def values_for(room: Path, kit: Path, fault: str = "") -> Dict[str, str]:
