@@ -271,7 +271,7 @@ def program_of(text: bytes, instance: Instance, has_instance: bool) -> Program:
     read_term(value, instance)
     if names_tick(value) and not has_instance:
         raise ValueError(
-            "the expression has a clock id; say with --clock a clock id of the server and root that it " "is for"
+            "the expression has a clock id; say with --clock a clock id of the server and root that it is for"
         )
     try:
         return compiled(value, instance)
