@@ -13,6 +13,7 @@ import built
 from case import Case
 from client import PATIENCE, Server
 from notation import file_of
+from scripted import FIRST_ROOT, clock_id
 from wqprogram.command import main
 
 TOOL = built.TOP / "clients" / "wqasm"
@@ -130,6 +131,12 @@ class CommandLine(Case):
             ended = tool(self.room, "compile", expression, "-o", "none")
             self.same(f"compile {expression[:20]}", ended, built.Ended(b"", f"wqasm: {error}\n".encode(), 3))
         self.check_long_expressions(self.room)
+
+    def test_explain_of_a_clock_id(self) -> None:
+        """An explanation is of no root, so each clock id is one of another root, also one of the replayed scripts."""
+        for clock in (clock_id(FIRST_ROOT, 4), "c:1:2:3:4"):
+            ended = built.call([built.TOP / "wq", "explain", f'["since","{clock}"]'])
+            self.same(f"the program of {clock}", ended.output.decode().splitlines()[-4].split()[1], "exists")
 
     def check_long_expressions(self, room: Path) -> None:
         """Expressions that are too long for a word of a command, from standard input, and those with a fault of

@@ -6,9 +6,9 @@ from typing import Any, Dict, List, NamedTuple, Sequence
 from case import Case
 from history import INSTRUCTIONS, NEW, Asked, Coming, Request, own_file
 from orders import order_of, shortest
+from scripted import clock_id
 from shelves import VERSION, Reply, Tree, answer
 from views_seen import gone_back, missed
-from wqprogram.clocks import clock_id
 from wqprogram.errors import NO_SUCH_PROGRAM
 
 V0, V1, NEW2, NEW3 = own_file(0), own_file(1), f"{NEW}2", f"{NEW}3"
