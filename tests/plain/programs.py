@@ -1,10 +1,10 @@
 """Programs by their base64 texts, and whether an expression has a program. The few that generated scripts add are in a
-from scripted import at_root
 table, and others are run by the plain machine. What programs mean is compared elsewhere."""
 
 import base64
 from typing import Any, Callable, Dict, NamedTuple
 
+from scripted import at_root
 from wqprogram.compiler import TooLarge, compiled
 from wqprogram.errors import NOT_BASE64, PROGRAM_TOO_LARGE, WRONG_FILE, WRONG_PROGRAM, Refused
 from wqprogram.machine import run

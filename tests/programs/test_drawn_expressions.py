@@ -7,9 +7,9 @@ from typing import List, Union
 import built
 import generate_terms
 from case import Case
+from replies import TREE, records_of, replies_to
 from draws import Draws
 from scripted import FIRST
-from test_drawn_programs import TREE, records_of, replies_to
 from wqprogram.command import program_of
 from wqprogram.errors import Refused
 from wqprogram.program_file import written
