@@ -10,6 +10,7 @@ from multiprocessing.synchronize import Event
 from pathlib import Path
 from typing import Callable, Dict, List, NamedTuple
 
+from measured import seconds_of
 from pairs.peers import Peer, watchman, wqd
 from pairs.tree import Tree
 
@@ -116,9 +117,8 @@ class Run:
             client.ask("query", self.root, {"path": [{"path": "", "depth": 0}], "fields": ["name"]})
 
     def first_answer(self, peer: Peer) -> None:
-        before, began = peer.memory(), time.monotonic()
-        self.watch(peer)
-        self.results.add(Measure("first answer", "s"), peer.name, time.monotonic() - began)
+        before = peer.memory()
+        self.results.add(Measure("first answer", "s"), peer.name, seconds_of(lambda: self.watch(peer)))
         time.sleep(1)
         self.results.add(Measure("memory of an entry", "B"), peer.name, (peer.memory() - before) / self.tree.entries())
 
@@ -182,9 +182,8 @@ class Run:
             client.ask("watch", str(root))
             client.ask("query", str(root), {"fields": ["name"]})
             query = {"expression": ["match", "**/a/" * 10 + "b", "wholename"], "fields": ["name"], "sync_timeout": 0}
-            began = time.monotonic()
-            client.ask("query", str(root), query)
-            self.results.add(Measure("hostile pattern", "ms"), peer.name, (time.monotonic() - began) * 1000)
+            taken = seconds_of(lambda: client.ask("query", str(root), query))
+            self.results.add(Measure("hostile pattern", "ms"), peer.name, taken * 1000)
             client.ask("watch-del", str(root))
 
     def under_churn(self) -> None:

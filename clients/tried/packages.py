@@ -39,6 +39,10 @@ def is_of_node(package: str) -> bool:
     return package.startswith(OF_NODE)
 
 
+def is_about_node(package: str) -> bool:
+    return package == NODE or is_of_node(package)
+
+
 def has_another_node() -> bool:
     """Whether there is a Node.js of others than the distribution."""
     try:
@@ -87,32 +91,7 @@ class Packages:
         fails."""
         print(f"unpacking {' '.join(packages)} beside another Node.js", file=sys.stderr, flush=True)
         archives = self.room / "archives"
-        (archives / "partial").mkdir(parents=True)
-        status = self.room / "status"
-        known = Path(STATUS).read_text(encoding="utf-8").split("\n\n")
-        names = {entry: name_in(entry) for entry in known}
-        status.write_text(
-            "\n\n".join(entry for entry in known if names[entry] != NODE and not is_of_node(names[entry]))
-        )
-        fetched = subprocess.run(
-            [
-                "apt-get",
-                "-y",
-                "--download-only",
-                "--no-install-recommends",
-                "-o",
-                f"Dir::State::status={status}",
-                "-o",
-                f"Dir::Cache::archives={archives}",
-                "-o",
-                f"Dir::Etc::PreferencesParts={self.room}",
-                "install",
-                NODE,
-                *packages,
-            ],
-            stdout=subprocess.PIPE,
-            stderr=subprocess.STDOUT,
-        )
+        fetched = self.fetch(packages, archives)
         if fetched.returncode != 0:
             return fetched.stdout.decode("utf-8", "replace").splitlines()[-1]
         root = self.room / "root"
@@ -123,6 +102,17 @@ class Packages:
             self.unpacked = None
             return "it cannot be laid over /usr, which only the superuser may do"
         return None
+
+    def fetch(self, packages: List[str], archives: Path) -> "subprocess.CompletedProcess[bytes]":
+        """Fetches the archives of the packages and of all that they need."""
+        (archives / "partial").mkdir(parents=True)
+        status = self.room / "status"
+        known = Path(STATUS).read_text(encoding="utf-8").split("\n\n")
+        status.write_text("\n\n".join(entry for entry in known if not is_about_node(name_in(entry))))
+        command = ["apt-get", "-y", "--download-only", "--no-install-recommends"]
+        command += ["-o", f"Dir::State::status={status}", "-o", f"Dir::Cache::archives={archives}"]
+        command += ["-o", f"Dir::Etc::PreferencesParts={self.room}", "install", NODE, *packages]
+        return subprocess.run(command, stdout=subprocess.PIPE, stderr=subprocess.STDOUT)
 
     def words(self, command: List[str]) -> List[str]:
         """The command, run where the packages are."""

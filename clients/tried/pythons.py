@@ -54,7 +54,7 @@ def try_killed_server(room: Room) -> Outcome:
             kill()
             found.append(answers())
     return outcome(
-        "get-sockname and a question after the server or the bridge was killed, though no first process " "reaps",
+        "get-sockname and a question after the server or the bridge was killed, though no first process reaps",
         found,
         [[], [], []],
     )

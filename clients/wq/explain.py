@@ -6,7 +6,6 @@ import sys
 from typing import Any
 
 from wqclient.harmless import harmless
-from wqprogram.clocks import FIRST
 from wqprogram.command import program_of
 from wqprogram.errors import Refused
 from wqprogram.explainer import explained
@@ -31,7 +30,7 @@ def explain(options: argparse.Namespace, home: Home) -> int:
     text = quoted_name(text_of(options.expression))
     value = read(text, "the expression")
     try:
-        program = program_of(text.encode("utf-8"), FIRST, True)
+        program = program_of(text.encode("utf-8"))
     except Refused as refused:
         of_terms = [of_expression(refused.error, value, error_of)] if refused.error[:3] in OF_TERMS else []
         raise Trouble(refused.error, *of_terms or culprits(refused.error, None, lambda *_: {})) from None

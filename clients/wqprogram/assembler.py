@@ -64,9 +64,9 @@ class Assembler:
     def read_version(self) -> None:
         self.words.take()
         number = self.words.require("number", "the number of a version")
-        if number.value not in VERSIONS:
+        if number.number not in VERSIONS:
             raise number.fault("unknown version", one_of(map(str, VERSIONS)))
-        self.version = self.asked or VERSIONS[number.value]
+        self.version = self.asked or VERSIONS[number.number]
         self.words.end_line()
 
     # Tables.
@@ -135,18 +135,18 @@ class Assembler:
 
     def number_to(self, least: int, greatest: int, expected: str) -> int:
         token = self.words.require("number", expected)
-        if not least <= token.value <= greatest:
+        if not least <= token.number <= greatest:
             raise token.fault("number out of range", f"a number from {least} to {greatest}")
-        return token.value
+        return token.number
 
     def text(self) -> bytes:
         return self.text_to(MAX_TEXT)
 
     def text_to(self, longest: int) -> bytes:
         token = self.words.require("text", "a text in quotes")
-        if len(token.value) > longest:
-            raise token.fault("entry too long", f"at most {longest:,} bytes, and these are {len(token.value):,}")
-        return token.value
+        if len(token.data) > longest:
+            raise token.fault("entry too long", f"at most {longest:,} bytes, and these are {len(token.data):,}")
+        return token.data
 
     def entries(self) -> List[bytes]:
         return self.bracketed(self.text, 'a list, as ["c", "h"]', "texts of a list")
@@ -244,7 +244,7 @@ class Assembler:
         if token is None:
             return Operation(parsed.instruction, parsed.a, 0)
         if token.kind == "number":
-            return Operation(parsed.instruction, parsed.a, token.value)
+            return Operation(parsed.instruction, parsed.a, token.number)
         labels = self.labels.get(parsed.instruction.b, {})
         if token.word not in labels:
             expected = f"a label of {table_words(parsed.instruction.b)}"

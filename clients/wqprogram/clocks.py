@@ -1,13 +1,11 @@
-"""Clock ids and clock specs. The server of scripts has start 7 and process 9."""
+"""Clock ids and clock specs."""
 
 import re
-from typing import Any, List, NamedTuple, Optional
+from typing import List, NamedTuple, Optional
 
 from .json_values import is_whole_number
 from .limits import MAX_CURSOR_NAME, MAX_NUMBER
 
-SERVER = [7, 9]
-FIRST_ROOT = 1
 DECIMAL = re.compile(r"0|[1-9][0-9]{0,18}")
 
 
@@ -17,14 +15,6 @@ class Instance(NamedTuple):
     start: int
     pid: int
     root: int
-
-
-def at_root(root: int) -> Instance:
-    """The root of this number at the server of scripts."""
-    return Instance(*SERVER, root)
-
-
-FIRST = at_root(FIRST_ROOT)
 
 
 class Bound(NamedTuple):
@@ -49,43 +39,40 @@ class NamedCursor(Exception):
         self.name = name
 
 
-def clock_id(root: int, tick: int) -> str:
-    return ":".join(["c", *(str(number) for number in [*SERVER, root, tick])])
-
-
-def bound_of(value: Any, instance: Instance = FIRST) -> Bound:
-    """The bound of a clock spec in JSON, at this instance."""
+def bound_of(value: object, instance: Optional[Instance]) -> Bound:
+    """The bound of a clock spec in JSON, at this instance. Without one each clock id is of another root."""
     if isinstance(value, str):
         return bound_of_text(value, instance)
-    if is_whole_number(value) and value >= 0:
+    if isinstance(value, int) and is_whole_number(value) and value >= 0:
         return Bound("second", value)
     raise BadClockSpec
 
 
 def instance_of(text: str) -> Instance:
     """The server and the root of a clock id."""
-    numbers = [number_of(part) for part in text[2:].split(":")]
-    if not text.startswith("c:") or None in numbers or len(numbers) != 4:
+    numbers = numbers_of(text)
+    if len(numbers) != 4:
         raise ValueError(f"{text!r} is no clock id, as c:START:PID:ROOT:TICK")
-    return Instance(*numbers[:3])
+    start, pid, root, _ = numbers
+    return Instance(start, pid, root)
 
 
-def bound_of_text(text: str, instance: Instance) -> Bound:
+def bound_of_text(text: str, instance: Optional[Instance]) -> Bound:
+    """A clock id of this instance is its tick. One of another root or server, and one of the older form, is fresh."""
     if text.startswith("n:") and 1 <= len(text[2:].encode()) <= MAX_CURSOR_NAME:
         raise NamedCursor(text[2:])
-    if not text.startswith("c:"):
+    numbers = numbers_of(text)
+    if len(numbers) not in (2, 4):
         raise BadClockSpec
-    numbers = [number_of(part) for part in text[2:].split(":")]
-    if None in numbers or len(numbers) not in (2, 4):
-        raise BadClockSpec
-    return bound_of_numbers(numbers, instance)
+    *named, tick = numbers
+    return Bound("tick", tick) if instance is not None and named == list(instance) else FRESH
 
 
-def bound_of_numbers(numbers: List[Optional[int]], instance: Instance) -> Bound:
-    """A clock id of this instance is its tick. One of another root or server, and one of the older form, is fresh."""
-    if len(numbers) == 4 and numbers[:3] == list(instance):
-        return Bound("tick", numbers[3])
-    return FRESH
+def numbers_of(text: str) -> List[int]:
+    """The numbers of a clock id, or none if one of its parts is no number."""
+    parts = [number_of(part) for part in text[2:].split(":")]
+    numbers = [number for number in parts if number is not None]
+    return numbers if text.startswith("c:") and len(numbers) == len(parts) else []
 
 
 def number_of(digits: str) -> Optional[int]:

@@ -15,7 +15,7 @@ from wqclient.sockets import default_sockname
 
 from . import json_values
 from .assembler import assembled
-from .clocks import FIRST, Instance, instance_of
+from .clocks import Instance, instance_of
 from .compiler import TooLarge, compiled, names_tick
 from .disassembler import disassembled
 from .errors import LINE_TOO_LONG, NOT_JSON, PROGRAM_TOO_LARGE, Refused
@@ -242,8 +242,8 @@ def clock_of(arguments: argparse.Namespace, name: str, default: int) -> int:
 
 def compile_expression(arguments: argparse.Namespace) -> int:
     try:
-        instance = FIRST if arguments.clock is None else instance_of(arguments.clock)
-        program = program_of(expression_of(arguments.expression), instance, arguments.clock is not None)
+        instance = None if arguments.clock is None else instance_of(arguments.clock)
+        program = program_of(expression_of(arguments.expression), instance, may_name_ticks=instance is not None)
     except Refused as refused:
         return fail(REFUSED, refused.error)
     except ValueError as error:
@@ -257,8 +257,9 @@ def expression_of(word: str) -> bytes:
     return bytes_of(word, LONGEST_FILE) if word == "-" else os.fsencode(word)
 
 
-def program_of(text: bytes, instance: Instance, has_instance: bool) -> Program:
-    """The program that a server makes of an expression in JSON, or the error that it answers."""
+def program_of(text: bytes, instance: Optional[Instance] = None, may_name_ticks: bool = True) -> Program:
+    """The program that a server makes of an expression in JSON for a root, or the error that it answers. Without a root
+    each clock id in it is one of another root."""
     # The shortest line of a client that has it.
     line = b'["query","/",{"expression":' + text.strip() + b"}]"
     if len(line) > MAX_LINE:
@@ -269,9 +270,9 @@ def program_of(text: bytes, instance: Instance, has_instance: bool) -> Program:
     except json_values.NotJson:
         raise Refused(NOT_JSON) from None
     read_term(value, instance)
-    if names_tick(value) and not has_instance:
+    if names_tick(value) and not may_name_ticks:
         raise ValueError(
-            "the expression has a clock id; say with --clock a clock id of the server and root that it " "is for"
+            "the expression has a clock id; say with --clock a clock id of the server and root that it is for"
         )
     try:
         return compiled(value, instance)

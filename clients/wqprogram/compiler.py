@@ -3,7 +3,7 @@ the user's reference, and not from the program."""
 
 from typing import Any, Callable, Dict, List, NamedTuple, Optional
 
-from .clocks import FIRST, Instance, bound_of
+from .clocks import Instance, bound_of
 from .instructions import BY_NAME, RELATIONS
 from .program_file import Operation, Program, blank
 
@@ -34,7 +34,7 @@ class TooLarge(Exception):
         self.length = length
 
 
-def compiled(value: Any, instance: Instance = FIRST) -> Program:
+def compiled(value: Any, instance: Optional[Instance] = None) -> Program:
     """The program of an expression in JSON, which has no fault. Clock ids of the instance are its ticks."""
     code = code_of(value, instance)
     if len(code) >= LONGEST_CODE or any(step.name == "oneof" and len(step.operand) > LONGEST_LIST for step in code):
@@ -61,7 +61,7 @@ def names_tick(value: Any) -> bool:
     return head == "since" and isinstance(arguments[0], str) and arguments[0].count(":") == CLOCK_ID_COLONS
 
 
-def code_of(value: Any, instance: Instance) -> Code:
+def code_of(value: Any, instance: Optional[Instance]) -> Code:
     head, *arguments = [value] if isinstance(value, str) else value
     if head in COMBINATIONS:
         return COMBINATIONS[head]([code_of(term, instance) for term in arguments])
@@ -124,7 +124,7 @@ def size_code(relation: str, number: int) -> Code:
     return joined("jf", [[Step("exists")], compared([Step("size")], relation, number)])
 
 
-def since_code(instance: Instance, spec: Any, field: str = "oclock") -> Code:
+def since_code(instance: Optional[Instance], spec: Any, field: str = "oclock") -> Code:
     bound = bound_of(spec, instance)
     if bound.kind == "fresh":
         return [Step("exists")]

@@ -3,7 +3,7 @@
 from typing import Dict, Iterator, List
 
 from .program_file import Program, Version
-from .writing import ROW_WORDS, TABLE_WORDS, constant_words, operation_words
+from .writing import TABLE_WORDS, constant_words, operation_words, row_words
 
 INDENT = "    "
 # How wide an instruction is in front of a comment, and how long a comment may be.
@@ -16,7 +16,7 @@ def disassembled(program: Program, version: Version) -> str:
     lines = [f"version {version.number}"]
     for name in version.tables:
         if program.table(name):
-            lines += ["", TABLE_WORDS[name], *(INDENT + ROW_WORDS[name](row) for row in program.table(name))]
+            lines += ["", TABLE_WORDS[name], *(INDENT + row_words(row) for row in program.table(name))]
     lines += ["", "code", *code_lines(program)]
     return "\n".join(lines) + "\n"
 

@@ -1,7 +1,7 @@
 """Wildmatch patterns: a pattern is a row of atoms, and fits a text that can be cut into one part for each."""
 
 from functools import lru_cache
-from typing import AbstractSet, FrozenSet, List, NamedTuple, Optional, Tuple
+from typing import AbstractSet, FrozenSet, List, NamedTuple, Optional, Set, Tuple
 
 SLASH, DOT, STAR, QUESTION, BACKSLASH, DASH = b"/.*?\\-"
 OPEN, CLOSE = b"[]"
@@ -163,7 +163,7 @@ def class_at(pattern: bytes, place: int, flags: Flags) -> Tuple[Atom, int]:
 
 def class_members(pattern: bytes, place: int, flags: Flags) -> Tuple[Optional[FrozenSet[int]], int]:
     """The bytes of the items up to the closing bracket, or None where one has an unknown name."""
-    members = set()
+    members: Set[int] = set()
     has_unknown_name = False
     is_first = True
     while is_first or byte_at(pattern, place) != CLOSE:

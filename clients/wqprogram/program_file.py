@@ -1,6 +1,6 @@
 """Program files: the bytes that spell a program, and the fault of bytes that spell none."""
 
-from typing import Any, Callable, Dict, List, NamedTuple, Optional, Tuple
+from typing import Callable, Dict, List, NamedTuple, Optional, Sequence, Tuple, TypeVar, Union
 
 from .instructions import BY_BYTE, Instruction
 
@@ -23,7 +23,7 @@ class Version(NamedTuple):
 
     @property
     def greatest_place(self) -> int:
-        return 256**self.place_bytes - 1
+        return (1 << 8 * self.place_bytes) - 1
 
     def knows(self, instruction: Instruction) -> bool:
         return instruction.b in ("", "code", *self.tables)
@@ -36,6 +36,9 @@ VERSIONS: Dict[int, Version] = {
 LATEST = VERSIONS[max(VERSIONS)]
 
 Pattern = Tuple[int, bytes]
+# A constant.
+Row = Union[int, bytes, Pattern, List[bytes], List[Pattern]]
+Kind = TypeVar("Kind")
 
 
 class Operation(NamedTuple):
@@ -54,9 +57,16 @@ class Program(NamedTuple):
     sets: List[List[Pattern]]
     code: List[Operation]
 
-    def table(self, name: str) -> List[Any]:
+    def table(self, name: str) -> Sequence[Row]:
         """The table of constants of this name."""
-        return getattr(self, name)
+        tables: Dict[str, Sequence[Row]] = {
+            "numbers": self.numbers,
+            "texts": self.texts,
+            "lists": self.lists,
+            "patterns": self.patterns,
+            "sets": self.sets,
+        }
+        return tables[name]
 
 
 class FileFault(Exception):
@@ -97,8 +107,8 @@ class Reader:
             raise self.fault(fault, place)
         return number
 
-    def head(self) -> List[int]:
-        """The counts of the tables and of the instructions."""
+    def head(self) -> Dict[str, int]:
+        """How many rows each table of the version has, and the code."""
         for place, byte in enumerate(MAGIC):
             if self.number(1) != byte:
                 raise self.fault(1, place)
@@ -106,7 +116,7 @@ class Reader:
         if version is None:
             raise self.fault(2, len(MAGIC))
         self.version = version
-        return [self.number(version.count_bytes, version.most_rows, 7) for _ in [*version.tables, "code"]]
+        return {name: self.number(version.count_bytes, version.most_rows, 7) for name in [*version.tables, "code"]}
 
     def signed(self) -> int:
         return int.from_bytes(self.bytes_of(8), "big", signed=True)
@@ -137,7 +147,7 @@ class Reader:
         b = self.number(self.version.place_bytes, None if instruction.b else 0, 6)
         return Operation(instruction, a, b)
 
-    def rows(self, count: int, row: Callable[[], Any]) -> List[Any]:
+    def rows(self, count: int, row: Callable[[], Kind]) -> List[Kind]:
         return [row() for _ in range(count)]
 
 
@@ -145,17 +155,14 @@ def read(data: bytes) -> Program:
     """The program of a file."""
     reader = Reader(data)
     counts = reader.head()
-    kinds = {
-        "numbers": reader.signed,
-        "texts": reader.text,
-        "lists": reader.entries,
-        "patterns": reader.pattern,
-        "sets": reader.patterns,
-        "code": reader.operation,
-    }
-    names = [*reader.version.tables, "code"]
-    tables = {name: reader.rows(count, kinds[name]) for name, count in zip(names, counts)}
-    program = blank()._replace(**tables)
+    program = Program(
+        reader.rows(counts["numbers"], reader.signed),
+        reader.rows(counts["texts"], reader.text),
+        reader.rows(counts["lists"], reader.entries),
+        reader.rows(counts["patterns"], reader.pattern),
+        reader.rows(counts.get("sets", 0), reader.patterns),
+        reader.rows(counts["code"], reader.operation),
+    )
     if reader.place < len(data):
         raise reader.fault(4, reader.place)
     return program
@@ -178,14 +185,7 @@ class Writer:
         self.version = version
 
     def file(self, program: Program) -> bytes:
-        kinds = {
-            "numbers": self.signed,
-            "texts": self.text,
-            "lists": self.entries,
-            "patterns": self.pattern,
-            "sets": self.patterns,
-        }
-        rows = [[kinds[name](row) for row in program.table(name)] for name in self.version.tables]
+        rows = [[self.row(row) for row in program.table(name)] for name in self.version.tables]
         rows.append([self.operation(operation) for operation in program.code])
         counts = [self.count(len(table)) for table in rows]
         head = MAGIC + bytes([self.version.number])
@@ -194,21 +194,16 @@ class Writer:
     def count(self, number: int) -> bytes:
         return number.to_bytes(self.version.count_bytes, "big")
 
-    def signed(self, number: int) -> bytes:
-        return number.to_bytes(8, "big", signed=True)
-
-    def text(self, text: bytes) -> bytes:
-        return len(text).to_bytes(2, "big") + text
-
-    def entries(self, entries: List[bytes]) -> bytes:
-        return self.count(len(entries)) + b"".join(map(self.text, entries))
-
-    def pattern(self, pattern: Pattern) -> bytes:
-        flags, text = pattern
-        return bytes([flags, len(text)]) + text
-
-    def patterns(self, patterns: List[Pattern]) -> bytes:
-        return self.count(len(patterns)) + b"".join(map(self.pattern, patterns))
+    def row(self, row: Row) -> bytes:
+        """A constant, or an entry of a list or of a set."""
+        if isinstance(row, int):
+            return row.to_bytes(8, "big", signed=True)
+        if isinstance(row, bytes):
+            return len(row).to_bytes(2, "big") + row
+        if isinstance(row, tuple):
+            flags, text = row
+            return bytes([flags, len(text)]) + text
+        return self.count(len(row)) + b"".join([self.row(entry) for entry in row])
 
     def operation(self, operation: Operation) -> bytes:
         head = bytes([operation.instruction.byte, operation.a])

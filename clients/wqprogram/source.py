@@ -38,14 +38,16 @@ class TextFault(Exception):
 
 class Token(NamedTuple):
     """A word of the text. The kind is `name`, `number`, `text`, a mark, `line` for the end of a line, `end` for that of
-    the text, `other` for what is no word of a program, or `fault`. A text has its bytes as its value, a number its
-    number, and a fault the error."""
+    the text, `other` for what is no word of a program, or `fault`. A text has its bytes in `data`, and a fault its
+    error."""
 
     kind: str
     word: str
     line: int
     column: int
-    value: object = None
+    number: int = 0
+    data: bytes = b""
+    error: Optional[TextFault] = None
 
     def fault(self, name: str, expected: str) -> TextFault:
         return TextFault(name, self.line, self.column, self.shown(), expected)
@@ -96,7 +98,7 @@ def tokens_of(text: str) -> Iterator[Token]:
                 yield token
             before = token.kind
     except TextFault as fault:
-        yield Token("fault", "", fault.line, fault.column, fault)
+        yield Token("fault", "", fault.line, fault.column, error=fault)
 
 
 class Scanner:
@@ -138,10 +140,10 @@ class Scanner:
         end = start + 1 if word is None else word.end()
         return self.token_to(end, kind_of(self.text[start:end]))
 
-    def token_to(self, end: int, kind: str, value: object = None) -> Token:
+    def token_to(self, end: int, kind: str, data: bytes = b"") -> Token:
         word, column = self.text[self.place : end], self.place - self.line_start + 1
         self.place = end
-        return Token(kind, word, self.line, column, number_of(word) if kind == "number" else value)
+        return Token(kind, word, self.line, column, number_of(word) if kind == "number" else 0, data)
 
     def quoted(self) -> Token:
         """A text in quotes, and its bytes: those of its letters in UTF-8, and of its escapes."""
@@ -194,8 +196,8 @@ class Words:
     @property
     def next(self) -> Token:
         """The next token. A fault is raised when it is reached, so what is wrong before it counts first."""
-        if isinstance(self.first.value, TextFault):
-            raise self.first.value
+        if self.first.error is not None:
+            raise self.first.error
         return self.first
 
     @property

@@ -1,10 +1,10 @@
 """Expressions: a term is read as the test that says which records it matches."""
 
 import operator
-from typing import Any, Callable, List, Optional
+from typing import Any, Callable, Dict, List, Optional
 
 from . import clocks
-from .clocks import FIRST, Bound, Instance
+from .clocks import Bound, Instance
 from .errors import (
     BAD_CLOCK_SPEC,
     CURSOR_IN_TERM,
@@ -21,7 +21,7 @@ from .records import Record
 
 Test = Callable[[Record], bool]
 
-RELATIONS = {
+RELATIONS: Dict[str, Callable[[int, int], bool]] = {
     "eq": operator.eq,
     "ne": operator.ne,
     "gt": operator.gt,
@@ -33,7 +33,7 @@ TYPE_LETTERS = ["b", "c", "d", "f", "l", "p", "s", "D"]
 SINCE_FIELDS = ["oclock", "cclock", "mtime"]
 
 
-def read_term(value: Any, instance: Instance = FIRST, depth: int = 1) -> Test:
+def read_term(value: Any, instance: Optional[Instance] = None, depth: int = 1) -> Test:
     """The test that a term makes at this instance, or the refusal of its first fault."""
     if depth > MAX_TERM_DEPTH:
         raise Refused(TOO_DEEP)
@@ -56,18 +56,18 @@ def require(is_right: bool) -> None:
 # Terms with terms in them.
 
 
-def read_not(arguments: List[Any], instance: Instance, depth: int) -> Test:
+def read_not(arguments: List[Any], instance: Optional[Instance], depth: int) -> Test:
     require(len(arguments) == 1)
     inner = read_term(arguments[0], instance, depth + 1)
     return lambda record: not inner(record)
 
 
-def read_allof(arguments: List[Any], instance: Instance, depth: int) -> Test:
+def read_allof(arguments: List[Any], instance: Optional[Instance], depth: int) -> Test:
     inner = [read_term(argument, instance, depth + 1) for argument in arguments]
     return lambda record: all(test(record) for test in inner)
 
 
-def read_anyof(arguments: List[Any], instance: Instance, depth: int) -> Test:
+def read_anyof(arguments: List[Any], instance: Optional[Instance], depth: int) -> Test:
     inner = [read_term(argument, instance, depth + 1) for argument in arguments]
     return lambda record: any(test(record) for test in inner)
 
@@ -89,7 +89,8 @@ def is_empty(record: Record) -> bool:
 
 def read_type(arguments: List[Any]) -> Test:
     require(len(arguments) == 1 and arguments[0] in TYPE_LETTERS)
-    return lambda record: record.kind == arguments[0]
+    letter: str = arguments[0]
+    return lambda record: record.kind == letter
 
 
 def read_size(arguments: List[Any]) -> Test:
@@ -198,7 +199,7 @@ def are_match_options(value: Any) -> bool:
 # The term `since`.
 
 
-def read_since(arguments: List[Any], instance: Instance = FIRST) -> Test:
+def read_since(arguments: List[Any], instance: Optional[Instance] = None) -> Test:
     require(1 <= len(arguments) <= 2)
     field = arguments[1] if len(arguments) == 2 else "oclock"
     require(field in SINCE_FIELDS)
@@ -208,7 +209,7 @@ def read_since(arguments: List[Any], instance: Instance = FIRST) -> Test:
     return lambda record: moment(record, field, bound) > bound.number
 
 
-def bound_for(spec: Any, field: str, instance: Instance) -> Bound:
+def bound_for(spec: object, field: str, instance: Optional[Instance]) -> Bound:
     if field == "mtime" and isinstance(spec, str):
         raise Refused(BAD_CLOCK_SPEC)
     try:
@@ -221,16 +222,13 @@ def bound_for(spec: Any, field: str, instance: Instance) -> Bound:
 
 def moment(record: Record, field: str, bound: Bound) -> int:
     """The clock of the record in the unit of the bound."""
-    tick, second = {
-        "oclock": (record.otick, record.osec),
-        "cclock": (record.ctick, record.csec),
-        "mtime": (None, record.mtime),
-    }[field]
-    return tick if bound.kind == "tick" else second
+    if bound.kind == "tick":
+        return record.otick if field == "oclock" else record.ctick
+    return {"oclock": record.osec, "cclock": record.csec, "mtime": record.mtime}[field]
 
 
 COMBINATIONS = {"not": read_not, "allof": read_allof, "anyof": read_anyof}
-TERMS = {
+TERMS: Dict[str, Callable[[List[Any]], Test]] = {
     "true": read_plain(lambda record: True),
     "false": read_plain(lambda record: False),
     "exists": read_plain(lambda record: record.exists),

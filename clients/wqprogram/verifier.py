@@ -133,8 +133,8 @@ class Costs:
         """How many cells the patterns of an instruction have at each byte of a text, and at its end."""
         key = (operation.instruction.b, operation.b)
         if key not in self.columns:
-            row = self.program.table(operation.instruction.b)[operation.b]
-            patterns = row if operation.instruction.name == "anymatch" else [row]
+            program, row = self.program, operation.b
+            patterns = program.sets[row] if operation.instruction.name == "anymatch" else [program.patterns[row]]
             self.columns[key] = sum(atom_count(pattern) + 1 for pattern in patterns)
         return self.columns[key]
 

@@ -1,9 +1,7 @@
 """How instructions, constants and kinds are written."""
 
-from typing import Any, List
-
 from .instructions import FOLDS, RELATIONS
-from .program_file import Operation, Pattern, Program
+from .program_file import Operation, Program, Row
 
 KINDS = {"F": "flag", "N": "number", "T": "text", "?": "cell"}
 # The words of the flags of a pattern, from the lowest bit on.
@@ -43,36 +41,33 @@ def letter_words(letter: str) -> str:
     return "".join(f"\\x{byte:02x}" for byte in letter.encode("utf-8", "surrogateescape"))
 
 
-def list_words(entries: List[bytes]) -> str:
-    return "[" + ", ".join(map(quoted, entries)) + "]"
-
-
-def pattern_words(pattern: Pattern) -> str:
-    flags, text = pattern
-    return " ".join([quoted(text), *(word for bit, word in enumerate(PATTERN_FLAGS) if flags >> bit & 1)])
-
-
-def set_words(patterns: List[Pattern]) -> str:
-    return "[" + ", ".join(map(pattern_words, patterns)) + "]"
-
-
-ROW_WORDS = {"numbers": str, "texts": quoted, "lists": list_words, "patterns": pattern_words, "sets": set_words}
+def row_words(row: Row) -> str:
+    """A constant, or an entry of a list or of a set."""
+    if isinstance(row, int):
+        return str(row)
+    if isinstance(row, bytes):
+        return quoted(row)
+    if isinstance(row, tuple):
+        flags, text = row
+        return " ".join([quoted(text), *(word for bit, word in enumerate(PATTERN_FLAGS) if flags >> bit & 1)])
+    return "[" + ", ".join([row_words(entry) for entry in row]) + "]"
 
 
 def constant_words(program: Program, operation: Operation, longest: int) -> str:
     """The constant that an instruction names, if it names one that is there, cut after so many letters."""
     table = operation.instruction.b
-    if table not in ROW_WORDS or operation.b >= len(program.table(table)):
+    if table not in TABLE_WORDS or operation.b >= len(program.table(table)):
         return ""
-    words = ROW_WORDS[table](front_of(program.table(table)[operation.b], longest))
+    words = row_words(front_of(program.table(table)[operation.b], longest))
     return words if len(words) <= longest else words[: longest - 2] + ".."
 
 
-def front_of(row: Any, longest: int) -> Any:
-    """As much of a constant as makes so many letters, each of which has four bytes at most: a list may be very long."""
+def front_of(row: Row, longest: int) -> Row:
+    """As much of a constant as makes so many letters: a list may be very long, and so may a text, each letter of which
+    has four bytes at most."""
     if isinstance(row, bytes):
         return row[: 4 * longest]
-    return [front_of(entry, longest) for entry in row[:longest]] if isinstance(row, list) else row
+    return row[:longest] if isinstance(row, list) else row
 
 
 def kinds_words(stack: str) -> str:

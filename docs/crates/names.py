@@ -1,7 +1,6 @@
 """The names of the protocol, as functions of the crates list them: clients/wqclient/names.py has them for clients."""
 
 import re
-import textwrap
 from pathlib import Path
 from typing import List, NamedTuple
 
@@ -82,6 +81,8 @@ def commands_of_a_root(source: Path) -> List[str]:
 
 
 def list_of(called: str, names: List[str]) -> str:
-    quoted = ", ".join(f'"{name}"' for name in names)
-    indent = " " * len(f"{called} = [")
-    return textwrap.fill(f"{called} = [{quoted}]", COLUMNS, subsequent_indent=indent, break_on_hyphens=False) + "\n"
+    """An assignment, laid out as by black: in one line if it fits, or else with a line for each name."""
+    line = f"{called} = [" + ", ".join(f'"{name}"' for name in names) + "]\n"
+    if len(line) <= COLUMNS + 1:
+        return line
+    return f"{called} = [\n" + "".join(f'    "{name}",\n' for name in names) + "]\n"

@@ -19,10 +19,10 @@ from document import Table, read_page
 from draws import Draws, array
 from notation import expand
 from replay import turns
+from scripted import FIRST, FIRST_ROOT
 from unproved import answers
 from views import View
 from wqprogram import json_values
-from wqprogram.clocks import FIRST_ROOT
 from wqprogram.compiler import TooLarge, compiled
 from wqprogram.errors import Refused
 from wqprogram.machine import run as plain_run
@@ -136,8 +136,8 @@ def made_of(line: str) -> Made:
 def expected_for(value: Any, view: View) -> Made:
     """What the plain compiler, the plain machine and the plain program say."""
     try:
-        test = read_term(value)
-        program = compiled(value)
+        test = read_term(value, FIRST)
+        program = compiled(value, FIRST)
     except Refused as refused:
         return Made(None, f"refused {refused.error.split(': ')[1]}", [])
     except TooLarge as large:

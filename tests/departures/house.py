@@ -11,7 +11,7 @@ from typing import List
 
 from case import Case
 from client import VERSION, Client, Server, query_of_names
-from test_large import MEMORY, has_room, make_names
+from trees import MEMORY, has_room, make_names
 from waiting import PATIENCE, wait_until
 
 # The pause between two rounds, in milliseconds, within which a place has to be free.

@@ -9,7 +9,7 @@ from pathlib import Path
 from case import Case
 from client import A_HOUR, Client, Server
 from follower import Follower, make_tree
-from test_mounted import Passing, compiled, in_namespace, made
+from mounts import Passing, compiled, in_namespace, made
 from waiting import wait_until
 
 # So long Watchman may take to hear of a change, in seconds; where the kernel tells it takes a thirtieth of that.

@@ -10,7 +10,7 @@ from typing import List, Tuple
 
 from case import Case
 from client import A_HOUR, VERSION, Server, query_of_names
-from test_mounted import in_namespace, made
+from mounts import in_namespace, made
 
 # How much more memory the server may take for the names, in bytes.
 MORE_MEMORY = 200_000_000

@@ -6,6 +6,7 @@ from typing import Any, Dict, Iterator, List, Set
 from generators import ANY_DEPTH
 from queries import FIELDS, LEFT_OUT_KEYS, Query, listed_records
 from replay import EndOfRun, Malformed, Turn, turns
+from scripted import at_root, clock_id
 from triggers import Round, Start, has_input
 from views import View
 from wqclient import names
@@ -271,7 +272,7 @@ def count_generators(asked: Dict[str, Any], query: Query, view: View, counts: Co
 
 
 def is_of_an_earlier_root(spec: Any, root: int) -> bool:
-    ids = [clocks.clock_id(earlier, 0)[:-1] for earlier in range(1, root)]
+    ids = [clock_id(earlier, 0)[:-1] for earlier in range(1, root)]
     return isinstance(spec, str) and any(spec.startswith(start) for start in ids)
 
 
@@ -303,7 +304,7 @@ def terms_in(value: Any) -> Iterator[List[Any]]:
 
 def count_term(term: List[Any], root: int, view: View, counts: Counter) -> None:
     head = term[0]
-    test = read_term(term, clocks.at_root(root))
+    test = read_term(term, at_root(root))
     form = f"{head} of many texts" if has_many_texts(term) else head
     for answer in {test(record) for record in view.records}:
         counts[f"term {form} {'matches' if answer else 'does not match'}"] += 1
@@ -319,7 +320,7 @@ def count_term(term: List[Any], root: int, view: View, counts: Counter) -> None:
         count_match(term, counts)
     elif head == "since":
         field = term[2] if len(term) == 3 else "oclock"
-        counts[f"since {field} with a {clocks.bound_of(term[1], clocks.at_root(root)).kind}"] += 1
+        counts[f"since {field} with a {clocks.bound_of(term[1], at_root(root)).kind}"] += 1
 
 
 def has_many_texts(term: List[Any]) -> bool:

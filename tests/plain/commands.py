@@ -5,9 +5,9 @@ from typing import Any, Callable, Dict, List, NamedTuple, Optional
 from followers import Session, Told
 from programs import program_of
 from queries import Query, read_query, reply_to, settled
+from scripted import clock_id
 from servers import Server
 from triggers import add_trigger, read_trigger
-from wqprogram.clocks import clock_id
 from wqprogram.errors import (
     BAD_NAME,
     BINARY,

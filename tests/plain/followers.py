@@ -3,9 +3,10 @@
 from typing import Any, Dict, List, NamedTuple
 
 from queries import Query, file_of, reply_to
+from scripted import clock_id
 from servers import Server
 from views import History
-from wqprogram.clocks import Bound, clock_id
+from wqprogram.clocks import Bound
 from wqprogram.errors import TOO_MANY_SUBSCRIPTIONS, Refused
 from wqprogram.limits import MAX_SUBSCRIPTIONS
 from wqprogram.records import Record

@@ -4,7 +4,7 @@ table, and others are run by the plain machine. What programs mean is compared e
 import base64
 from typing import Any, Callable, Dict, NamedTuple
 
-from wqprogram.clocks import at_root
+from scripted import at_root
 from wqprogram.compiler import TooLarge, compiled
 from wqprogram.errors import NOT_BASE64, PROGRAM_TOO_LARGE, WRONG_FILE, WRONG_PROGRAM, Refused
 from wqprogram.machine import run

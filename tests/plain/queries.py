@@ -4,10 +4,11 @@ from typing import Any, Callable, Dict, List, NamedTuple, Optional
 
 from generators import Generators, candidate_test, read_generators
 from programs import require_program
+from scripted import FIRST_ROOT, at_root, clock_id
 from servers import Server
 from views import View
 from wqprogram import clocks
-from wqprogram.clocks import FIRST_ROOT, FRESH, Bound, at_root, clock_id
+from wqprogram.clocks import FRESH, Bound
 from wqprogram.errors import (
     BAD_CLOCK_SPEC,
     BAD_GENERATOR,

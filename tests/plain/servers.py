@@ -3,8 +3,9 @@
 from typing import Any, Dict, List, Optional
 
 from programs import Program
+from scripted import FIRST_ROOT
 from views import History, Pass
-from wqprogram.clocks import FIRST_ROOT, FRESH, Bound
+from wqprogram.clocks import FRESH, Bound
 from wqprogram.errors import NO_SUCH_PROGRAM, NOT_WATCHED, SHELF_FULL, UNREADABLE_ROOT, Refused
 from wqprogram.limits import MAX_CURSORS, MAX_PROGRAMS
 

@@ -5,8 +5,9 @@ from typing import Any, Dict, List, NamedTuple, Optional
 from followers import changed_after
 from programs import require_program
 from queries import FIELDS, Query, file_of, listed_records
+from scripted import at_root, clock_id
 from servers import Server
-from wqprogram.clocks import FRESH, Bound, at_root, clock_id
+from wqprogram.clocks import FRESH, Bound
 from wqprogram.errors import BAD_NAME, BAD_TRIGGER, EXPRESSION_AND_PROGRAM, TOO_MANY_TRIGGERS, Refused
 from wqprogram.json_values import compact_text, is_whole_number
 from wqprogram.limits import MAX_APPENDED, MAX_NUMBER, MAX_TRIGGER_NAME, MAX_TRIGGERS

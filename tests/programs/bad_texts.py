@@ -149,7 +149,7 @@ BAD_TEXTS: List[BadText] = [
     ),
     BadText(
         f"nums\n{'a' * 90}: 1\ncode\nnum {'a' * 91}\n",
-        f'4:5: no such label: found "{"a" * 40}..", ' f'expected a label of "nums", as "{"a" * 40}.."',
+        f'4:5: no such label: found "{"a" * 40}..", expected a label of "nums", as "{"a" * 40}.."',
     ),
     BadText("nums\nsrc: 1\ncode\ntext src\n", '4:6: no such label: found "src", expected a label of "texts"'),
     BadText("code\nagain: exists\njf again\nret\n", '3:4: jump back: found "again", expected ' + FORWARD),

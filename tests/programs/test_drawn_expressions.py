@@ -7,9 +7,9 @@ from typing import List, Union
 import built
 import generate_terms
 from case import Case
+from replies import TREE, records_of, replies_to
 from draws import Draws
-from test_drawn_programs import TREE, records_of, replies_to
-from wqprogram.clocks import FIRST
+from scripted import FIRST
 from wqprogram.command import program_of
 from wqprogram.errors import Refused
 from wqprogram.program_file import written
@@ -59,6 +59,6 @@ def drawn_expressions() -> List[str]:
 
 def file_or_error(expression: str) -> Union[bytes, str]:
     try:
-        return written(program_of(expression.encode(), FIRST, has_instance=True))
+        return written(program_of(expression.encode(), FIRST))
     except Refused as refused:
         return refused.error

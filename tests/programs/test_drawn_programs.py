@@ -7,12 +7,11 @@ from functools import lru_cache
 from pathlib import Path
 from typing import Dict, List, NamedTuple, Optional
 
-import built
 from case import Case
 from case_file import read_cases
 from drawn import Drawn, drawn_of
 from draws import Draws
-from replay import turns
+from replies import TREE, records_of, replies_to
 from wqprogram.assembler import assembled
 from wqprogram.disassembler import disassembled
 from wqprogram.explainer import explained
@@ -30,7 +29,6 @@ DAMAGED = 500
 # programs of version 2 are such that version 1 can hold them, and so many are not.
 FEWEST_RUN, FEWEST_FILE_FAULTS, FEWEST_FIT, FEWEST_UNFIT = 1_500, 1_500, 30, 300
 TESTS = Path(__file__).resolve().parent.parent
-TREE = TESTS / "compile" / "tree"
 CASES = TESTS / "check" / "cases"
 QUERY = '["query","/r",{"program":"p","since":"c:7:9:1:0","sync_timeout":0,"fields":["name"]}]'
 LETTERS = ':[],"#\\- \n\t0ax_\u00fc\u202e'
@@ -163,21 +161,6 @@ def asked_of(file: bytes) -> Asked:
     # The server does not tell the budget.
     line = re.sub(r"^(ok \d+) \d+$", r"\1", explained(found).splitlines()[-1])
     return Asked(file, found, line, [add, QUERY] if line.startswith("ok ") else [add])
-
-
-def replies_to(lines: List[str]) -> List[dict]:
-    """The answer of a server to each line, after the passes of the tree."""
-    script = TREE.read_bytes() + "".join(f"ask 1 {line}\n" for line in lines).encode()
-    ended = built.replay(script)
-    assert (ended.errors, ended.status) == (b"", 0), built.excerpt(ended.errors)
-    replies = [json.loads(line[2:]) for line in ended.output.splitlines()]
-    assert len(replies) == len(lines), f"{len(replies)} replies to {len(lines)} lines"
-    return replies
-
-
-def records_of(tree: bytes) -> List[Record]:
-    """The records of the plain program after the passes of a tree."""
-    return list(turns(tree + b'ask 1 ["clock","/r"]\n'))[-1].view.records
 
 
 def line_of(reply: dict) -> str:

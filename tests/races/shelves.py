@@ -3,7 +3,7 @@
 from typing import Any, Dict, List, NamedTuple, Optional, Tuple
 
 from history import INSTRUCTIONS, NEW, Asked, Request, own_file
-from wqprogram.clocks import clock_id
+from scripted import clock_id
 from wqprogram.errors import NO_SUCH_PROGRAM
 
 Reply = Dict[str, Any]

@@ -6,9 +6,9 @@ from typing import Any, Dict, List, NamedTuple, Sequence
 from case import Case
 from history import INSTRUCTIONS, NEW, Asked, Coming, Request, own_file
 from orders import order_of, shortest
+from scripted import clock_id
 from shelves import VERSION, Reply, Tree, answer
 from views_seen import gone_back, missed
-from wqprogram.clocks import clock_id
 from wqprogram.errors import NO_SUCH_PROGRAM
 
 V0, V1, NEW2, NEW3 = own_file(0), own_file(1), f"{NEW}2", f"{NEW}3"
@@ -73,31 +73,17 @@ def of_lists() -> List[Worked]:
         Worked("a list after an addition is before it", [add_a, at(2, 11, 12, LIST, listed())], 2),
         Worked(
             "two lists in one order",
-            [
-                add_a,
-                add_b,
-                at(3, 11, 12, LIST, listed("b", "a")),
-                at(4, 11, 12, LIST, listed("b", "a")),
-            ],
+            [add_a, add_b, at(3, 11, 12, LIST, listed("b", "a")), at(4, 11, 12, LIST, listed("b", "a"))],
             0,
         ),
         Worked(
             "two lists in two orders",
-            [
-                add_a,
-                add_b,
-                at(3, 11, 12, LIST, listed("a", "b")),
-                at(4, 11, 12, LIST, listed("b", "a")),
-            ],
+            [add_a, add_b, at(3, 11, 12, LIST, listed("a", "b")), at(4, 11, 12, LIST, listed("b", "a"))],
             4,
         ),
         Worked(
             "a list has a program that is added and goes back",
-            [
-                add_a,
-                at(2, 1, 4, LIST, listed("a")),
-                at(3, 5, 6, LIST, listed()),
-            ],
+            [add_a, at(2, 1, 4, LIST, listed("a")), at(3, 5, 6, LIST, listed())],
             3,
         ),
         Worked("a list that lasts has the later addition alone", [add_a, late_b, at(3, 0, 40, LIST, listed("b"))], 3),
@@ -121,38 +107,23 @@ def of_names() -> List[Worked]:
     return [
         Worked(
             "two deletions at once, one finds it",
-            [
-                add,
-                at(1, 20, 30, DELETE_A, deleted("a", True)),
-                at(2, 20, 30, DELETE_A, deleted("a", False)),
-            ],
+            [add, at(1, 20, 30, DELETE_A, deleted("a", True)), at(2, 20, 30, DELETE_A, deleted("a", False))],
             0,
         ),
         Worked(
             "two deletions at once, both find it",
-            [
-                add,
-                at(1, 20, 30, DELETE_A, deleted("a", True)),
-                at(2, 20, 30, DELETE_A, deleted("a", True)),
-            ],
+            [add, at(1, 20, 30, DELETE_A, deleted("a", True)), at(2, 20, 30, DELETE_A, deleted("a", True))],
             3,
         ),
         Worked("two additions at once, neither replaces", [add, at(2, 0, 10, ADD_A1, added("a", False))], 2),
         Worked(
             "two additions at once, both replace",
-            [
-                at(1, 0, 10, ADD_A, added("a", True)),
-                at(2, 0, 10, ADD_A1, added("a", True)),
-            ],
+            [at(1, 0, 10, ADD_A, added("a", True)), at(2, 0, 10, ADD_A1, added("a", True))],
             2,
         ),
         Worked(
             "a deletion between two additions",
-            [
-                add,
-                at(2, 0, 10, ADD_A1, added("a", False)),
-                at(3, 5, 6, DELETE_A, deleted("a", True)),
-            ],
+            [add, at(2, 0, 10, ADD_A1, added("a", False)), at(3, 5, 6, DELETE_A, deleted("a", True))],
             0,
         ),
         Worked(
@@ -190,56 +161,33 @@ def of_cursors() -> List[Worked]:
         Worked("two uses at once, both the first", [at(1, 0, 10, CURSOR, first), at(2, 0, 10, CURSOR, first)], 2),
         Worked(
             "a change is found twice",
-            [
-                at(1, 0, 10, CURSOR, first),
-                at(1, 11, 12, CURSOR, third),
-                at(2, 13, 14, CURSOR, third),
-            ],
+            [at(1, 0, 10, CURSOR, first), at(1, 11, 12, CURSOR, third), at(2, 13, 14, CURSOR, third)],
             3,
         ),
         Worked(
             "a change is found by one of two at once",
-            [
-                at(1, 0, 10, CURSOR, first),
-                at(1, 11, 14, CURSOR, nothing),
-                at(2, 11, 14, CURSOR, third),
-            ],
+            [at(1, 0, 10, CURSOR, first), at(1, 11, 14, CURSOR, nothing), at(2, 11, 14, CURSOR, third)],
             0,
         ),
         Worked(
             "a cursor stays when an older view comes last",
-            [
-                at(1, 0, 10, CURSOR, last),
-                at(2, 11, 12, CURSOR, found(2, [], False)),
-                at(1, 13, 14, CURSOR, nothing),
-            ],
+            [at(1, 0, 10, CURSOR, last), at(2, 11, 12, CURSOR, found(2, [], False)), at(1, 13, 14, CURSOR, nothing)],
             0,
         ),
         Worked(
             "a cursor goes back when an older view comes last",
-            [
-                at(1, 0, 10, CURSOR, last),
-                at(2, 11, 12, CURSOR, found(2, [], False)),
-                at(1, 13, 14, CURSOR, third),
-            ],
+            [at(1, 0, 10, CURSOR, last), at(2, 11, 12, CURSOR, found(2, [], False)), at(1, 13, 14, CURSOR, third)],
             3,
         ),
         Worked("a refused query moves no cursor", [at(1, 0, 10, BOTH, NONE), at(1, 11, 12, CURSOR, first)], 0),
         Worked(
             "a refused query moves the cursor",
-            [
-                at(1, 0, 10, BOTH, NONE),
-                at(1, 11, 12, CURSOR, found(2, [], False)),
-            ],
+            [at(1, 0, 10, BOTH, NONE), at(1, 11, 12, CURSOR, found(2, [], False))],
             2,
         ),
         Worked(
             "a query by a program moves the cursor",
-            [
-                add,
-                at(1, 11, 12, BOTH, found(2, [NEW2, V0], True)),
-                at(2, 13, 14, CURSOR, third),
-            ],
+            [add, at(1, 11, 12, BOTH, found(2, [NEW2, V0], True)), at(2, 13, 14, CURSOR, third)],
             0,
         ),
     ]

@@ -43,7 +43,7 @@ FUNCTION = re.compile(r"^\s*(?:pub(?:\([a-z]+\))?\s+)?(?:const\s+)?fn\s+(\w+)")
 # The first line after contracts: that of a body, also of a closure's, or of the next item or statement.
 ENDS_CLAUSES = re.compile(r"\s*(?:\{|(?:pub|fn|let|if|match|for|while|loop|return)\b)")
 CONVERSION = re.compile(
-    r"^impl(?:<[^{]*>)?\s+From<(?:[\w:]*::)?" r"(?:AllocError|AllocFailed|TryReserveError|CollectionAllocErr)\b"
+    r"^impl(?:<[^{]*>)?\s+From<(?:[\w:]*::)?(?:AllocError|AllocFailed|TryReserveError|CollectionAllocErr)\b"
 )
 SAYS_NO_MEMORY = re.compile(r"\b(?:NoMemory|OutOfMemory|Memory)\b|is_memory\(\)")
 

@@ -5,7 +5,8 @@ import time
 import built
 from case import Beside
 from client import A_HOUR, Server
-from test_slow import ask_much, fill_root
+from shared import ask_much
+from trees import fill_directory
 
 # A client is cut off after one to two minutes, and some seconds may pass until its threads have ended.
 LEAST_WAIT = 55
@@ -15,7 +16,7 @@ MOST_WAIT = 150
 class Deaf(Beside):
     def test_a_write_that_waits(self) -> None:
         root = self.room / "tree"
-        fill_root(root, 10_000)
+        fill_directory(root, 10_000)
         with Server(self.room, interval=A_HOUR) as server, server.client(root) as client:
             before = server.least_threads()
             with server.client() as deaf:

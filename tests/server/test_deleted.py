@@ -5,7 +5,7 @@ from typing import List
 
 from case import Case
 from client import A_HOUR, PATIENCE, Client, Server
-from test_gone import fill_directory
+from trees import fill_directory
 
 FILES = 20_000
 # Of the memory of a view that goes, the C library keeps a part, which is small beside that of so many files.

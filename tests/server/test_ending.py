@@ -6,7 +6,7 @@ from typing import List, NamedTuple
 
 from case import Case
 from client import Client, Server
-from test_gone import fill_directory
+from trees import fill_directory
 
 FILES = 10_000
 ROOTS = 16

@@ -9,14 +9,13 @@ from typing import Dict, Tuple
 
 from case import Case
 from client import Client, Server, query_of_names, walked
-from test_yielding import fill
+from shared import FEW, listed, make_recent
+from trees import fill
 
 # How long the server pauses between two rounds, in seconds, and how much of a processor rounds may take.
 INTERVAL = 0.5
 PERCENT = 10
 WRITES = 12
-# With this share the large root rests for many rounds after each walk.
-FEW = 1
 # A glance, a list and a busy machine add this to two intervals, in seconds.
 LATE = 0.3
 # How long files come and go at random, in seconds.
@@ -89,13 +88,6 @@ class Glancing(Case):
         self.check("what a subscriber heard of in the end", is_right, [f"{len(picture)} files"])
 
 
-def make_recent(client: Client, directory: Path, root: Path) -> None:
-    """Something changes in a directory, and a walk sees it."""
-    (directory / "first").touch()
-    found = client.ask("query", str(root), {**query_of_names(), "expression": ["name", "first"]})
-    assert found["files"] == [f"{directory.name}/first"], found
-
-
 def seconds_until_a_list(client: Client, path: Path) -> float:
     """How long it takes from a new file, at any moment of an interval, to the list that has it."""
     time.sleep(random.uniform(0.0, 2 * INTERVAL))
@@ -104,12 +96,6 @@ def seconds_until_a_list(client: Client, path: Path) -> float:
     while not any(name.endswith(path.name) for name in client.reply().get("files", [])):
         pass
     return time.monotonic() - began
-
-
-def listed(client: Client, root: Path, name: str, count: int, below: str = "") -> list:
-    """The files of a name that a query finds without a crawl, as soon as there are so many or the patience ends."""
-    query = {**query_of_names(), "expression": ["allof", ["name", name], ["dirname", below]], "sync_timeout": 0}
-    return client.ask_until("query", str(root), query, lambda reply: len(reply["files"]) == count)["files"]
 
 
 def change(root: Path, dice: random.Random) -> None:

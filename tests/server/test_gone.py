@@ -1,14 +1,14 @@
 """Roots whose directory goes and comes back."""
 
-import json
 import shutil
 import time
 from pathlib import Path
 
 from case import Case
 from client import A_HOUR, ENDED, VERSION, Client, Server, query_of_names
+from shared import UNREADABLE, told, told_of
+from trees import fill_directory
 
-UNREADABLE = {"error": "E11: root cannot be read", **VERSION}
 NOT_WATCHED = {"error": "E14: root is not watched", **VERSION}
 
 
@@ -105,24 +105,8 @@ class Gone(Case):
         self.same("a query of what is not watched", client.ask("query", str(root), {"sync_timeout": 0}), NOT_WATCHED)
 
 
-def told_of(root: Path) -> bytes:
-    """The line by which the operator is told of a root that cannot be read."""
-    return told(root, "the root cannot be read")
-
-
-def told(root: Path, fault: str) -> bytes:
-    """The operator's line about a root with this fault."""
-    return f"{json.dumps(str(root), ensure_ascii=False)}: {fault}\n".encode()
-
-
 def seconds_of_a_crawl(client: Client, root: Path) -> float:
     """How long a query takes that crawls, and waits for a crawl that goes on before that: a crawl at least."""
     began = time.monotonic()
     client.ask("query", str(root), {"expression": "false"})
     return time.monotonic() - began
-
-
-def fill_directory(directory: Path, count: int) -> None:
-    directory.mkdir(parents=True)
-    for number in range(count):
-        (directory / f"file{number:03}").touch()

@@ -8,7 +8,8 @@ from pathlib import Path
 
 from case import Case
 from client import A_HOUR, ENDED, LOOKS, Client, Server, query_of_names
-from test_gone import UNREADABLE, fill_directory, told
+from trees import fill_directory
+from shared import UNREADABLE, told
 from waiting import wait_until
 
 DIRECTORIES = 100

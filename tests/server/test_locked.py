@@ -1,24 +1,14 @@
 """Directories below a root that the server may not read."""
 
-from contextlib import contextmanager
 from pathlib import Path
-from typing import Iterator, List
+from typing import List
 
 from case import Case
 from client import A_HOUR, VERSION, Client, Server, query_of_names
+from trees import lock
 
 OPEN = ["locked", "open", "open/file"]
 BELOW = ["locked/directory", "locked/directory/file", "locked/file"]
-
-
-@contextmanager
-def lock(directory: Path) -> Iterator[None]:
-    """Nobody but a root with all its powers may read a directory, until that is over: then it can be removed again."""
-    directory.chmod(0)
-    try:
-        yield
-    finally:
-        directory.chmod(0o700)
 
 
 class Locked(Case):

@@ -9,8 +9,8 @@ from typing import List
 
 from case import Beside, Case
 from client import Client, Server, query_of_names
-from test_traced import STRACE
-from test_yielding import fill
+from trees import fill
+from shared import STRACE
 from waiting import wait_until
 
 # How long a root rests at least between two walks, in seconds, and how much of a processor rounds may take.

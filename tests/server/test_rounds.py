@@ -5,7 +5,7 @@ import time
 
 from case import Case
 from client import Server
-from test_gone import told_of
+from shared import told_of
 
 # How long the server pauses between two rounds by itself, in seconds, and how long a round of a small tree takes at
 # most.

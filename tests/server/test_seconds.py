@@ -1,18 +1,9 @@
 """What changed since a second, by the clock of the machine."""
 
-import time
 
 from case import Case
 from client import A_HOUR, Server
-
-
-def second() -> int:
-    return int(time.time())
-
-
-def wait_until(moment: int) -> None:
-    while second() < moment:
-        time.sleep(0.01)
+from shared import second, until_second
 
 
 class Seconds(Case):
@@ -25,7 +16,7 @@ class Seconds(Case):
             before = second()
             client.ask("watch", str(root))
             after = second()
-            wait_until(after + 1)
+            until_second(after + 1)
             (root / "changes").write_text("longer")
             (root / "comes").touch()
             (root / "goes").unlink()

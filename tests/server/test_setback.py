@@ -9,7 +9,7 @@ from typing import List
 
 from case import Case
 from client import A_HOUR, VERSION, Client, Server
-from test_seconds import second, wait_until
+from shared import second, until_second
 
 SOURCE = Path(__file__).resolve().parent / "clock.c"
 SECONDS_BACK = 7_200
@@ -27,12 +27,12 @@ class Setback(Case):
         through = ["env", f"LD_PRELOAD={library}", f"WQD_CLOCK={back}"]
         with Server(self.room, interval=A_HOUR, through=through) as server, server.client(root) as client:
             seen = second()
-            wait_until(seen + 2)
+            until_second(seen + 2)
             (root / "second").touch()
             last = second()
             clock = client.ask("query", str(root), {})["clock"]
             back.write_text(str(SECONDS_BACK))
-            wait_until(last + 3)
+            until_second(last + 3)
             (root / "third").touch()
             reply = client.ask("query", str(root), {"since": clock, "fields": ["name"]})
             self.same("what changed since a clock, when it was set back", reply["files"], ["third"])

@@ -6,7 +6,7 @@ from pathlib import Path
 
 from case import Case
 from client import Client, Server, query_of_names
-from test_gone import fill_directory
+from trees import fill_directory
 
 DIRECTORIES = 50
 FILES = 100

@@ -6,6 +6,8 @@ from typing import List
 
 from case import Case
 from client import VERSION, Client, Server, query_of_names
+from shared import ask_much
+from trees import fill_directory
 
 SESSIONS = 32
 TOO_MANY = {"error": "E17: too many sessions", **VERSION}
@@ -16,17 +18,6 @@ LONG_LINES = 40
 # 8 lines wait for a session, its reader holds what it cuts the next ones from, and the socket some more.
 MOST_TAKEN = 12_000_000
 MOST_MEMORY = 250_000_000
-
-
-def fill_root(root: Path, count: int) -> None:
-    root.mkdir()
-    for number in range(count):
-        (root / f"file{number:05}").touch()
-
-
-def ask_much(client: Client, root: Path, times: int) -> None:
-    """Asks for replies each of which is more than a socket holds."""
-    client.send_bytes(b'["query",%s,{"fields":["name","size"]}]\n' % client.text(str(root)) * times)
 
 
 class Slow(Case):
@@ -45,7 +36,7 @@ class Slow(Case):
         """One that never reads, one that sends half a line, one that goes in the middle of a reply: the others go
         on."""
         root = self.room / "tree"
-        fill_root(root, 10_000)
+        fill_directory(root, 10_000)
         with Server(self.room) as server, server.client(root) as client:
             half, deaf, gone = server.client(), server.client(), server.client()
             half.send_bytes(b'["version"')
@@ -63,7 +54,7 @@ class Slow(Case):
     def test_all_slow(self) -> None:
         """31 slow clients beside one that is not. Of each three one never reads, one stays in a line, and one goes."""
         root = self.room / "tree"
-        fill_root(root, 10_000)
+        fill_directory(root, 10_000)
         with Server(self.room, interval=200) as server, server.client(root) as client:
             slow = [server.client() for _ in range(SESSIONS - 1)]
             self.same("all clients", [one.ask("version") for one in slow], [VERSION] * len(slow))

@@ -10,10 +10,8 @@ from typing import Callable, List, Tuple
 
 from case import Case
 from client import Server, query_of_names
-from test_glancing import FEW, listed, make_recent
-from test_large import in_memory
-from test_traced import STRACE
-from test_yielding import FILES, fill
+from shared import FEW, STRACE, listed, make_recent
+from trees import FILES, fill, in_memory
 
 # How long calls are counted, in seconds.
 COUNTED = 10.0

@@ -9,8 +9,7 @@ from pathlib import Path
 
 from case import Beside, Case
 from client import A_HOUR, ENDED, Server, query_of_names
-from test_gone import fill_directory
-from test_locked import lock
+from trees import fill_directory, lock
 
 NAMES = (b"\xff", b"b\xfe", b"directory/\xfd")
 FILES = 60_000

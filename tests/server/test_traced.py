@@ -7,10 +7,9 @@ from typing import List, Sequence
 
 from case import Case
 from client import A_HOUR, PATIENCE, VERSION, Server, query_of_names
-from test_gone import fill_directory
+from shared import STRACE
+from trees import fill_directory
 
-# `-D`: the process that is started is the server, and not `strace`.
-STRACE = ["strace", "-f", "-D", "-qq"]
 CALLS = ["mkdir", "bind", "chmod", "link", "unlink", "rmdir"]
 FILES = 10_000
 TURNS = 10

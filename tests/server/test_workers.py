@@ -9,7 +9,7 @@ from typing import List
 
 from case import Case
 from client import A_HOUR, Server, query_of_names
-from test_large import MEMORY, has_room, make_names
+from trees import MEMORY, has_room, make_names
 
 FILES = 100_000
 DIRECTORIES = 20

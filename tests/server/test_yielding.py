@@ -6,9 +6,8 @@ from pathlib import Path
 
 from case import Case
 from client import Client, Server, query_of_names
+from trees import fill
 
-FILES = 60_000
-FILES_OF_A_DIRECTORY = 100
 QUERIES = 31
 # A query that waited for the walk of the large root takes half of it on average.
 LONGEST_PART = 0.2
@@ -33,14 +32,6 @@ class Yielding(Case):
             lines = [repr(server.errors())]
             self.check("the large root is crawled beside the queries", is_seen, lines)
             self.check("no walk that was given up is told of", server.errors().count(b"\n") == 1, lines)
-
-
-def fill(root: Path) -> None:
-    for number in range(FILES // FILES_OF_A_DIRECTORY):
-        directory = root / f"directory{number}"
-        directory.mkdir(parents=True)
-        for name in range(FILES_OF_A_DIRECTORY):
-            (directory / f"file{name}").touch()
 
 
 def seconds_of_a_query(client: Client, root: Path, pause: float = 0.0) -> float:

@@ -6,7 +6,7 @@ from typing import Callable, List
 
 from case import Case
 from client import Client
-from scene import Scene
+from triggered import Scene
 from waiting import wait_until
 
 FILES = 300

@@ -6,7 +6,7 @@ import signal
 import time
 
 from case import Case
-from scene import QUIET, Scene
+from triggered import QUIET, Scene
 from waiting import wait_until
 
 # How many seconds a command stays, and how much sooner the server has to end.

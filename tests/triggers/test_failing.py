@@ -4,7 +4,7 @@ import time
 from pathlib import Path
 
 from case import Case
-from scene import QUIET, Scene
+from triggered import QUIET, Scene
 from waiting import wait_until
 
 # How many commands may run at once, and how many triggers of one root cannot start.

@@ -6,7 +6,7 @@ from typing import List
 
 from case import Case
 from client import Server, query_of_names
-from scene import INTERVAL, Scene
+from triggered import INTERVAL, Scene
 from waiting import wait_until
 
 # The server may have so many handles, of which a quarter may be pipes to commands.

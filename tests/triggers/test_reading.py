@@ -7,7 +7,7 @@ from pathlib import Path
 
 from case import Case
 from client import query_of_names
-from scene import Scene
+from triggered import Scene
 from waiting import wait_until
 
 FILES = 200_000

@@ -5,7 +5,7 @@ import time
 
 from case import Case
 from client import VERSION
-from scene import QUIET, Scene
+from triggered import QUIET, Scene
 from waiting import wait_until
 
 MOST = 64

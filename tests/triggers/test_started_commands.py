@@ -7,7 +7,7 @@ from pathlib import Path
 
 from case import Case
 from client import ENVIRONMENT, VERSION, Client, query_of_names
-from scene import Run, Scene
+from triggered import Run, Scene
 
 # The variables that sh sets itself.
 OF_THE_SHELL = ("PWD", "OLDPWD", "SHLVL", "_")

@@ -7,7 +7,7 @@ from typing import List
 
 from case import Case
 from client import VERSION, Row, Server, walked
-from test_locked import lock
+from trees import lock
 
 
 class Trees(Case):

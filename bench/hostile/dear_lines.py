@@ -5,6 +5,7 @@ import functools
 import json
 from typing import Callable, Dict, List, NamedTuple
 
+from wqclient.names import FIELDS
 from wqprogram.instructions import BY_NAME
 from wqprogram.program_file import Operation, Program, written
 
@@ -34,6 +35,9 @@ class Case(NamedTuple):
     lines: List[bytes]
     before: List[bytes] = []
     reads: str = "always"
+
+
+Makes = Callable[[], Case]
 
 
 def line(*command: object) -> bytes:
@@ -164,32 +168,52 @@ def pipelined(root: str) -> Dict[str, bytes]:
     }
 
 
-def cases(root: str, roots: List[str], paths: int) -> Dict[str, Callable[[], Case]]:
+def cases(root: str, roots: List[str], paths: int) -> Dict[str, Makes]:
     """Each case by its name."""
-    watches = [line("watch", other) for other in roots]
-    found: Dict[str, Callable[[], Case]] = {
+    found = {**of_a_line(root, paths), **of_programs(root), **of_many_lines(root, roots)}
+    for name, one in pipelined(root).items():
+        for reads in ("late", "never"):
+            found[f"100,000 lines: {name}, read {reads}"] = functools.partial(Case, [one * LINES], reads=reads)
+    return found
+
+
+def of_a_line(root: str, paths: int) -> Dict[str, Makes]:
+    """The cases in which one line is dear."""
+    begin = f'["query","{root}",'
+    return {
         "1 MiB of 0,": lambda: Case([filled('["x",', "0,", "]")]),
         '1 MiB of {"":0},': lambda: Case([filled('["x",', '{"":0},', "]")]),
         "1 MiB of [": lambda: Case([b"[" * LONGEST_LINE + b"\n"]),
         "63 not": lambda: Case([nots(root)]),
         "a name list of 65,535 entries": lambda: Case([query(root, expression=["name", texts(MOST_ENTRIES, 12)])]),
-        "a name list of 262,000 entries": lambda: Case(
-            [filled(f'["query","{root}",{{"expression":["name",[', '"a",', "]]}]")]
-        ),
+        "a name list of 262,000 entries": lambda: Case([filled(begin + '{"expression":["name",[', '"a",', "]]}]")]),
         "1,000 patterns of 255 atoms": lambda: Case([patterns(root, PATTERNS)]),
         "1,000 patterns of 127 stars": lambda: Case([stars(root, PATTERNS)]),
         "1,000 patterns of a star and 254 marks": lambda: Case([marks(root, PATTERNS)]),
         f"{paths:,} empty paths": lambda: Case([query(root, path=[""] * paths, expression="false")]),
-        "262,000 suffixes": lambda: Case([filled(f'["query","{root}",{{"sync_timeout":0,"suffix":[', '"a",', "]}]")]),
-        "a program of 1,365 patterns": lambda: Case(
-            [query(root, program="p")], before=[line("program-add", "p", dear_program())]
-        ),
+        "262,000 suffixes": lambda: Case([filled(begin + '{"sync_timeout":0,"suffix":[', '"a",', "]}]")]),
+        "all files with all fields": lambda: Case([query(root, fields=FIELDS)]),
+    }
+
+
+def of_programs(root: str) -> Dict[str, Makes]:
+    """The cases of programs that a client adds."""
+    asked = [query(root, program="p")]
+    return {
+        "a program of 1,365 patterns": lambda: Case(asked, before=[line("program-add", "p", dear_program())]),
         "20,000 matches of a star and 254 marks": lambda: Case(
-            [query(root, program="p")], before=[line("program-add", "p", matching("wholename", MARKS, MORE_MATCHES))]
+            asked, before=[line("program-add", "p", matching("wholename", MARKS, MORE_MATCHES))]
         ),
         "256 programs of 1,365 patterns": lambda: Case(added(dear_program())),
         "256 programs of a mebibyte": lambda: Case(added(large_program())),
         "256 programs of a mebibyte of sets": lambda: Case(added(sets_program())),
+    }
+
+
+def of_many_lines(root: str, roots: List[str]) -> Dict[str, Makes]:
+    """The cases in which the server keeps something of each line."""
+    watches = [line("watch", other) for other in roots]
+    return {
         "256 queries of a mebibyte": lambda: Case(long_queries(root)),
         "256 expressions of a mebibyte": lambda: Case(long_expressions(root)),
         "256 expressions of 300 names": lambda: Case(short_expressions(root, 300)),
@@ -199,20 +223,4 @@ def cases(root: str, roots: List[str], paths: int) -> Dict[str, Callable[[], Cas
         "64 triggers of a mebibyte at 16 roots": lambda: Case(triggers(roots), before=watches),
         "16 expressions of 1,000 patterns": lambda: Case([patterns(root, PATTERNS, n, path=["x"]) for n in range(16)]),
         "256 cursors at 16 roots": lambda: Case(cursors(roots), before=watches),
-        "all files with all fields": lambda: Case(
-            [
-                line(
-                    "query",
-                    root,
-                    {
-                        "sync_timeout": 0,
-                        "fields": ["name", "exists", "new", "size", "type", "cclock", "oclock", "mtime", "mtime_ms"],
-                    },
-                )
-            ]
-        ),
     }
-    for name, one in pipelined(root).items():
-        for reads in ("late", "never"):
-            found[f"100,000 lines: {name}, read {reads}"] = functools.partial(Case, [one * LINES], reads=reads)
-    return found

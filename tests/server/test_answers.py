@@ -10,7 +10,7 @@ from typing import Dict, Iterator, List
 import built
 from case import Case
 from client import PATIENCE, VERSION
-from test_gone import fill_directory
+from trees import fill_directory
 
 # More lines than a server takes before one is answered, with replies that are longer than a socket holds.
 FILES = 10_000

@@ -1,18 +1,13 @@
 """A root with as many files as a view takes, and one more."""
 
-import os
 import subprocess
-import tempfile
 from pathlib import Path
 
 from case import Case
 from client import A_HOUR, VERSION, Server, query_of_names
-from test_yielding import fill
+from trees import MOST_FILES, fill, in_memory, make_names
 
-MOST_FILES = 1_000_000
 DIRECTORIES = 20
-# A directory in memory makes a million names in a fourth of the time that a disk takes.
-MEMORY = Path("/dev/shm")
 
 
 class Large(Case):
@@ -57,26 +52,3 @@ class Large(Case):
             self.same("the view of a root of one more", again, reply)
             client.ask("watch-del", str(root))
             self.same("a watch of too many files", client.ask("watch", str(root)), too_many)
-
-
-def in_memory(room: Path) -> "tempfile.TemporaryDirectory[str]":
-    """A directory in memory if that has room, and else below this one."""
-    return tempfile.TemporaryDirectory(dir=MEMORY if has_room(MEMORY) else room)
-
-
-def has_room(directory: Path) -> bool:
-    """Whether names can be made in a directory, and so many that a fifth is left over. A link in memory takes an
-    inode."""
-    return os.access(directory, os.W_OK) and os.statvfs(directory).f_favail > MOST_FILES * 6 // 5
-
-
-def make_names(root: Path, directories: int, rows: int) -> None:
-    """Directories with as many names each, all of which are links to one link: a row each, and no file."""
-    for number in range(directories):
-        directory = root / f"directory{number:02}"
-        directory.mkdir(parents=True)
-        opened = os.open(directory, os.O_RDONLY)
-        os.symlink("nothing", "0", dir_fd=opened)
-        for name in range(1, rows // directories - 1):
-            os.link("0", str(name), src_dir_fd=opened, dst_dir_fd=opened, follow_symlinks=False)
-        os.close(opened)

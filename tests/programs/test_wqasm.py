@@ -13,6 +13,7 @@ import built
 from case import Case
 from client import PATIENCE, Server
 from notation import file_of
+from scripted import FIRST_ROOT, clock_id
 from wqprogram.command import main
 
 TOOL = built.TOP / "clients" / "wqasm"
@@ -38,7 +39,7 @@ WRONG_WORDS: List[Tuple[Sequence[str], str]] = [
     (["compile", '"exists"', "--clock", "c:1"], "'c:1' is no clock id, as c:START:PID:ROOT:TICK\n"),
     (
         ["compile", '["since","c:1:2:3:4"]'],
-        "the expression has a clock id; say with --clock a clock id of the server and root " "that it is for\n",
+        "the expression has a clock id; say with --clock a clock id of the server and root that it is for\n",
     ),
 ]
 # Records that are wrong, with other words.
@@ -114,6 +115,8 @@ class CommandLine(Case):
         found = (bad.output, bad.errors.split(b": found")[0], bad.status, (self.room / "bad").exists())
         self.same("a bad text", found, (b"", b"-:2:1: unknown word", 3, False))
         self.check_refused(self.room)
+        self.check_files_that_cannot_be(self.room)
+        self.check_output(self.room)
         compiled = tool(self.room, "compile", '["since","c:1:2:3:4"]', "--clock", "c:1:2:3:0", "-o", "file")
         self.same("compile", compiled, built.Ended(b"ok 4 4\n", b"", 0))
         self.same(
@@ -128,6 +131,12 @@ class CommandLine(Case):
             ended = tool(self.room, "compile", expression, "-o", "none")
             self.same(f"compile {expression[:20]}", ended, built.Ended(b"", f"wqasm: {error}\n".encode(), 3))
         self.check_long_expressions(self.room)
+
+    def test_explain_of_a_clock_id(self) -> None:
+        """An explanation is of no root, so each clock id is one of another root, also one of the replayed scripts."""
+        for clock in (clock_id(FIRST_ROOT, 4), "c:1:2:3:4"):
+            ended = built.call([built.TOP / "wq", "explain", f'["since","{clock}"]'])
+            self.same(f"the program of {clock}", ended.output.decode().splitlines()[-4].split()[1], "exists")
 
     def check_long_expressions(self, room: Path) -> None:
         """Expressions that are too long for a word of a command, from standard input, and those with a fault of
@@ -148,7 +157,7 @@ class CommandLine(Case):
             self.same(f"an expression of {length} bytes", found, ended)
 
     def check_refused(self, room: Path) -> None:
-        """Files that may not run, that are no program files, and that cannot be read or written."""
+        """Files that may not run, and those that are no program files."""
         (room / "no-run").write_bytes(NO_RUN)
         (room / "none").write_bytes(FILE[:-1])
         assembled = tool(room, "assemble", "-", "-o", "bad", entered=b"code\n\nwholename\nnot\nret\n")
@@ -169,6 +178,9 @@ class CommandLine(Case):
         refused = built.Ended(b"", f"wqasm: none: refused {fault}\n".encode(), 3)
         for words in (["disassemble", "none"], ["run", "none", "--record", "f 1 1 a"]):
             self.same(f"{words[0]} of no program file", tool(room, *words), refused)
+
+    def check_files_that_cannot_be(self, room: Path) -> None:
+        """Files that cannot be read or written."""
         for words, message in (
             (["explain", "absent"], "absent: No such file or directory"),
             (["assemble", "."], ".: Is a directory"),
@@ -178,8 +190,11 @@ class CommandLine(Case):
             (["add", "absent", "name", "no-run"], "absent: No such file or directory"),
         ):
             self.same(f"words {words}", tool(room, *words), built.Ended(b"", f"wqasm: {message}\n".encode(), 1))
+
+    def check_output(self, room: Path) -> None:
+        """A standard output that is full, and one that is closed."""
+        command = [sys.executable, str(TOOL), "explain", "no-run"]
         with open("/dev/full", "wb") as full:
-            command = [sys.executable, str(TOOL), "explain", "no-run"]
             ended = subprocess.run(command, cwd=room, stdout=full, stderr=subprocess.PIPE)
         closed = subprocess.run(["sh", "-c", 'exec "$@" >&-', "sh", *command], cwd=room, stderr=subprocess.PIPE)
         self.same(

@@ -7,7 +7,7 @@ import time
 from pathlib import Path
 from typing import Callable, Dict, List
 
-from cases import ATOMS, MARKS, PATTERNS, line
+from dear_lines import ATOMS, MARKS, PATTERNS, line
 from client import Server
 from observers import EVERY, MOST_WAIT, Observer, at_99, at_middle
 
