@@ -2,8 +2,8 @@
 -- answer otherwise for the same path later, so these are relations. No public document defines it.
 use Rattle.std.specs.Prelude.{◌≡◌, ◌⊎◌, ℕ, List, [], Option, Some, None}
 use Rattle.std.specs.Str.{IsUtf8}
-use Rattle.wq_crawl.specs.declared.tree.TreeFault.{TreeFault}
-use Rattle.wq_crawl.specs.declared.tree.TreeFault.TheVariants.{NoHandle, Unreadable}
+use Rattle.wq_patch.specs.declared.tree.TreeFault.{TreeFault}
+use Rattle.wq_patch.specs.declared.tree.TreeFault.TheVariants.{NoHandle, Unreadable}
 use Rattle.wq_record.specs.Seen.{Stat}
 use Rattle.wq_disk.specs.Entries.{AreEntriesOf}
 

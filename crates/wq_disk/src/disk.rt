@@ -13,7 +13,7 @@ use std::env;
 use std::fs::Files;
 use std::sync::Arc;
 use std::sync::atomic::{AtomicBool, Ordering};
-use wq_crawl::TreeFault;
+use wq_patch::TreeFault;
 
 /// A source of directories and files. It fails if no answer can be had for any of them, because no file handle is left
 /// or memory ran out.

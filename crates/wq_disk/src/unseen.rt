@@ -5,7 +5,7 @@ ghost use Rattle.std.specs.IoError.{error_kind, raw_os_error};
 ghost use Rattle.wq_disk.specs.Unseen.{IsCallFault, walk_fault};
 
 use std::io::{Error, ErrorKind};
-use wq_crawl::TreeFault;
+use wq_patch::TreeFault;
 
 /// The machine can open no more files (Linux `errno(3)`).
 const ENFILE: i32 = 23;

@@ -2,7 +2,7 @@
 ghost use Rattle.std.specs.Prelude.{◌≡◌, ◌≤◌, ◌*◌, IfOk, length};
 ghost use Rattle.wq_eval.specs.Piece.{AreSound, IsRight, piece_of};
 
-use crate::evaluation::filter;
+use crate::evaluation::filter_for;
 use std::alloc::{AllocError, Global};
 use wq_base::Asker;
 use wq_verify::Program;
@@ -56,7 +56,7 @@ impl<'a> Pieces<'a> {
         ensures kept { IfOk result (IsRight self.now) }
     {
         let positions = self.positions_of(number);
-        let kept = filter(alloc, asker, self.program, self.view, positions)?;
+        let kept = filter_for(alloc, asker, self.program, self.view, positions)?;
         Ok(Done { number, kept })
     }
 }

@@ -19,9 +19,42 @@ use wq_verify::Program;
 use wq_view::View;
 
 /// The positions that [`filter`](crate::filter) gives, found by up to so many threads. Each takes
-/// pieces of so many positions until none is left, and calls the gate as it begins one. If the
-/// asker goes there are none, as if memory had run out.
-pub fn filter_workers<R: Threads, G: Gate + Sync, A: Asker>(
+/// pieces of so many positions until none is left, and calls the gate as it begins one.
+///
+/// # Errors
+/// Memory ran out.
+pub fn filter_workers<R: Threads, G: Gate + Sync>(
+    rt: &R,
+    alloc: Global,
+    gate: &G,
+    workers: u32,
+    piece: u32,
+    program: &Program,
+    view: &View,
+    positions: &[u32],
+) -> Result<Vec<u32>, AllocError>
+    requires workers { AreFew workers }
+    requires piece { 1 ≤ piece }
+    requires within { All (λ i. i < length view.now.records) positions.now }
+    requires count { length positions.now ≤ max_records }
+    ensures { IfOk result (λ kept. kept.items
+        ≡ filter (passes_at (says_yes program.now) view.now.records) positions.now) }
+{
+    filter_workers_for(
+        rt,
+        alloc,
+        gate,
+        &Stays {},
+        workers,
+        piece,
+        program,
+        view,
+        positions,
+    )
+}
+
+/// The same for an asker. If it goes there are none, as if memory had run out.
+pub fn filter_workers_for<R: Threads, G: Gate + Sync, A: Asker>(
     rt: &R,
     alloc: Global,
     gate: &G,

@@ -76,7 +76,7 @@ impl Subscription {
     pub fn poll(&self, alloc: Global, view: &View) -> Result<Batch, AllocError>
         ensures batch { IfOk result (IsBatch view.now.records
             (polled (subscription_data self.now).follower view.now)) }
-        ensures tick { IfOk result (λ batch. batch.tick ≤ max_number) }
+        ensures tick { IfOk result (λ batch. batch.now ≤ max_number) }
         ensures wants { IfErr result (λ _.
             is_told ((subscription_data self.now).follower).last view.now.tick ≡ false) }
     {
@@ -85,9 +85,9 @@ impl Subscription {
 
     /// The batch was sent: the next one begins at its end. It takes no memory.
     pub fn commit(&mut self, batch: &Batch)
-        requires { batch.now.tick ≤ max_number }
+        requires { batch.now.now ≤ max_number }
         ensures { subscription_data self.new
-            ≡ sent_up_to batch.now.tick (subscription_data self.old) }
+            ≡ sent_up_to batch.entry.now.now (subscription_data self.old) }
     {
         self.follower.commit(batch);
     }
@@ -104,7 +104,7 @@ impl Subscription {
         ensures { IfOk result (λ text. text.items ≡ compact_text (list_data
             (subscription_data self.now).root (subscription_data self.now).name
             ((subscription_data self.now).follower).plan (instance_data instance.now)
-            view.now.tick (records_at view.now.records batch.now.files.items))) }
+            view.now.tick (records_at view.now.records batch.entry.now.files.items))) }
     {
         let plan = self.follower.plan();
         let files = batch.files.as_slice();

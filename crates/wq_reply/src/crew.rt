@@ -11,15 +11,15 @@ ghost use Rattle.wq_view.specs.Position.{passes_at, positions_of};
 use crate::rows::{Printed, Rows, print_pieces};
 use std::alloc::{AllocError, Global};
 use std::thread::Threads;
-use wq_base::{Asker, Stays, Workers};
-use wq_eval::{OpenGate, filter, filter_workers};
-use wq_gen::candidates;
+use wq_base::{Asker, Workers};
+use wq_eval::{OpenGate, filter, filter_for, filter_workers_for};
+use wq_gen::{candidates, candidates_for};
 use wq_term::Generators;
 use wq_verify::Program;
 use wq_view::View;
 
 /// How many candidates a piece has.
-const PIECE: u32 = 1024;
+pub(crate) const PIECE: u32 = 1024;
 
 /// A query uses several threads only if there are so many candidates or more.
 const MIN_FOR_WORKERS: usize = 16384;
@@ -85,7 +85,7 @@ impl Crew for Alone {
         view: &View,
         generators: &Generators,
     ) -> Result<Vec<u32>, AllocError> {
-        candidates(alloc, &Stays {}, view, generators)
+        candidates(alloc, view, generators)
     }
 
     fn filter(
@@ -95,7 +95,7 @@ impl Crew for Alone {
         view: &View,
         positions: &[u32],
     ) -> Result<Vec<u32>, AllocError> {
-        filter(alloc, &Stays {}, program, view, positions)
+        filter(alloc, program, view, positions)
     }
 
     fn prints_later(&self, _files: usize) -> bool {
@@ -153,7 +153,7 @@ impl<R: Threads, A: Asker> Crew for Several<'_, R, A> {
         view: &View,
         generators: &Generators,
     ) -> Result<Vec<u32>, AllocError> {
-        candidates(alloc, self.asker, view, generators)
+        candidates_for(alloc, self.asker, view, generators)
     }
 
     fn filter(
@@ -165,9 +165,9 @@ impl<R: Threads, A: Asker> Crew for Several<'_, R, A> {
     ) -> Result<Vec<u32>, AllocError> {
         let count = self.count_for(positions.len());
         if count == 1 {
-            return filter(alloc, self.asker, program, view, positions);
+            return filter_for(alloc, self.asker, program, view, positions);
         }
-        filter_workers(
+        filter_workers_for(
             self.rt,
             alloc,
             &OpenGate {},

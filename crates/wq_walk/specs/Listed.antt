@@ -4,8 +4,8 @@ use Rattle.std.specs.Prelude.{Result, Vec, IfOk, IfErr}
 use Rattle.std.specs.List.{All, flat_map}
 use Rattle.std.specs.Str.{byte}
 use Rattle.std.specs.declared.alloc.Global.{Global}
-use Rattle.wq_crawl.specs.declared.tree.TreeFault.{TreeFault}
-use Rattle.wq_crawl.specs.declared.tree.TreeFault.TheVariants.{Unreadable}
+use Rattle.wq_patch.specs.declared.tree.TreeFault.{TreeFault}
+use Rattle.wq_patch.specs.declared.tree.TreeFault.TheVariants.{Unreadable}
 use Rattle.wq_view.specs.SeenRows.{seen_rows}
 use Rattle.wq_record.specs.RecordData.{RecordData}
 use Rattle.wq_record.specs.Seen.{SeenData}

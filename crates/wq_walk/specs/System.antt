@@ -1,7 +1,7 @@
 -- The listings and glances on the disk of this machine. Few answers of it are known, since no
 -- contract of the system's calls speaks of a path. No public document defines it.
 use Rattle.std.specs.Prelude.{ℕ, List}
-use Rattle.wq_crawl.specs.declared.tree.TreeFault.{TreeFault}
+use Rattle.wq_patch.specs.declared.tree.TreeFault.{TreeFault}
 use Rattle.wq_disk.specs.System.{fails_here, has_here, says_here}
 use Rattle.wq_record.specs.RecordData.{RecordData}
 use Rattle.wq_record.specs.Seen.{SeenData}

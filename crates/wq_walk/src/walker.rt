@@ -1,7 +1,7 @@
 //! The tree on disk, for a server that lists roots again and again. The walker keeps nothing of the listings.
 ghost use Rattle.std.specs.Prelude.{◌≡◌, true, false, ◌≤◌, length, IfErr, IfOk, IsTrue, OnOk};
 ghost use Rattle.std.specs.List.{list_all};
-ghost use Rattle.wq_crawl.specs.Tree.{IsCounted, IsFit, rows_listed};
+ghost use Rattle.wq_patch.specs.Tree.{IsCounted, IsFit, rows_listed};
 ghost use Rattle.wq_view.specs.Limit.{max_listing_rows};
 ghost use Rattle.wq_record.specs.Seen.{is_lawful_row};
 ghost use Rattle.wq_walk.specs.Glance.{IsGlancedAt};
@@ -19,8 +19,8 @@ use std::sync::atomic::{AtomicU64, Ordering};
 use std::thread::Threads;
 use std::time::{Clock, CpuClock, Instant};
 use wq_base::Workers;
-use wq_crawl::{LeftOut, Listing, Recent, Tree, TreeFault};
 use wq_disk::{Block, Disk, FileDisk, Way, with_slash};
+use wq_patch::{LeftOut, Listing, Recent, Tree, TreeFault};
 use wq_view::{Seen, View};
 
 /// Walks the trees of a disk, and counts how often a root could not be read or no file handle was
