@@ -211,11 +211,7 @@ impl<N: Named, R: Wait + Drop> Publisher<N, R> {
 
     /// Publishes a pass over the root of this number, which has the view that the pass differs from. No rows are made of
     /// the other files. The call answers as [`Publisher::publish`] does.
-    pub fn publish_change(
-        &mut self,
-        number: u64,
-        change: &Change<'_>,
-    ) -> Result<Told<N>, ViewFault>
+    pub fn publish_change(&mut self, number: u64, change: &Change<'_>) -> Result<Told<N>, ViewFault>
         requires { IsViewOf (passes_over number self.old) (change.now).base }
         ensures told { IfOk result (λ told. told ≡ self.new) }
         ensures published { N.published N.book self.new }

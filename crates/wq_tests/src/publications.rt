@@ -13,7 +13,9 @@ use std::sync::{Arc, Wait};
 use std::thread::Threads;
 use wq_base::{Stays, Workers};
 use wq_clock::Run;
-use wq_crawl::{Crawl, CrawlFault, FoundRoot, LaneParts, LockRoots, Roots, SeatViews, SharedCrawler};
+use wq_crawl::{
+    Crawl, CrawlFault, FoundRoot, LaneParts, LockRoots, Roots, SeatViews, SharedCrawler,
+};
 use wq_live::{Blank, Named, Told};
 use wq_registry::{CacheKey, Compiled, Forgotten};
 use wq_session::{Cursor, Desk, LockDesk, Prepared, Unset, Work, serve};

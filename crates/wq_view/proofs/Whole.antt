@@ -42,12 +42,15 @@ module _ (records : List RecordData) (p : Patch) (whole : IsWhole p.kept p.repla
 
   -- it fits
   whole_fits : (second : ℤ) → IsPass p.rows.items second → FitFrom records 0 [] (p ∷ [])
-  whole_fits second is = (record {
-    rise = is.rise;
-    after_rows = tt;
-    after_records = subst (λ n. AreBelow record_name row_name (take n records) p.rows.items) (sym start) tt;
-    before_records = subst (AreBelow row_name record_name p.rows.items) (sym none_behind) (below_none p.rows.items);
-  }, tt)
+  whole_fits second is = (
+    record {
+      rise = is.rise;
+      after_rows = tt;
+      after_records = subst (λ n. AreBelow record_name row_name (take n records) p.rows.items) (sym start) tt;
+      before_records = subst (AreBelow row_name record_name p.rows.items) (sym none_behind) (below_none p.rows.items);
+    },
+    tt,
+  )
 
   pub whole_makes : (second : ℤ) → IsPass p.rows.items second → MakePass records (p ∷ [])
   whole_makes second is = record { fit = whole_fits second is; lawful = ap (list_all is_lawful_row) whole_rows ∙ is.lawful }

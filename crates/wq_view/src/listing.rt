@@ -19,8 +19,8 @@ use crate::change::Change;
 use crate::limit::{MAX_LISTING_ROWS, MAX_RECORDS};
 use crate::patch::Patch;
 use crate::view::View;
-use std::slice;
 use std::marker::Model;
+use std::slice;
 use thiserror::Error;
 use wq_record::{Seen, is_count, is_valid_name};
 
