@@ -19,10 +19,16 @@ use std::sync::Arc;
 use wq_view::View;
 
 /// A list of events that the publisher gave out, with its table. Contracts see the list.
-#[derive(Drop)]
 pub struct Told<N: Named> {
     shown: Shown,
     of: PhantomData<N>,
+}
+
+// A list is let go by one call, wherever a function gives up.
+impl<N: Named> Drop for Told<N> {
+    fn drop(self) {
+        let Told { shown: _, of: _ } = self;
+    }
 }
 
 impl<N: Named> Model for Told<N> {

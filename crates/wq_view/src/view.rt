@@ -57,11 +57,21 @@ impl From<AllocError> for ViewFault {
 }
 
 /// The files of one root, as the passes over the root saw them.
-#[derive(Drop)]
 pub struct View {
     tick: u64,
     chunks: Chunks,
     order: Order,
+}
+
+// A view is let go by one call, wherever a function gives up.
+impl Drop for View {
+    fn drop(self) {
+        let View {
+            tick: _,
+            chunks: _,
+            order: _,
+        } = self;
+    }
 }
 
 impl Model for View {
