@@ -14,7 +14,7 @@ use crate::piece::{Done, Pieces};
 use std::alloc::{AllocError, Global};
 use std::sync::atomic::{AtomicU64, Ordering};
 use std::thread::{Threads, join};
-use wq_base::{Asker, Stays};
+use wq_base::{Asker, Stays, Unanswered};
 use wq_verify::Program;
 use wq_view::View;
 
@@ -40,7 +40,7 @@ pub fn filter_workers<R: Threads, G: Gate + Sync>(
     ensures { IfOk result (λ kept. kept.items
         ≡ filter (passes_at (says_yes program.now) view.now.records) positions.now) }
 {
-    filter_workers_for(
+    match filter_workers_for(
         rt,
         alloc,
         gate,
@@ -50,10 +50,16 @@ pub fn filter_workers<R: Threads, G: Gate + Sync>(
         program,
         view,
         positions,
-    )
+    ) {
+        Ok(kept) => Ok(kept),
+        Err(_) => Err(AllocError),
+    }
 }
 
-/// The same for an asker. If it goes there are none, as if memory had run out.
+/// The same for an asker.
+///
+/// # Errors
+/// Memory ran out, or the asker went.
 pub fn filter_workers_for<R: Threads, G: Gate + Sync, A: Asker>(
     rt: &R,
     alloc: Global,
@@ -64,7 +70,7 @@ pub fn filter_workers_for<R: Threads, G: Gate + Sync, A: Asker>(
     program: &Program,
     view: &View,
     positions: &[u32],
-) -> Result<Vec<u32>, AllocError>
+) -> Result<Vec<u32>, Unanswered>
     requires workers { AreFew workers }
     requires piece { 1 ≤ piece }
     requires within { All (λ i. i < length view.now.records) positions.now }
@@ -138,11 +144,13 @@ fn work<G: Gate, A: Asker>(
             break;
         }
         gate.enter(number as u32);
-        let Ok(done) = pieces.evaluate(alloc, asker, number as u32) else {
-            if asker.is_gone() {
+        let done = match pieces.evaluate(alloc, asker, number as u32) {
+            Ok(done) => done,
+            Err(Unanswered::NoMemory) => break,
+            Err(Unanswered::Gone) => {
                 drawn.store(u64::from(count), Ordering::SeqCst);
+                break;
             }
-            break;
         };
         if all.push(done).is_err() {
             break;

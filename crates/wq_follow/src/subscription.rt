@@ -24,7 +24,6 @@ use wq_reply::{Plan, print_list};
 use wq_view::View;
 
 /// The changes of a root that a client wants to be told, list by list.
-#[derive(Drop)]
 pub struct Subscription {
     pub(crate) name: Text,
     /// The text of its root.
@@ -32,6 +31,18 @@ pub struct Subscription {
     /// The number of its root.
     pub(crate) number: u64,
     pub(crate) follower: Follower,
+}
+
+// A subscription is let go by one call, wherever a function gives up.
+impl Drop for Subscription {
+    fn drop(self) {
+        let Subscription {
+            name: _,
+            root: _,
+            number: _,
+            follower: _,
+        } = self;
+    }
 }
 
 impl Subscription {

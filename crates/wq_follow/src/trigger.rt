@@ -20,7 +20,6 @@ use wq_verify::StoredProgram;
 use wq_view::View;
 
 /// A command that is started when files changed.
-#[derive(Drop)]
 pub struct Trigger {
     pub(crate) order: Order,
     pub(crate) follower: Follower,
@@ -28,6 +27,18 @@ pub struct Trigger {
     pub(crate) object: Arc<ObjectText>,
     pub(crate) running: Option<u32>,
     ghost clocked: { IsClocked (planned follower.plan).bound },
+}
+
+// A trigger is let go by one call, wherever a function gives up.
+impl Drop for Trigger {
+    fn drop(self) {
+        let Trigger {
+            order: _,
+            follower: _,
+            object: _,
+            running: _,
+        } = self;
+    }
 }
 
 impl Trigger {
@@ -69,7 +80,7 @@ impl Trigger {
     {
         let plan = Plan::of(definition.query, Bound::Fresh, program);
         Trigger {
-            order: Order::of(definition.shape, root),
+            order: definition.shape.into_order(root),
             follower: Follower::new(plan),
             object: definition.object.into_text(),
             running,

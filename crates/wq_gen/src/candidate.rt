@@ -14,7 +14,7 @@ use crate::position::union;
 use crate::since::changed_since;
 use crate::suffix::with_suffix;
 use std::alloc::{AllocError, Global};
-use wq_base::{Asker, Stays};
+use wq_base::{Asker, Stays, Unanswered};
 use wq_term::Generators;
 use wq_view::View;
 
@@ -39,13 +39,16 @@ pub fn candidates(
     candidates_counted(alloc, &mut counted, generators)
 }
 
-/// The same for an asker. If it goes while patterns are tried there are none, as if memory had run out.
+/// The same for an asker.
+///
+/// # Errors
+/// Memory ran out, or the asker went while patterns were tried.
 pub fn candidates_for<A: Asker>(
     alloc: Global,
     asker: &A,
     view: &View,
     generators: &Generators,
-) -> Result<Vec<u32>, AllocError>
+) -> Result<Vec<u32>, Unanswered>
     ensures { IfOk result (λ found. found.items
         ≡ positions_of (is_candidate generators.now) view.now.records) }
 {
@@ -68,16 +71,22 @@ pub fn candidates_counted(
         ≤ counted.old.count + allowed generators.now counted.old.view.records }
     ensures same { counted.new.view ≡ counted.old.view }
 {
-    candidates_counted_for(alloc, &Stays {}, counted, generators)
+    match candidates_counted_for(alloc, &Stays {}, counted, generators) {
+        Ok(found) => Ok(found),
+        Err(_) => Err(AllocError),
+    }
 }
 
-/// The same for an asker. If it goes while patterns are tried there are none, as if memory had run out.
+/// The same for an asker.
+///
+/// # Errors
+/// Memory ran out, or the asker went while patterns were tried.
 pub fn candidates_counted_for<A: Asker>(
     alloc: Global,
     asker: &A,
     counted: &mut Counted<'_>,
     generators: &Generators,
-) -> Result<Vec<u32>, AllocError>
+) -> Result<Vec<u32>, Unanswered>
     ensures found { IfOk result (λ found. found.items
         ≡ positions_of (is_candidate generators.now) counted.old.view.records) }
     ensures few { counted.new.count
@@ -85,14 +94,14 @@ pub fn candidates_counted_for<A: Asker>(
     ensures same { counted.new.view ≡ counted.old.view }
 {
     if !is_any_there(generators) {
-        return all(alloc, counted.len());
+        return Ok(all(alloc, counted.len())?);
     }
     let changed = changed_since(alloc, counted, generators.since)?;
     let suffixed = with_suffix(alloc, counted, &generators.suffix)?;
     let on_path = with_path(alloc, counted, &generators.path)?;
     let fitting = with_glob(alloc, asker, counted, &generators.glob)?;
     let early = union(alloc, changed, suffixed)?;
-    union(alloc, union(alloc, early, on_path)?, fitting)
+    Ok(union(alloc, union(alloc, early, on_path)?, fitting)?)
 }
 
 /// Every position below a number.

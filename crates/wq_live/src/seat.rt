@@ -79,6 +79,14 @@ impl<N: Named> Told<N> {
     {
         self.shown.log()
     }
+
+    /// The value that is shown of the list.
+    fn into_shown(self) -> Shown
+        ensures { result ≡ record { book = N.book; log = self } }
+    {
+        let Told { shown, of: _ } = self;
+        shown
+    }
 }
 
 /// A seat. Contracts see the list with which its next look begins. That is the longest list that it learned, or the
@@ -136,8 +144,7 @@ impl<N: Named> Seat<N> {
             told: before,
             of,
         } = self;
-        let Told { shown, of: _ } = told;
-        let told = ahead(&saw, longest(before, shown));
+        let told = ahead(&saw, longest(before, told.into_shown()));
         Seat {
             reader,
             saw,
