@@ -15,10 +15,11 @@ use std::sync::Arc;
 use std::sync::atomic::{AtomicBool, Ordering};
 use wq_patch::TreeFault;
 
-/// A source of directories and files. It fails if no answer can be had for any of them, because no file handle is left
-/// or memory ran out.
+/// A source of directories and files. It fails if no answer can be had, because no file handle is left, memory ran out,
+/// or the file system failed.
 pub trait Disk {
     ghost use Rattle.std.specs.Prelude.{ℕ, List, Option};
+    ghost use Rattle.wq_patch.specs.declared.tree.TreeFault.{TreeFault};
     ghost use Rattle.wq_record.specs.Seen.{Stat};
 
     // The stats that it may give for the file of a path: none if it cannot look at the file.
@@ -28,8 +29,9 @@ pub trait Disk {
     // directory.
     ghost has: { Self → List ℕ → Option (List (List ℕ)) → Type 0 };
 
-    // A call of the system failed at a path because no file handle was left. So no path has an answer.
-    ghost fails: { Self → List ℕ → Type 0 };
+    // A call of the system failed at a path with an error that means this fault of a whole walk: no file handle was left,
+    // or the file system failed. So the path has no answer.
+    ghost fails: { Self → TreeFault → List ℕ → Type 0 };
 
     /// The names of all entries in the directory of this path, each once, or nothing if it cannot be read. If a path
     /// ends in a slash, the disk may follow a link there. A path without that slash is not read if it ends in a link.

@@ -42,7 +42,7 @@ pub(crate) struct Walk<'a, 'p> {
 /// The walk reads each directory whole, and then looks at its entries. It follows no links, except one that is the
 /// root. It leaves out an entry at which it cannot look, such as one that is deleted meanwhile, and an entry whose name
 /// no pass takes. If a directory below the root cannot be read, the walk lists its own row alone. If no more files can
-/// be opened, the error says nothing of the directory, and the walk fails. The walk does not read directories below
+/// be opened, or a file system fails, the error says nothing of the directory, and the walk fails. The walk does not read directories below
 /// which no name is in the part.
 ///
 /// The walk also fails as soon as the whole tree has more rows, and names that were read and not looked at, than a pass

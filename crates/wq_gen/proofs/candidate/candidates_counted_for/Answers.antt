@@ -1,7 +1,6 @@
 -- The union of the positions that the generators give.
 use Rattle.std.proofs.Common.{sym, ap, ◌∙◌, ◌||◌}
 use Rattle.std.specs.List.{range_with_len}
-use Rattle.std.proofs.lemmas.Result.{IfOk-weaker}
 use Rattle.wq_view.specs.Position.{positions_of}
 use Rattle.wq_view.specs.View.{ViewData}
 use Rattle.wq_gen.specs.Candidate.{gives, suffix_is_among, is_fitting, is_on_path, changed_since}
@@ -11,7 +10,7 @@ use Rattle.wq_gen.proofs.candidate.candidates_counted_for.Goals as goal
 
 pub returns-then-not-is_any_there-clause-found : goal.returns-then-not-is_any_there-clause-found
 returns-then-not-is_any_there-clause-found g c =
-    IfOk-weaker c.all.result _ _ (λ found is. is ∙ ap (range_with_len 0) c.len.ensures.value ∙ none_there c.args.generators.now c.args.counted.now.view.records (sym c.is_any_there.ensures ∙ c.if-not-is_any_there.true)) c.all.ensures
+    c.in_ok-all.ensures ∙ ap (range_with_len 0) c.len.ensures.value ∙ none_there c.args.generators.now c.args.counted.now.view.records (sym c.is_any_there.ensures ∙ c.if-not-is_any_there.true)
 
 pub returns-clause-found : goal.returns-clause-found
 returns-clause-found g c =
@@ -24,4 +23,4 @@ returns-clause-found g c =
     let fitting = c.in_ok-fitting.ensures.found ∙ ap (λ (v : ViewData). positions_of (gives is_fitting generators.glob) v.records) third in
     let two = union_found (gives changed_since generators.since) (gives suffix_is_among generators.suffix) rs c.in_ok-changed.changed.items c.in_ok-suffixed.suffixed.items c.in_ok-early.early.items c.in_ok-changed.ensures.found suffixed c.in_ok-early.ensures in
     let three = union_found (λ r. gives changed_since generators.since r || gives suffix_is_among generators.suffix r) (gives is_on_path generators.path) rs c.in_ok-early.early.items c.in_ok-on_path.on_path.items c.in_ok-union.field-0.items two on_path c.in_ok-union.ensures in
-    IfOk-weaker c.union-3.result _ _ (λ both is. union_found (λ r. gives changed_since generators.since r || gives suffix_is_among generators.suffix r || gives is_on_path generators.path r) (gives is_fitting generators.glob) rs c.in_ok-union.field-0.items c.in_ok-fitting.fitting.items both.items three fitting is ∙ some_there generators rs (sym c.is_any_there.ensures ∙ c.if-not-is_any_there.false)) c.union-3.ensures
+    union_found (λ r. gives changed_since generators.since r || gives suffix_is_among generators.suffix r || gives is_on_path generators.path r) (gives is_fitting generators.glob) rs c.in_ok-union.field-0.items c.in_ok-fitting.fitting.items c.in_ok-union-2.field-0.items three fitting c.in_ok-union-2.ensures ∙ some_there generators rs (sym c.is_any_there.ensures ∙ c.if-not-is_any_there.false)
