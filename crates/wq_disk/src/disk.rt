@@ -11,6 +11,7 @@ use crate::stat::{Stat, stat_of};
 use crate::unseen::walk_fault;
 use std::env;
 use std::fs::Files;
+use std::os::unix::fs::MetadataExt;
 use std::sync::Arc;
 use std::sync::atomic::{AtomicBool, Ordering};
 use wq_patch::TreeFault;
@@ -92,6 +93,16 @@ impl FileDisk {
         self.entered.clear();
         let _ = env::set_current_dir(&self.files, "/");
         self.is_taken.store(false, Ordering::SeqCst);
+    }
+
+    /// Whether a root is on another device than the directory above it, as the root of a mounted file system is. There is
+    /// no answer if one of them cannot be looked at.
+    pub fn has_own_device(&self, root: &str) -> Option<bool> {
+        let mut path = with_slash(self.files.alloc(), root).ok()?;
+        let here = self.files.metadata(path.as_str()).ok()?.dev();
+        path.push_str("..").ok()?;
+        let above = self.files.metadata(path.as_str()).ok()?.dev();
+        Some(here != above)
     }
 
     /// A path to the same file from the working directory. That of the root stays whole: a root that was deleted is
