@@ -7,10 +7,7 @@ use Rattle.serde_json.specs.Data.{Data, string, object, Items, no_items, item, n
 use Rattle.serde_json.specs.Find.{get}
 use Rattle.wq_base.specs.Fault.{or_fault}
 use Rattle.wq_base.specs.Version.{version}
-use Rattle.wq_clock.specs.ClockText.{clock_text}
-use Rattle.wq_clock.specs.Instance.{InstanceData}
 use Rattle.wq_term.specs.Argument.{whole_number_of}
-use Rattle.wq_view.specs.View.{ViewData}
 use Rattle.wq_ask.specs.Argument.{RequestData, complete}
 use Rattle.wq_ask.specs.Root.{root_named}
 use Rattle.wq_ask.specs.declared.ask.Ask.TheVariants.{OfRoot}
@@ -38,8 +35,8 @@ clock_request arguments =
     or_fault WrongArguments (clock_arguments arguments) (λ (root, crawl).
     Ok (complete (OfRoot (root_named root) crawl (Reads Clock))))
 
--- the clock id of a view
-abbrev pub clock_data : InstanceData → ViewData → Data
-clock_data instance view =
-    object (member (codes "clock") (string (clock_text instance view.tick))
+-- the reply with a clock id
+abbrev pub clock_data : List ℕ → Data
+clock_data clock =
+    object (member (codes "clock") (string clock)
     (member (codes "version") (string version) no_members))

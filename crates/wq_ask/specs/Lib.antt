@@ -4,7 +4,6 @@ pub mod Root
 pub mod Command
 pub mod Argument
 pub mod Words
-pub mod Need
 pub mod Reply
 pub mod Query
 pub mod Clock

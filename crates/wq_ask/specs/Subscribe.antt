@@ -7,9 +7,6 @@ use Rattle.serde_json.specs.Data.{no_members, member}
 use Rattle.serde_json.specs.View.{view as data_of}
 use Rattle.wq_base.specs.Fault.{or_fault}
 use Rattle.wq_base.specs.Version.{version}
-use Rattle.wq_clock.specs.ClockText.{clock_text}
-use Rattle.wq_clock.specs.Instance.{InstanceData}
-use Rattle.wq_view.specs.View.{ViewData}
 use Rattle.wq_ask.specs.Argument.{RequestData, complete, subscribes, two_texts}
 use Rattle.wq_ask.specs.Root.{root_named}
 use Rattle.wq_ask.specs.declared.ask.Ask.{Ask}
@@ -43,10 +40,10 @@ IsSubscribing root name d (OfRoot r c (Subscribe n q)) =
     (r ≡ root) × (c ≡ false) × (n ≡ name) × (data_of q ≡ d)
 IsSubscribing root name d _ = ⊥
 
--- the reply that the subscription has begun
-abbrev pub subscribe_data : InstanceData → ViewData → List ℕ → Data
-subscribe_data instance view name =
-    object (member (codes "clock") (string (clock_text instance view.tick))
+-- the reply that the subscription has begun, at this clock id
+abbrev pub subscribe_data : List ℕ → List ℕ → Data
+subscribe_data clock name =
+    object (member (codes "clock") (string clock)
     (member (codes "subscribe") (string name)
     (member (codes "version") (string version) no_members)))
 

@@ -35,7 +35,6 @@ pub enum Ask {
 }
 
 /// An ask of a root that is watched.
-#[derive(Drop)]
 pub enum RootAsk {
     /// This is read, and nothing changes.
     Reads(RootRead),
@@ -49,6 +48,20 @@ pub enum RootAsk {
     AddTrigger(Value),
     /// The server drops the trigger of a name.
     DeleteTrigger { name: Text },
+}
+
+// An ask of a root is let go by one call, wherever a function gives up.
+impl Drop for RootAsk {
+    fn drop(self) {
+        match self {
+            RootAsk::Reads(_) => {}
+            RootAsk::Query(_) => {}
+            RootAsk::Subscribe { name: _, query: _ } => {}
+            RootAsk::Unsubscribe { name: _ } => {}
+            RootAsk::AddTrigger(_) => {}
+            RootAsk::DeleteTrigger { name: _ } => {}
+        }
+    }
 }
 
 /// An ask that reads of a root.

@@ -1,11 +1,9 @@
-//! The commands that a client may give, in tables: their names, the ask of each, and the need of each ask. Each command
-//! has a file of its own for its arguments and its reply.
+//! The commands that a client may give, in tables: their names, and the ask of each. Each command has a file of its own
+//! for its arguments and its reply.
 ghost use Rattle.std.specs.Prelude.{◌≡◌, Some};
 ghost use Rattle.serde_json.specs.View.{items_view};
 ghost use Rattle.wq_ask.specs.Argument.{behind};
 ghost use Rattle.wq_ask.specs.Command.{command_named};
-ghost use Rattle.wq_ask.specs.Need.{need_of, seen};
-ghost use Rattle.wq_crawl.specs.Need.{need_data};
 ghost use Rattle.wq_ask.specs.Reading.{Requests, request_of};
 
 mod clock;
@@ -18,7 +16,6 @@ mod watch;
 
 use crate::ask::Ask;
 use crate::refusal::Refusal;
-use crate::root::RootText;
 use clock::ask_clock;
 pub use clock::clock_reply;
 pub use program::{add_reply, delete_reply, is_name};
@@ -34,7 +31,6 @@ pub use trigger::{trigger_deleted_reply, trigger_reply, triggers_reply};
 use trigger::{ask_delete_trigger, ask_list_triggers, ask_trigger};
 pub use watch::{unwatch_reply, watch_reply};
 use watch::{ask_list, ask_unwatch, ask_watch};
-use wq_crawl::Need;
 
 /// A command, by its name alone.
 #[derive(Clone, Copy, PartialEq, Eq)]
@@ -124,31 +120,5 @@ impl Command {
             Command::ListTriggers => ask_list_triggers(alloc, words),
             Command::DeleteTrigger => ask_delete_trigger(alloc, words),
         }
-    }
-}
-
-impl Ask {
-    /// The step before this is answered. A line that needs a crawl is answered after that crawl, at the view that it
-    /// left. A line that watches a root is answered at the view of that root; one that unwatches it, at its number.
-    pub fn need(&self) -> Need<'_>
-        ensures { need_data result ≡ need_of self.now }
-    {
-        match self {
-            Ask::Watch { root } => Need::Watch(root.as_str()),
-            Ask::Unwatch { root } => Need::Unwatch(root.as_str()),
-            Ask::OfRoot { root, crawl, .. } => seen(*crawl, root),
-            _ => Need::None,
-        }
-    }
-}
-
-/// The view of a root, crawled first or not.
-fn seen(crawl: bool, root: &RootText) -> Need<'_>
-    ensures { need_data result ≡ seen crawl root.now }
-{
-    if crawl {
-        Need::Crawl(root.as_str())
-    } else {
-        Need::Look(root.as_str())
     }
 }

@@ -17,7 +17,7 @@ mod version;
 mod workers;
 mod writer;
 
-pub use asker::{Asker, FILES_BETWEEN_LOOKS, Stays};
+pub use asker::{Asker, FILES_BETWEEN_LOOKS, Stays, Unanswered};
 pub use compare::{Case, Relation, folded_order, is_suffix};
 pub use decimal::{signed_number, unsigned_number};
 pub use directory::{rest_below, slashes};

@@ -47,6 +47,13 @@ impl<T> Table<T> {
         Table { rows }
     }
 
+    /// The rows, given back. It takes no memory.
+    pub fn into_vec(self) -> Vec<T>
+        ensures { result.items ≡ self }
+    {
+        self.rows
+    }
+
     /// The rows of the table.
     pub fn as_slice(&self) -> &[T]
         ensures { result.now ≡ self.now }

@@ -26,6 +26,13 @@ impl Text {
         Text { text }
     }
 
+    /// The string, given back. It takes no memory.
+    pub fn into_string(self) -> String
+        ensures { string_bytes result ≡ self }
+    {
+        self.text
+    }
+
     /// A copy of a text.
     ///
     /// # Errors

@@ -57,6 +57,13 @@ impl TextList {
         Ok(TextList { texts, order })
     }
 
+    /// The texts, given back. It takes no memory.
+    pub fn into_table(self) -> Table<Table<u8>>
+        ensures { result ≡ self }
+    {
+        self.texts
+    }
+
     /// The texts.
     pub fn texts(&self) -> &[Table<u8>]
         ensures { result.now ≡ self.now }

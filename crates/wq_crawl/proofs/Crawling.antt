@@ -15,15 +15,15 @@ use Rattle.wq_record.specs.Seen.{SeenData, is_count, is_lawful_row}
 use Rattle.wq_view.specs.Patch.{patched}
 use Rattle.wq_view.specs.Patching.{ArePatches}
 use Rattle.wq_view.specs.declared.patch.Patch.{Patch}
-use Rattle.wq_live.specs.Patched.{pass_by}
+use Rattle.wq_view.specs.Change.{pass_by}
 use Rattle.wq_view.specs.View.{IsViewOf, NamesRise, ViewData}
 use Rattle.wq_view.specs.declared.listing.PassFault.{PassFault}
-use Rattle.wq_crawl.specs.declared.tree.Listing.{Listing}
-use Rattle.wq_crawl.specs.declared.tree.Listing.TheVariants.{Rows, Patches, Same}
-use Rattle.wq_crawl.specs.declared.tree.TreeFault.{TreeFault}
+use Rattle.wq_patch.specs.declared.tree.Listing.{Listing}
+use Rattle.wq_patch.specs.declared.tree.Listing.TheVariants.{Rows, Patches, Same}
+use Rattle.wq_patch.specs.declared.tree.TreeFault.{TreeFault}
 use Rattle.wq_crawl.specs.declared.relisted.Relisted.TheVariants.{Patched}
-use Rattle.wq_crawl.specs.Tree.{AreLawful, IsFew, IsFit, ListedData, Lists, rows_given_again, rows_listed}
-use Rattle.wq_crawl.specs.Device.{Gave}
+use Rattle.wq_patch.specs.Tree.{AreLawful, IsFew, IsFit, ListedData, Lists, rows_given_again, rows_listed}
+use Rattle.wq_patch.specs.Device.{Gave}
 use Rattle.wq_live.specs.declared.event.RootEvent.{RootEvent}
 use Rattle.wq_view.specs.Listing.{PassData, is_of_whole, listing_fault, listing_of}
 use Rattle.wq_crawl.specs.declared.fault.CrawlFault.{CrawlFault}

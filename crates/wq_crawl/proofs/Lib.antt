@@ -1,9 +1,10 @@
 mod Between
 mod Crawling
+mod Publishing
+mod Attempts
 mod Sharing
 mod Beginnings
 mod Shown
 mod Needs
 mod Meets
 mod Tables
-mod AmongNames

@@ -1,12 +1,12 @@
 -- The roots of a world meet a need, by the steps of the code.
-use Rattle.std.proofs.Common.{◌≡◌, ℕ, true, List, [], ◌∷◌, ◌++◌, Option, Some, None, option_map, Result, Ok, Err, inl, inr, refl, sym, ap, subst, ◌∙◌}
+use Rattle.std.proofs.Common.{◌≡◌, ℕ, List, [], ◌∷◌, ◌++◌, Option, Some, None, Result, Ok, Err, inl, inr, refl, sym, ap, subst}
 use Rattle.wq_clock.specs.Run.{RunData}
 use Rattle.wq_crawl.specs.declared.fault.CrawlFault.{CrawlFault}
 use Rattle.wq_live.specs.Table.{IsTableOf, TableData}
 use Rattle.wq_live.specs.declared.event.RootEvent.{RootEvent}
 use Rattle.wq_live.specs.declared.event.RootEvent.TheVariants.{Ended}
 use Rattle.wq_crawl.specs.Need.{NeedData}
-use Rattle.wq_crawl.specs.Views.{ReadyData, SaysReady, root_at_data}
+use Rattle.wq_crawl.specs.Views.{ReadyData, SaysReady}
 use Rattle.wq_crawl.specs.declared.views.RootAt.{RootAt}
 use Rattle.wq_crawl.specs.Meets.{Meets, MeetsAt, MeetsFor, at_end, ending, fault_for, looked}
 use Rattle.wq_crawl.specs.Tables.{EndsTable, Finds}

@@ -1,19 +1,16 @@
 -- The results of the parts of meeting a need, for each need.
-use Rattle.std.proofs.Common.{◌≡◌, ℕ, true, List, Option, Some, None, option_map, Result, Ok, Err, inl, inr, refl, sym, ap, subst, ◌∙◌}
-use mathlib.Core.List.{IsPrefix}
+use Rattle.std.proofs.Common.{◌≡◌, ℕ, true, List, Option, Some, None, Result, Ok, Err, inl, inr, refl, sym, ap, subst}
 use Rattle.wq_clock.specs.Instance.{InstanceData}
 use Rattle.wq_crawl.specs.Crawl.{CrawlerData, tells}
 use Rattle.wq_crawl.specs.Roots.{RootRequestData, RootsGive, passing, showing, ending}
 use Rattle.wq_crawl.specs.declared.fault.CrawlFault.{CrawlFault}
-use Rattle.wq_crawl.specs.declared.fault.CrawlFault.TheVariants.{NoMemory}
 use Rattle.wq_live.specs.declared.event.RootEvent.{RootEvent}
 use Rattle.wq_crawl.specs.Basis.{Basis}
 use Rattle.wq_crawl.specs.Meeting.{EndsAtEnd, IsAtEnd, IsMet, IsShared, LearnsAndSees, Met, SeesNumber, SeesRoot, SeesText}
-use Rattle.wq_crawl.specs.Ready.{HearsFirst, KnownData, Looks, Readies, ended, ended_by, known}
-use Rattle.wq_crawl.specs.Run.{ShowsAt}
+use Rattle.wq_crawl.specs.Ready.{HearsFirst, ended, ended_by, known}
 use Rattle.wq_crawl.specs.Need.{NeedData, look, crawl, watch, unwatch}
 use Rattle.wq_crawl.specs.At.{AtData}
-use Rattle.wq_crawl.specs.Views.{ReadyData, SaysReady, is_of_root, root_at_data}
+use Rattle.wq_crawl.specs.Views.{ReadyData, SaysReady, is_of_root}
 
 -- an ask is ready at a root that is looked at, whether there is a share of its view or not
 ready_at : (need : NeedData) → is_of_root need ≡ true → (at : Option AtData) (result : Met) → IsShared at result → SaysReady need (Ok at) result

@@ -65,7 +65,7 @@ some_same : {X : Type 0} {x y : X} → Some x ≡ Some y → x ≡ y
 some_same h = cc h
 
 -- a root that is found by its text is found by its number
-number_found : (text : List ℕ) (roots : List Root) (root : Root) → find (λ (r : Root). bytes_eq r.text text) roots ≡ Some root
+pub number_found : (text : List ℕ) (roots : List Root) (root : Root) → find (λ (r : Root). bytes_eq r.text text) roots ≡ Some root
     → list_any (λ (r : Root). r.number == root.number) roots ≡ true
 number_found text [] root h = absurd cc
 number_found text (r ∷ rs) root h = at (bytes_eq r.text text) refl (λ k. number_found text rs root k)

@@ -10,25 +10,25 @@ use Rattle.wq_view.specs.Limit.{max_listing_rows}
 use Rattle.wq_view.specs.View.{IsViewOf, ViewData}
 use Rattle.wq_view.specs.Listing.{PassData, is_of_whole, listing_fault, listing_of}
 use Rattle.wq_view.specs.Patch.{patched}
-use Rattle.wq_live.specs.Patched.{MakePass, pass_by}
+use Rattle.wq_view.specs.Change.{MakePass, pass_by}
 use Rattle.wq_record.specs.Seen.{SeenData, is_count, is_lawful_row}
 use Rattle.wq_view.specs.declared.listing.PassFault.{PassFault}
 use Rattle.wq_view.specs.declared.listing.PassFault.TheVariants.{TooManyRows}
 use Rattle.wq_live.specs.Log.{events_code}
 use Rattle.wq_live.specs.declared.event.RootEvent.{RootEvent}
-use Rattle.wq_crawl.specs.Device.{Gave}
+use Rattle.wq_patch.specs.Device.{Gave}
 use Rattle.wq_live.specs.Event.{number_of, passes_over}
 use Rattle.wq_live.specs.Table.{IsNoNews}
 use Rattle.wq_crawl.specs.Publish.{EndsRoot, IsNotTakenIn, IsPlace, Passes, with_start}
-use Rattle.wq_crawl.specs.Tree.{IsCounted, ListedData, Lists, listed_code}
-use Rattle.wq_crawl.specs.declared.tree.Listing.{Listing}
-use Rattle.wq_crawl.specs.declared.tree.Listing.TheVariants.{Rows, Patches, Same}
-use Rattle.wq_crawl.specs.declared.tree.TreeFault.{TreeFault}
-use Rattle.wq_crawl.specs.declared.tree.TreeFault.TheVariants.{Unreadable as UnreadableTree}
-use Rattle.wq_crawl.specs.declared.tree.TreeFault.TheVariants.{TooManyRows as TooManyTreeRows}
-use Rattle.wq_crawl.specs.declared.tree.TreeFault.TheVariants.{NoHandle as NoTreeHandle}
-use Rattle.wq_crawl.specs.declared.tree.TreeFault.TheVariants.{NoMemory as NoTreeMemory}
-use Rattle.wq_crawl.specs.declared.tree.TreeFault.TheVariants.{GaveWay as TreeGaveWay}
+use Rattle.wq_patch.specs.Tree.{IsCounted, ListedData, Lists, listed_code}
+use Rattle.wq_patch.specs.declared.tree.Listing.{Listing}
+use Rattle.wq_patch.specs.declared.tree.Listing.TheVariants.{Rows, Patches, Same}
+use Rattle.wq_patch.specs.declared.tree.TreeFault.{TreeFault}
+use Rattle.wq_patch.specs.declared.tree.TreeFault.TheVariants.{Unreadable as UnreadableTree}
+use Rattle.wq_patch.specs.declared.tree.TreeFault.TheVariants.{TooManyRows as TooManyTreeRows}
+use Rattle.wq_patch.specs.declared.tree.TreeFault.TheVariants.{NoHandle as NoTreeHandle}
+use Rattle.wq_patch.specs.declared.tree.TreeFault.TheVariants.{NoMemory as NoTreeMemory}
+use Rattle.wq_patch.specs.declared.tree.TreeFault.TheVariants.{GaveWay as TreeGaveWay}
 use Rattle.wq_crawl.specs.declared.fault.CrawlFault.{CrawlFault}
 use Rattle.wq_crawl.specs.declared.fault.CrawlFault.TheVariants.{Unreadable, TooManyFiles}
 use Rattle.wq_crawl.specs.declared.fault.CrawlFault.TheVariants.{GaveWay, NoHandle, TooManyRoots}
@@ -167,6 +167,14 @@ IsRelisted number text before (Patched patches second) after =
     (view : ViewData) × IsViewOf (passes_over number before.events) view
     × IsPassOver text before (pass_by view.records patches.items second) after
     × MakePass view.records patches.items × IsTrue (is_count second)
+
+-- what a listing of the root of this number came to can be published over this list: patches fit
+-- the view of the passes over the root
+abbrev pub IsTakable : ℕ → List RootEvent → Relisted → Type 0
+IsTakable number events (Patched patches second) =
+    (view : ViewData) × IsViewOf (passes_over number events) view
+    × MakePass view.records patches.items × IsTrue (is_count second)
+IsTakable number events _ = Unit {0}
 
 -- a root that is shown was crawled: it was listed, a pass over it is added if that is news, and the
 -- list is returned. If the crawl is refused, nothing is added

@@ -1,7 +1,6 @@
-pub mod Device
-pub mod Tree
 pub mod Publish
 pub mod Crawl
+pub mod Answer
 pub mod Shared
 pub mod Roots
 pub mod Second
@@ -14,4 +13,3 @@ pub mod Ready
 pub mod Meeting
 pub mod Meets
 pub mod Tables
-pub mod Recent

@@ -1,5 +1,5 @@
 -- The requests of a session to the roots, and their answers. No public document defines it.
-use Rattle.std.specs.Prelude.{◌≡◌, ℕ, Bool, true, false, List, Option, Some, None, Result, Ok, Err}
+use Rattle.std.specs.Prelude.{◌≡◌, ℕ, Bool, List, Option, Some, None, Result}
 use Rattle.wq_live.specs.declared.event.RootEvent.{RootEvent}
 use Rattle.wq_crawl.specs.declared.fault.CrawlFault.{CrawlFault}
 use Rattle.wq_crawl.specs.Crawl.{CrawlerData, Crawled, Glanced, Watched, Unwatched, tells}
@@ -34,19 +34,6 @@ RootsGive (Some before) request told after =
 RootsGive None request told after =
     (before : CrawlerData) × (left : CrawlerData) × Fulfils request before told left
     × (after ≡ None)
-
--- whether a crawl returned a list, if it was not refused
-abbrev pub has_list : Result (Option (List RootEvent)) CrawlFault → Result Bool CrawlFault
-has_list (Ok None) = Ok false
-has_list (Ok (Some told)) = Ok true
-has_list (Err fault) = Err fault
-
--- roots that show no crawler crawled the root of this text by some crawler, and say of its answer
--- only whether it has a list
-abbrev pub SayIfShown : List ℕ → Result Bool CrawlFault → Type 0
-SayIfShown text result =
-    (answer : Result (Option (List RootEvent)) CrawlFault)
-    × RootsGive None (passing text) answer None × (result ≡ has_list answer)
 
 -- roots that show no crawler made a glance at the root of this text by some crawler, with this
 -- answer

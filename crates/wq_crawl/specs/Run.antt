@@ -7,6 +7,12 @@ use Rattle.wq_view.specs.View.{IsViewOf, ViewData}
 use Rattle.wq_live.specs.Event.{IsLawfulList, Root, is_shown, shown_root, passes_over}
 use Rattle.wq_live.specs.declared.event.RootEvent.{RootEvent}
 use Rattle.wq_crawl.specs.At.{AtData}
+use Rattle.wq_clock.specs.Instance.{InstanceData, instance_data}
+use Rattle.wq_crawl.specs.declared.found_root.FoundRoot.{FoundRoot}
+
+-- the root that a look found: the run of the server, and the number of the root there
+abbrev pub found_data : FoundRoot → InstanceData
+found_data shown = instance_data shown.instance
 
 -- the root of this text in a list of events: with the view of the passes over it, if it is shown
 -- there

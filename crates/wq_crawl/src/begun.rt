@@ -1,54 +1,42 @@
 //! The count of crawls that have begun.
-ghost use Rattle.std.specs.Prelude.{◌≡◌, nat_le};
+ghost use Rattle.std.specs.Prelude.{◌≡◌, ◌≤◌};
 
-use crate::lister::Lister;
-use crate::seconds::Seconds;
-use crate::tree::Tree;
 use std::sync::atomic::{AtomicU64, Ordering};
+use wq_patch::Tree;
 
-/// The moment at which somebody asked for a crawl: the number of crawls that had begun then. Only [`Counts::read`] makes
+/// The moment at which somebody asked for a crawl: the number of crawls that had begun then. Only [`Begun::read`] makes
 /// one.
 #[derive(Clone, Copy, Drop)]
 pub struct Asked {
     count: u64,
 }
 
-/// The moment at which a crawl began: the number of crawls that had begun before. Only [`Counts::raise`] makes one.
-#[derive(Clone, Copy, Drop)]
+impl Asked {
+    /// The number of crawls that had begun.
+    pub(crate) fn count(self) -> u64
+        ensures { result ≡ self.count }
+    {
+        self.count
+    }
+}
+
+/// The moment at which a crawl begins: the number of crawls that began before. Only [`Begun::raise`] makes one, for one
+/// listing.
+#[derive(Drop)]
 pub(crate) struct Raised {
     count: u64,
 }
 
 impl Raised {
-    /// Whether the crawl began when somebody asked, or later.
-    pub(crate) fn is_since(&self, asked: Asked) -> bool
-        ensures { result ≡ nat_le asked.count self.now.count }
+    /// The number of crawls that began before.
+    pub(crate) fn count(&self) -> u64
+        ensures { result ≡ self.now.count }
     {
-        asked.count <= self.count
+        self.count
     }
 }
 
-/// Counts the crawls that begin.
-pub(crate) trait Counts {
-    ghost use Rattle.std.specs.Prelude.{ℕ};
-    ghost use Rattle.wq_crawl.specs.Crawl.{ListerData};
-
-    // A count that was read.
-    ghost read: { ℕ → Type 0 };
-
-    // A count that was raised while the lister was in this state.
-    ghost raised: { ListerData → ℕ → Type 0 };
-
-    /// The number of crawls that have begun.
-    fn read(&self) -> Asked
-        ensures { read result.count };
-
-    /// Counts a crawl that begins, by a lister in this state. It returns the number of crawls that had begun before.
-    fn raise<T: Tree + Drop, S: Seconds + Drop>(&self, lister: &Lister<T, S>) -> Raised
-        ensures { raised lister.now result.count };
-}
-
-/// A count that threads share.
+/// The count of crawls that have begun. Threads share it.
 #[derive(Drop)]
 pub(crate) struct Begun {
     count: AtomicU64,
@@ -61,22 +49,22 @@ impl Begun {
             count: AtomicU64::new(0),
         }
     }
-}
 
-impl Counts for Begun {
-    ghost read = { λ _. Unit {0} };
-
-    ghost raised = { λ _ _. Unit {0} };
-
-    fn read(&self) -> Asked {
+    /// This moment.
+    pub(crate) fn read(&self) -> Asked {
         Asked {
             count: self.count.load(Ordering::SeqCst),
         }
     }
 
-    fn raise<T: Tree + Drop, S: Seconds + Drop>(&self, _lister: &Lister<T, S>) -> Raised {
+    /// Counts a crawl that begins for somebody who asked at an earlier moment.
+    pub(crate) fn raise(&self, asked: Asked) -> Raised
+        ensures { asked.count ≤ result.count }
+    {
+        // The count never falls. No contract of the kit says so.
+        let count = self.count.fetch_add(1, Ordering::SeqCst);
         Raised {
-            count: self.count.fetch_add(1, Ordering::SeqCst),
+            count: count.max(asked.count),
         }
     }
 }

@@ -1,27 +1,24 @@
 //! The crawler, which lists roots and publishes their passes. It has a lister and a publisher, which crawls use one
 //! after the other.
-ghost use Rattle.std.specs.Prelude.{◌≡◌, ◌≢◌, ◌⊎◌, ◌↔◌, IfNone, IfOk, IsTrue, MatchResult, None, OnOk};
-ghost use Rattle.wq_record.specs.Seen.{is_count};
-ghost use Rattle.wq_view.specs.View.{IsViewOf, ViewData};
-ghost use Rattle.wq_live.specs.Event.{IsFull, number_of, passes_over};
-ghost use Rattle.wq_live.specs.Patched.{MakePass, pass_by};
-ghost use Rattle.wq_crawl.specs.Crawl.{Began, Crawled, CrawledAt, IsNoPassOver, IsPassOver};
-ghost use Rattle.wq_crawl.specs.Crawl.{Glanced, IsRelisted};
-ghost use Rattle.wq_crawl.specs.Crawl.{Shared, Unwatched, Watched};
-ghost use Rattle.wq_crawl.specs.Publish.{IsNotTakenIn, Passes, with_start};
+ghost use Rattle.std.specs.Prelude.{◌≡◌, IfOk, IsTrue, MatchResult, None, OnOk, Some};
+ghost use Rattle.wq_live.specs.Event.{IsFull, number_of};
+ghost use Rattle.wq_crawl.specs.Answer.{IsAnswer, answer_of, list_of};
+ghost use Rattle.wq_crawl.specs.Crawl.{Began, Crawled, CrawledAt, CrawledWhole, Glanced};
+ghost use Rattle.wq_crawl.specs.Crawl.{IsNoPassOver, IsPassOver, Shared, Unwatched, Watched, tells};
+ghost use Rattle.wq_crawl.specs.Publish.{with_start};
 
+use crate::begun::Begun;
+use crate::crawl::Crawl;
 use crate::fault::CrawlFault;
 use crate::lister::Lister;
 use crate::place::{Place, place_for};
-use crate::recent::{Reach, Recent};
-use crate::relisted::Relisted;
 use crate::seconds::Seconds;
-use crate::tree::Tree;
 use std::alloc::AllocError;
 use std::marker::Model;
 use std::sync::Wait;
 use wq_live::{Named, Publisher, Seat, StartFault, Told};
-use wq_view::{Pass, Patch, ViewFault};
+use wq_patch::{Reach, Recent, Tree};
+use wq_view::Pass;
 
 /// Lists roots, and publishes their passes. Contracts see the list of events that is published, and the state that the
 /// tree and the clock show.
@@ -29,6 +26,7 @@ use wq_view::{Pass, Patch, ViewFault};
 pub struct Crawler<N: Named, R: Wait + Drop, T: Tree + Drop, S: Seconds + Drop> {
     publisher: Publisher<N, R>,
     lister: Lister<T, S>,
+    begun: Begun,
 }
 
 impl<N: Named, R: Wait + Drop, T: Tree + Drop, S: Seconds + Drop> Model for Crawler<N, R, T, S> {
@@ -55,6 +53,7 @@ impl<N: Named, R: Wait + Drop, T: Tree + Drop, S: Seconds + Drop> Crawler<N, R, 
         Crawler {
             publisher,
             lister: Lister::new(tree, seconds),
+            begun: Begun::new(),
         }
     }
 
@@ -78,16 +77,14 @@ impl<N: Named, R: Wait + Drop, T: Tree + Drop, S: Seconds + Drop> Crawler<N, R, 
     ///
     /// A refused crawl leaves the list as it is. The call waits for looks that still read the value before the last
     /// pass.
-    pub fn crawl(&mut self, root: &str) -> Result<Option<Told<N>>, CrawlFault>
-        ensures { Crawled root.now self.old result self.new }
+    pub fn crawl(&mut self, root: &str) -> Result<Crawl<N>, CrawlFault>
+        ensures crawled { Crawled root.now self.old (list_of result) self.new }
+        ensures answer { IfOk result (IsAnswer (N.published N.book) root.now) }
     {
         let Some(number) = self.publisher.find(root) else {
-            return Ok(None);
+            return Ok(Crawl::gone(&self.publisher, root));
         };
-        match self.crawl_at(number, root, None) {
-            Ok(told) => Ok(Some(told)),
-            Err(fault) => Err(fault),
-        }
+        self.crawl_whole(number, root)
     }
 
     /// Crawls the root of this text by a glance at it that looks so far, publishes the pass, and returns whether it did.
@@ -107,7 +104,7 @@ impl<N: Named, R: Wait + Drop, T: Tree + Drop, S: Seconds + Drop> Crawler<N, R, 
         let Ok(Some(recent)) = Recent::of(&view, reach) else {
             return Ok(false);
         };
-        match self.crawl_at(number, root, Some(&recent)) {
+        match self.glance_at(number, root, &recent) {
             Ok(_) => Ok(true),
             Err(fault) => Err(fault),
         }
@@ -157,21 +154,38 @@ impl<N: Named, R: Wait + Drop, T: Tree + Drop, S: Seconds + Drop> Crawler<N, R, 
         }
     }
 
-    /// Crawls the root of this number and text, which is shown. If there are recent directories, it crawls by a glance.
-    fn crawl_at(
+    /// Crawls the whole root of this number and text, which is shown.
+    fn crawl_whole(&mut self, number: u64, root: &str) -> Result<Crawl<N>, CrawlFault>
+        requires shown { number_of root.now (self.old).events ≡ Some number }
+        ensures crawled { CrawledWhole number root.now self.old
+            (answer_of (self.new).events result) self.new }
+        ensures told { list_of result ≡ tells (answer_of (self.new).events result) }
+        ensures answer { IfOk result (IsAnswer (N.published N.book) root.now) }
+    {
+        // As for a root that is listed for the first time.
+        self.let_go();
+        let raised = self.begun.raise(self.begun.read());
+        let listed = self
+            .lister
+            .list_whole(raised, self.publisher.table(), number, root)?;
+        Crawl::published(&mut self.publisher, listed)
+    }
+
+    /// Crawls the root of this number and text, which is shown, by a glance into these directories.
+    fn glance_at(
         &mut self,
         number: u64,
         root: &str,
-        recent: Option<&Recent<'_>>,
+        recent: &Recent<'_>,
     ) -> Result<Told<N>, CrawlFault>
-        ensures crawled { CrawledAt number root.now self.old result self.new }
-        ensures whole { IfNone recent.entry (OnOk result (IsTrue (self.new).whole)) }
+        ensures { CrawledAt number root.now self.old result self.new }
     {
-        match self.list_again(number, root, recent)? {
-            Relisted::Still => self.told(),
-            Relisted::Pass(pass) => self.publish(number, pass),
-            Relisted::Patched(patches, second) => self.publish_patches(number, &patches, second),
-        }
+        // As for a root that is listed for the first time.
+        self.let_go();
+        let relisted = self
+            .lister
+            .list_again(self.publisher.table(), number, root, Some(recent))?;
+        relisted.publish(&mut self.publisher, number)
     }
 
     /// Lists a root that is not shown, and starts it.
@@ -182,53 +196,6 @@ impl<N: Named, R: Wait + Drop, T: Tree + Drop, S: Seconds + Drop> Crawler<N, R, 
     {
         let pass = self.list(root)?;
         self.start(root, pass)
-    }
-
-    /// Publishes a pass over the root of this number.
-    fn publish(&mut self, number: u64, pass: Pass) -> Result<Told<N>, CrawlFault>
-        ensures published { MatchResult result
-            (λ told. (told ≡ (self.new).events)
-            × Passes (self.old).events number pass (self.new).events)
-            (λ fault. ((self.new).events ≡ (self.old).events)
-            × IsNotTakenIn (self.old).events number pass fault) }
-        ensures listed { (self.new).listed ≡ (self.old).listed }
-        ensures whole { (self.new).whole ≡ (self.old).whole }
-        ensures clock { (self.new).clock ≡ (self.old).clock }
-        ensures failed { (self.new).failed ≡ (self.old).failed }
-    {
-        match self.publisher.publish(number, pass) {
-            Ok(told) => Ok(told),
-            Err(ViewFault::TicksSpent) => Err(CrawlFault::TicksSpent),
-            Err(ViewFault::NoMemory) => Err(CrawlFault::NoMemory),
-        }
-    }
-
-    /// Publishes a pass at this second over the root of this number, which differs by these patches from the root's view.
-    fn publish_patches(
-        &mut self,
-        number: u64,
-        patches: &[Patch],
-        second: i64,
-    ) -> Result<Told<N>, CrawlFault>
-        requires fit { (view : ViewData) × IsViewOf (passes_over number (self.old).events) view
-            × MakePass view.records patches.now }
-        requires second { IsTrue (is_count second) }
-        ensures published { (view : ViewData) → IsViewOf (passes_over number (self.old).events) view
-            → MatchResult result
-            (λ told. (told ≡ (self.new).events) × Passes (self.old).events number
-            (pass_by view.records patches.now second) (self.new).events)
-            (λ fault. ((self.new).events ≡ (self.old).events) × IsNotTakenIn (self.old).events number
-            (pass_by view.records patches.now second) fault) }
-        ensures listed { (self.new).listed ≡ (self.old).listed }
-        ensures whole { (self.new).whole ≡ (self.old).whole }
-        ensures clock { (self.new).clock ≡ (self.old).clock }
-        ensures failed { (self.new).failed ≡ (self.old).failed }
-    {
-        match self.publisher.publish_patches(number, patches, second) {
-            Ok(told) => Ok(told),
-            Err(ViewFault::TicksSpent) => Err(CrawlFault::TicksSpent),
-            Err(ViewFault::NoMemory) => Err(CrawlFault::NoMemory),
-        }
     }
 
     /// Publishes the start of a root that is not shown.
@@ -262,24 +229,5 @@ impl<N: Named, R: Wait + Drop, T: Tree + Drop, S: Seconds + Drop> Crawler<N, R, 
         // them.
         self.let_go();
         self.lister.list(root)
-    }
-
-    /// The listing of the root of this number and text, as the tree shows it now.
-    fn list_again(
-        &mut self,
-        number: u64,
-        root: &str,
-        recent: Option<&Recent<'_>>,
-    ) -> Result<Relisted, CrawlFault>
-        ensures kept { (self.new).events ≡ (self.old).events }
-        ensures listed { MatchResult result
-            (λ relisted. IsRelisted number root.now self.old relisted self.new)
-            (λ fault. IsNoPassOver root.now self.old fault self.new) }
-        ensures whole { IfNone recent.entry (OnOk result (IsTrue (self.new).whole)) }
-    {
-        // As for a root that is listed for the first time.
-        self.let_go();
-        self.lister
-            .list_again(self.publisher.table(), number, root, recent)
     }
 }

@@ -3,8 +3,8 @@ ghost use Rattle.std.specs.Prelude.{◌≡◌, IsTrue};
 ghost use Rattle.wq_view.specs.Listing.{is_of_whole};
 ghost use Rattle.wq_crawl.specs.Crawl.{no_pass, not_listed};
 
-use crate::tree::TreeFault;
 use thiserror::Error;
+use wq_patch::TreeFault;
 use wq_view::PassFault;
 
 /// The reason for which a root could not be crawled, watched or unwatched. The root is then shown exactly if it was

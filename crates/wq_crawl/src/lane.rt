@@ -1,35 +1,25 @@
 //! A lane, in which the crawls of one root come one after the other. Crawls in other lanes go on at the same time, so a
 //! tree that does not answer holds up only its own root.
-ghost use Rattle.std.specs.Prelude.{◌≡◌, IfNone, IsTrue, OnOk, Some, false, nat_le};
-ghost use Rattle.std.specs.Option.{option_map_or};
+ghost use Rattle.std.specs.Prelude.{◌≡◌, IfOk, IfSome, Some};
 ghost use Rattle.wq_live.specs.Event.{number_of};
-ghost use Rattle.wq_crawl.specs.Shared.{CrawledAll, CrawledBetween, CrawledOnce, GlancedBetween};
-ghost use Rattle.wq_crawl.specs.Shared.{KeepsRaised, WatchedBetween, begun_of};
+ghost use Rattle.wq_crawl.specs.Answer.{BeganSince, IsAnswer, list_of};
+ghost use Rattle.wq_crawl.specs.Shared.{CrawledOnce, GlancedBetween, TriesOnce, WatchedBetween};
 
-use crate::begun::{Asked, Counts, Raised};
+use crate::begun::{Asked, Begun, Raised};
+use crate::crawl::{Began, Crawl};
 use crate::fault::CrawlFault;
 use crate::lister::Lister;
-use crate::recent::{Reach, Recent};
-use crate::relisted::Relisted;
 use crate::seconds::Seconds;
 use crate::shared_publisher::SharedPublisher;
-use crate::tree::Tree;
 use std::sync::Wait;
 use wq_live::{Named, Told};
+use wq_patch::{Reach, Recent, Tree};
 
 /// A lister for the crawls of a root, and the last crawl by it that serves clients.
 #[derive(Drop)]
 pub(crate) struct Lane<T: Tree + Drop, S: Seconds + Drop> {
     lister: Lister<T, S>,
-    last: Option<LastCrawl>,
-}
-
-/// A crawl of a whole root that was published.
-#[derive(Clone, Copy, Drop)]
-pub(crate) struct LastCrawl {
-    /// The number of the root.
-    number: u64,
-    raised: Raised,
+    last: Option<Began>,
 }
 
 impl<T: Tree + Drop, S: Seconds + Drop> Lane<T, S> {
@@ -38,32 +28,53 @@ impl<T: Tree + Drop, S: Seconds + Drop> Lane<T, S> {
         Lane { lister, last: None }
     }
 
-    /// Crawls a root for somebody that asked at this moment, unless the last crawl serves them too.
-    pub(crate) fn crawl<C: Counts, N: Named, R: Wait + Drop>(
+    /// Crawls a root for somebody that asked at this moment, unless the last crawl serves them too. It tries again as long
+    /// as another pass over the root is published while it lists the root.
+    pub(crate) fn crawl<N: Named, R: Wait + Drop>(
         &mut self,
-        begun: &C,
+        begun: &Begun,
         shared: &SharedPublisher<N, R>,
         rt: &R,
         asked: Asked,
         root: &str,
-    ) -> Result<Option<Told<N>>, CrawlFault>
-        requires asked { C.read asked.count }
-        ensures crawled { CrawledOnce root.now asked.count self.old.last self.old.lister result
-            self.new.lister }
-        ensures kept { KeepsRaised C.raised root.now self.old.lister self.old.last result
-            self.new.last }
+    ) -> Result<Crawl<N>, CrawlFault>
+        ensures crawled { CrawledOnce root.now self.old.lister (list_of result) self.new.lister }
+        ensures answer { IfOk result (IsAnswer (N.published N.book) root.now) }
+        ensures since { IfOk result (BeganSince asked.count) }
     {
-        let Some((number, told)) = shared.find(rt, root)? else {
-            return Ok(None);
-        };
-        if self.has_begun_since(asked, number) {
-            return Ok(Some(told));
+        for _ in rt.forever() {
+            if let Some(crawl) = self.try_crawl(begun, shared, rt, asked, root)? {
+                return Ok(crawl);
+            }
         }
-        let raised = begun.raise(&self.lister);
-        self.crawl_whole(shared, rt, raised, number, root, told)
+        unreachable!()
     }
 
-    /// Crawls the whole root of this number and text, which a list shows, and keeps that it began then.
+    /// Crawls a root as [`Lane::crawl`] does. There is no answer if the root was shown, published or ended by others
+    /// meanwhile.
+    fn try_crawl<N: Named, R: Wait + Drop>(
+        &mut self,
+        begun: &Begun,
+        shared: &SharedPublisher<N, R>,
+        rt: &R,
+        asked: Asked,
+        root: &str,
+    ) -> Result<Option<Crawl<N>>, CrawlFault>
+        ensures crawled { TriesOnce root.now self.old.lister result self.new.lister }
+        ensures answer { IfOk result (λ it. IfSome it (IsAnswer (N.published N.book) root.now)) }
+        ensures since { IfOk result (λ it. IfSome it (BeganSince asked.count)) }
+    {
+        let Some((number, told)) = shared.find(rt, root)? else {
+            return Ok(shared.gone(rt, root));
+        };
+        match self.last {
+            Some(last) if last.serves(asked, number) => shared.again(rt, root, last),
+            _ => self.crawl_whole(shared, rt, begun.raise(asked), number, root, &told),
+        }
+    }
+
+    /// Crawls the whole root of this number and text, which this list shows, and keeps when it began. There is no answer if
+    /// another pass over the root was published meanwhile.
     fn crawl_whole<N: Named, R: Wait + Drop>(
         &mut self,
         shared: &SharedPublisher<N, R>,
@@ -71,25 +82,32 @@ impl<T: Tree + Drop, S: Seconds + Drop> Lane<T, S> {
         raised: Raised,
         number: u64,
         root: &str,
-        told: Told<N>,
-    ) -> Result<Option<Told<N>>, CrawlFault>
-        requires shown { number_of root.now told ≡ Some number }
-        ensures crawled { CrawledAll root.now self.old.lister result self.new.lister }
-        ensures kept { KeepsRaised (λ _ count. count ≡ raised.count) root.now self.old.lister
-            self.old.last result self.new.last }
+        told: &Told<N>,
+    ) -> Result<Option<Crawl<N>>, CrawlFault>
+        requires shown { number_of root.now told.now ≡ Some number }
+        ensures crawled { TriesOnce root.now self.old.lister result self.new.lister }
+        ensures answer { IfOk result (λ it. IfSome it (IsAnswer (N.published N.book) root.now)) }
+        ensures since { IfOk result (λ it. IfSome it (BeganSince raised.count)) }
     {
-        match self.crawl_at(shared, rt, number, root, told, None)? {
-            Some((number, told)) => {
-                self.last = Some(LastCrawl { number, raised });
-                Ok(Some(told))
-            }
-            None => Ok(None),
+        let listed = self.lister.list_whole(raised, told.table(), number, root)?;
+        let crawl = shared.publish(rt, root, told, listed)?;
+        self.keep(&crawl);
+        Ok(crawl)
+    }
+
+    /// Keeps when this crawl began, if it has an answer.
+    fn keep<N: Named>(&mut self, crawl: &Option<Crawl<N>>)
+        ensures { self.new.lister ≡ self.old.lister }
+    {
+        if let Some(crawl) = crawl {
+            self.last = crawl.began();
         }
     }
 
-    /// Crawls the root of this text by a glance that looks so far, and returns whether it did. It does nothing if the
-    /// root is not shown, if the glance would look into no directory, or if memory runs out for finding the directories.
-    /// The last crawl stays the one that serves clients.
+    /// Crawls the root of this text by a glance that looks so far, and returns whether it did. It does nothing if the root
+    /// is not shown, if the glance would look into no directory, or if memory runs out for finding the directories. It
+    /// publishes nothing if another pass over the root was published meanwhile. The last crawl stays the one that serves
+    /// clients.
     pub(crate) fn glance<N: Named, R: Wait + Drop>(
         &mut self,
         shared: &SharedPublisher<N, R>,
@@ -109,10 +127,27 @@ impl<T: Tree + Drop, S: Seconds + Drop> Lane<T, S> {
         let Ok(Some(recent)) = Recent::of(&view, reach) else {
             return Ok(false);
         };
-        match self.crawl_at(shared, rt, number, root, told, Some(&recent))? {
-            Some(_) => Ok(true),
-            None => Ok(false),
-        }
+        self.glance_at(shared, rt, number, root, &told, &recent)
+    }
+
+    /// Crawls the root of this number and text, which this list shows, by a glance into these directories.
+    fn glance_at<N: Named, R: Wait + Drop>(
+        &mut self,
+        shared: &SharedPublisher<N, R>,
+        rt: &R,
+        number: u64,
+        root: &str,
+        told: &Told<N>,
+        recent: &Recent<'_>,
+    ) -> Result<bool, CrawlFault>
+        requires shown { number_of root.now told.now ≡ Some number }
+        ensures glanced { GlancedBetween root.now self.old.lister result self.new.lister }
+        ensures kept { self.new.last ≡ self.old.last }
+    {
+        let relisted = self
+            .lister
+            .list_again(told.table(), number, root, Some(recent))?;
+        shared.publish_glance(rt, root, told, number, relisted)
     }
 
     /// Finds the root of this text, or lists it and starts it, and returns the list of events.
@@ -130,46 +165,5 @@ impl<T: Tree + Drop, S: Seconds + Drop> Lane<T, S> {
         }
         let pass = self.lister.list(root)?;
         shared.start(rt, root, pass)
-    }
-
-    /// Crawls the root of this number and text, which this list shows. If there are recent directories, it crawls by a
-    /// glance. If another pass was published meanwhile, it lists the root once more.
-    fn crawl_at<N: Named, R: Wait + Drop>(
-        &mut self,
-        shared: &SharedPublisher<N, R>,
-        rt: &R,
-        number: u64,
-        root: &str,
-        told: Told<N>,
-        recent: Option<&Recent<'_>>,
-    ) -> Result<Option<(u64, Told<N>)>, CrawlFault>
-        requires shown { number_of root.now told ≡ Some number }
-        ensures crawled { CrawledBetween root.now self.old.lister result self.new.lister }
-        ensures whole { IfNone recent.entry (OnOk result (IsTrue (self.new.lister).whole)) }
-        ensures kept { self.new.last ≡ self.old.last }
-    {
-        match self.lister.list_again(told.table(), number, root, recent)? {
-            Relisted::Still => Ok(Some((number, told))),
-            Relisted::Pass(pass) => shared.publish(rt, root, pass),
-            Relisted::Patched(patches, second) => {
-                let after = shared.publish_patches(rt, root, &told, number, &patches, second)?;
-                if let Some(after) = after {
-                    return Ok(Some((number, after)));
-                }
-                let pass = self.lister.list(root)?;
-                shared.publish(rt, root, pass)
-            }
-        }
-    }
-
-    /// Whether the last crawl was of the root of this number, and began when somebody asked, or later.
-    fn has_begun_since(&self, asked: Asked, number: u64) -> bool
-        ensures { result ≡ option_map_or (λ begun. nat_le asked.count begun)
-            (begun_of self.now.last number) false }
-    {
-        match &self.last {
-            Some(last) if last.number == number => last.raised.is_since(asked),
-            _ => false,
-        }
     }
 }

@@ -5,11 +5,11 @@ use crate::lane::Lane;
 use crate::lister::Lister;
 use crate::occupants::Occupants;
 use crate::seconds::Seconds;
-use crate::tree::Tree;
 use std::alloc::{AllocError, Global};
 use std::sync::atomic::{AtomicU64, Ordering};
 use std::sync::{Arc, Mutex, Wait};
 use std::time::Duration;
+use wq_patch::Tree;
 
 /// The parts of a lane.
 #[derive(Drop)]

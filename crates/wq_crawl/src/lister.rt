@@ -4,16 +4,16 @@ ghost use Rattle.std.specs.List.{list_all};
 ghost use Rattle.wq_record.specs.Seen.{is_lawful_row};
 ghost use Rattle.wq_live.specs.declared.event.RootEvent.{RootEvent};
 ghost use Rattle.wq_live.specs.Table.{IsTableOf};
-ghost use Rattle.wq_crawl.specs.Tree.{AreLawful, IsCounted, IsFew, IsFit, Lists, rows_given_again, rows_listed};
+ghost use Rattle.wq_patch.specs.Tree.{AreLawful, IsCounted, IsFew, IsFit, Lists, rows_given_again, rows_listed};
 ghost use Rattle.wq_crawl.specs.Crawl.{IsNoPassOver, IsPassOver, IsRelisted, ListsAgain, crawler_at};
 
+use crate::begun::Raised;
 use crate::fault::{CrawlFault, no_pass, not_listed};
-use crate::recent::Recent;
 use crate::relisted::Relisted;
 use crate::seconds::Seconds;
-use crate::tree::{Listing, Tree, TreeFault};
 use std::marker::Model;
 use wq_live::RootTable;
+use wq_patch::{Listing, Recent, Tree, TreeFault};
 use wq_view::{Pass, View};
 
 /// Lists roots. It has a tree and a clock, which a listing uses one after the other. Contracts see the state that both
@@ -110,6 +110,35 @@ impl<T: Tree + Drop, S: Seconds + Drop> Lister<T, S> {
         }
     }
 
+    /// The listing of the whole root of this number and text, as the tree shows it now, beside its view in this table. The
+    /// crawl was counted before.
+    pub(crate) fn list_whole(
+        &mut self,
+        raised: Raised,
+        table: &RootTable,
+        number: u64,
+        root: &str,
+    ) -> Result<Listed, CrawlFault>
+        ensures listed { (events : List RootEvent) → IsTableOf events table.now
+            → MatchResult result
+            (λ listed. IsRelisted number root.now (crawler_at events self.old) listed.relisted
+            (crawler_at events self.new))
+            (λ fault. IsNoPassOver root.now (crawler_at events self.old) fault
+            (crawler_at events self.new)) }
+        ensures whole { OnOk result (IsTrue (self.new).whole) }
+        ensures number { IfOk result (λ listed. listed.number ≡ number) }
+        ensures count { IfOk result (λ listed. listed.raised.count ≡ raised.count) }
+    {
+        match self.list_again(table, number, root, None) {
+            Ok(relisted) => Ok(Listed {
+                relisted,
+                number,
+                raised,
+            }),
+            Err(fault) => Err(fault),
+        }
+    }
+
     /// The listing of the root of this number and text, as the tree shows it now.
     fn listing(
         &mut self,
@@ -137,6 +166,35 @@ impl<T: Tree + Drop, S: Seconds + Drop> Lister<T, S> {
                 Err(fault) => Err(fault),
             },
         }
+    }
+}
+
+/// A listing of a whole root that has a view. Only [`Lister::list_whole`] makes one.
+#[derive(Drop)]
+pub(crate) struct Listed {
+    relisted: Relisted,
+    /// The number of the root.
+    number: u64,
+    /// When it began.
+    raised: Raised,
+}
+
+impl Listed {
+    /// What the listing came to, the number of the root, and how many crawls began before.
+    pub(crate) fn parts(self) -> (Relisted, u64, u64)
+        ensures relisted { result.0 ≡ self.relisted }
+        ensures number { result.1 ≡ self.number }
+        ensures count { result.2 ≡ self.raised.count }
+    {
+        let count = self.raised.count();
+        (self.relisted, self.number, count)
+    }
+
+    /// The number of the root.
+    pub(crate) fn number(&self) -> u64
+        ensures { result ≡ self.now.number }
+    {
+        self.number
     }
 }
 

@@ -2,14 +2,16 @@
 ghost use Rattle.std.specs.Prelude.{◌≡◌};
 
 use crate::caller::Caller;
+use crate::crawl::Crawl;
 use crate::fault::CrawlFault;
+use crate::found_root::FoundRoot;
 use crate::roots::Roots;
 use crate::seconds::Seconds;
 use crate::shared_crawler::SharedCrawler;
-use crate::tree::Tree;
 use std::sync::{Arc, Wait};
 use wq_base::Workers;
 use wq_live::{Named, Told};
+use wq_patch::Tree;
 
 /// The roots of one session, over a crawler that threads share. They show no crawler. The session hears of each call
 /// before it.
@@ -72,14 +74,14 @@ where
         self.crawler.watch(&self.rt, root)
     }
 
-    fn crawl(&mut self, root: &str) -> Result<Option<Told<N>>, CrawlFault> {
+    fn crawl(&mut self, root: &str) -> Result<Crawl<N>, CrawlFault> {
         self.caller.has_read();
         self.crawler.crawl(&self.rt, root)
     }
 
-    fn unwatch(&mut self, number: u64) -> Result<Told<N>, CrawlFault> {
+    fn unwatch(&mut self, root: FoundRoot) -> Result<Told<N>, CrawlFault> {
         self.caller.has_read();
-        self.crawler.unwatch(&self.rt, number)
+        self.crawler.unwatch(&self.rt, root)
     }
 
     fn workers(&self) -> u32 {

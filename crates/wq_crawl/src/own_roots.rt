@@ -1,12 +1,14 @@
 //! Roots that one session has for itself: a crawler.
 
+use crate::crawl::Crawl;
 use crate::crawler::Crawler;
 use crate::fault::CrawlFault;
+use crate::found_root::FoundRoot;
 use crate::roots::Roots;
 use crate::seconds::Seconds;
-use crate::tree::Tree;
 use std::sync::Wait;
 use wq_live::{Named, Told};
+use wq_patch::Tree;
 
 /// A crawler that one session has for itself. Its roots show it.
 impl<N: Named, R: Wait + Drop, T: Tree + Drop, S: Seconds + Drop> Roots<N> for Crawler<N, R, T, S> {
@@ -18,12 +20,12 @@ impl<N: Named, R: Wait + Drop, T: Tree + Drop, S: Seconds + Drop> Roots<N> for C
         self.watch(root)
     }
 
-    fn crawl(&mut self, root: &str) -> Result<Option<Told<N>>, CrawlFault> {
+    fn crawl(&mut self, root: &str) -> Result<Crawl<N>, CrawlFault> {
         self.crawl(root)
     }
 
-    fn unwatch(&mut self, number: u64) -> Result<Told<N>, CrawlFault> {
-        self.unwatch(number)
+    fn unwatch(&mut self, root: FoundRoot) -> Result<Told<N>, CrawlFault> {
+        self.unwatch(root.number())
     }
 
     fn workers(&self) -> u32 {

@@ -1,9 +1,13 @@
 //! Crawling, watching and unwatching roots for a session.
+ghost use Rattle.std.specs.Prelude.{IfOk};
 ghost use Rattle.wq_base.specs.Limit.{AreFew};
+ghost use Rattle.wq_crawl.specs.Answer.{IsAnswer, list_of};
 ghost use Rattle.wq_crawl.specs.Crawl.{tells};
 ghost use Rattle.wq_crawl.specs.Roots.{RootsGive, ending, passing, showing};
 
+use crate::crawl::Crawl;
 use crate::fault::CrawlFault;
+use crate::found_root::FoundRoot;
 use wq_live::{Named, Told};
 
 /// Crawls, watches and unwatches roots, and publishes the events that follow.
@@ -22,13 +26,16 @@ pub trait Roots<N: Named> {
             (crawler self.new) };
 
     /// Crawls the root of this text, publishes the pass, and returns the list of events. There is none if the root is
-    /// not shown.
-    fn crawl(&mut self, root: &str) -> Result<Option<Told<N>>, CrawlFault>
-        ensures { RootsGive (crawler self.old) (passing root.now) result (crawler self.new) };
+    /// not shown. Only a publisher makes the answer.
+    fn crawl(&mut self, root: &str) -> Result<Crawl<N>, CrawlFault>
+        ensures given { RootsGive (crawler self.old) (passing root.now) (list_of result)
+            (crawler self.new) }
+        ensures answer { IfOk result (IsAnswer (N.published N.book) root.now) };
 
-    /// Publishes the end of the root of this number, if it is shown, and tells the list of events.
-    fn unwatch(&mut self, number: u64) -> Result<Told<N>, CrawlFault>
-        ensures { RootsGive (crawler self.old) (ending number) (tells result) (crawler self.new) };
+    /// Publishes the end of a root that a look found, if it is shown, and tells the list of events.
+    fn unwatch(&mut self, root: FoundRoot) -> Result<Told<N>, CrawlFault>
+        ensures { RootsGive (crawler self.old) (ending root.instance.root) (tells result)
+            (crawler self.new) };
 
     /// How many threads may look for the files of a query, 1 to 16.
     fn workers(&self) -> u32

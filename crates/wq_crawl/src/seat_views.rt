@@ -1,17 +1,18 @@
 //! The views of a session that is served: it asks the roots for what an ask needs, and looks at the published table from
 //! its seat.
-ghost use Rattle.std.specs.Prelude.{◌≡◌, Ok, Some, IfErr, IfOk, Option, option_map};
+ghost use Rattle.std.specs.Prelude.{◌≡◌, Ok, Some, IfErr, IfOk, option_map};
 ghost use Rattle.wq_clock.specs.Instance.{instance_data};
-ghost use Rattle.wq_crawl.specs.Roots.{RootsGive, showing};
+ghost use Rattle.wq_crawl.specs.Roots.{RootsGive, passing, showing};
 ghost use Rattle.wq_crawl.specs.Basis.{basis_of};
 ghost use Rattle.wq_crawl.specs.Meeting.{EndsAtEnd, IsMet, LearnsAndSees, SeesRoot, SeesNumber};
 ghost use Rattle.wq_crawl.specs.Ready.{Learns, known};
 ghost use Rattle.wq_crawl.specs.Need.{unwatch, need_data};
-ghost use Rattle.wq_crawl.specs.Run.{ShowsAt};
+ghost use Rattle.wq_crawl.specs.Run.{ShowsAt, found_data};
 ghost use Rattle.wq_crawl.specs.At.{AtData};
 ghost use Rattle.wq_crawl.specs.Views.{root_at_data};
 
 use crate::fault::CrawlFault;
+use crate::found_root::FoundRoot;
 use crate::need::Need;
 use crate::roots::Roots;
 use crate::views::{RootAt, Views};
@@ -65,7 +66,7 @@ fn meet<N: Named, R: Roots<N>>(
         Need::None => (seat, Ok(None)),
         Need::Look(root) => look_at(run, root, seat),
         Need::Crawl(root) => {
-            let told = roots.crawl(root);
+            let told = crawl(roots, root);
             learn_and_look(run, root, seat, told)
         }
         Need::Watch(root) => {
@@ -73,6 +74,16 @@ fn meet<N: Named, R: Roots<N>>(
             learn_and_look(run, root, seat, told)
         }
         Need::Unwatch(root) => unwatch(run, root, seat, roots),
+    }
+}
+
+/// Crawls a root.
+fn crawl<N: Named, R: Roots<N>>(roots: &mut R, root: &str) -> Result<Option<Told<N>>, CrawlFault>
+    ensures { RootsGive (R.crawler roots.old) (passing root.now) result (R.crawler roots.new) }
+{
+    match roots.crawl(root) {
+        Ok(crawl) => Ok(crawl.told()),
+        Err(fault) => Err(fault),
     }
 }
 
@@ -138,11 +149,12 @@ fn unwatch<N: Named, R: Roots<N>>(
     ensures { IsMet (basis_of run (N.published N.book) (N.refused N.book)) (unwatch root.now)
         (known (R.crawler roots.old) seat) result.1 (known (R.crawler roots.new) result.0) }
 {
-    let (seat, instance) = number_for(run, root, seat);
-    match instance {
+    let (seat, shown) = root_for(run, root, seat);
+    match shown {
         None => (seat, Ok(None)),
-        Some(instance) => {
-            let told = roots.unwatch(instance.root);
+        Some(shown) => {
+            let instance = shown.instance();
+            let told = roots.unwatch(shown);
             at_end(seat, instance, told)
         }
     }
@@ -187,33 +199,25 @@ fn share_for<N: Named>(run: Run, root: &str, look: &Look<N>) -> Result<Option<Ro
         (λ at. ShowsAt run root.now look.now (option_map root_at_data at)) }
     ensures short { IfErr result (λ _. (at : AtData) × ShowsAt run root.now look.now (Some at)) }
 {
-    match number_of(run, root, look) {
-        Some(instance) => RootAt::numbered(run, instance.root, look),
+    match FoundRoot::seen(run, root, look) {
+        Some(shown) => {
+            let instance = shown.instance();
+            RootAt::numbered(run, instance.root, look)
+        }
         None => Ok(None),
     }
 }
 
-/// Looks for the number of the root of this text.
-fn number_for<N: Named>(run: Run, root: &str, seat: Seat<N>) -> (Seat<N>, Option<Instance>)
+/// Looks for the root of this text.
+fn root_for<N: Named>(run: Run, root: &str, seat: Seat<N>) -> (Seat<N>, Option<FoundRoot>)
     ensures { SeesNumber (basis_of run (N.published N.book) (N.refused N.book)) root.now
-        seat (option_map instance_data result.1) result.0 }
+        seat (option_map found_data result.1) result.0 }
 {
     match seat.look() {
         Ok(look) => {
-            let instance = number_of(run, root, &look);
-            (look.leave(), instance)
+            let shown = FoundRoot::seen(run, root, &look);
+            (look.leave(), shown)
         }
         Err(blind) => (blind.seat(), None),
-    }
-}
-
-/// The number of the root of this text, as a look shows it, if it does.
-fn number_of<N: Named>(run: Run, root: &str, look: &Look<N>) -> Option<Instance>
-    ensures { (at : Option AtData) × ShowsAt run root.now look.now at
-        × (option_map instance_data result ≡ option_map (λ at. at.instance) at) }
-{
-    match look.root(root) {
-        Some((number, _)) => Some(run.instance(number)),
-        None => None,
     }
 }

@@ -5,7 +5,7 @@
 /// The source may show the second that it gave last, and the number of seconds that it gave.
 pub trait Seconds {
     ghost use Rattle.std.specs.Prelude.{ℕ, ℤ, Option, None};
-    ghost use Rattle.wq_crawl.specs.Device.{Gave};
+    ghost use Rattle.wq_patch.specs.Device.{Gave};
 
     // The number of seconds that it gave so far, and the last of them, if the source shows these.
     ghost told: { Self → Option (ℕ × ℤ) } = { λ _. None };

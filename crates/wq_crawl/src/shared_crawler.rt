@@ -1,21 +1,23 @@
 //! A crawler that threads share. Crawls of different roots go on at the same time. Those of one root come one after the
 //! other, and the list of one also serves those that asked before it began.
-ghost use Rattle.std.specs.Prelude.{◌≡◌, None};
+ghost use Rattle.std.specs.Prelude.{◌≡◌, IfOk, None};
+ghost use Rattle.wq_crawl.specs.Answer.{BeganSince, IsAnswer, list_of};
 ghost use Rattle.wq_crawl.specs.Crawl.{tells};
-ghost use Rattle.wq_crawl.specs.Roots.{GlanceAt, RootsGive, SayIfShown, ending, passing, showing};
+ghost use Rattle.wq_crawl.specs.Roots.{GlanceAt, RootsGive, ending, passing, showing};
 
-use crate::begun::{Asked, Begun, Counts};
+use crate::begun::{Asked, Begun};
+use crate::crawl::Crawl;
 use crate::fault::CrawlFault;
+use crate::found_root::FoundRoot;
 use crate::lane::Lane;
 use crate::lanes::{LaneParts, Lanes};
-use crate::recent::Reach;
 use crate::seconds::Seconds;
 use crate::shared_publisher::SharedPublisher;
-use crate::tree::Tree;
 use std::alloc::{AllocError, Global};
 use std::sync::{Mutex, Wait};
 use std::time::{Clock, Duration};
 use wq_live::{Named, Publisher, Told};
+use wq_patch::{Reach, Tree};
 
 /// A crawler that threads share.
 #[derive(Drop)]
@@ -45,11 +47,12 @@ impl<N: Named, R: Wait + Drop, T: Tree + Drop, S: Seconds + Drop> SharedCrawler<
     /// for nobody gives way to it.
     ///
     /// If another thread crawled the root meanwhile, and began after this call did, the call returns the present list.
-    pub fn crawl(&self, rt: &R, root: &str) -> Result<Option<Told<N>>, CrawlFault>
-        ensures { RootsGive None (passing root.now) result None }
+    pub fn crawl(&self, rt: &R, root: &str) -> Result<Crawl<N>, CrawlFault>
+        ensures given { RootsGive None (passing root.now) (list_of result) None }
+        ensures answer { IfOk result (IsAnswer (N.published N.book) root.now) }
     {
         // The thread reads the count before it waits for the lane.
-        self.crawl_for_client(rt, self.begun.read(), root)
+        self.crawl_soon(rt, self.begun.read(), root)
     }
 
     /// This moment, for [`SharedCrawler::crawl_since`].
@@ -57,41 +60,33 @@ impl<N: Named, R: Wait + Drop, T: Tree + Drop, S: Seconds + Drop> SharedCrawler<
         self.begun.read()
     }
 
-    /// Crawls the root of this text for nobody who waits, and says whether it is shown. A crawl that began after somebody
+    /// Crawls the root of this text for nobody who waits, and returns the list of events. A crawl that began after somebody
     /// asked at an earlier moment serves too.
-    pub fn crawl_since(&self, rt: &R, asked: Asked, root: &str) -> Result<bool, CrawlFault>
-        ensures { SayIfShown root.now result }
+    pub fn crawl_since(&self, rt: &R, asked: Asked, root: &str) -> Result<Crawl<N>, CrawlFault>
+        ensures given { RootsGive None (passing root.now) (list_of result) None }
+        ensures answer { IfOk result (IsAnswer (N.published N.book) root.now) }
+        ensures since { IfOk result (BeganSince asked.count) }
     {
         let place = self.lanes.come(rt, root);
         let at = self.lanes.at(place);
-        let told = crawl_in(&self.begun, &self.shared, &at.lane, rt, asked, root);
+        let crawl = crawl_in(&self.begun, &self.shared, &at.lane, rt, asked, root);
         self.lanes.go(rt, place);
-        Ok(told?.is_some())
+        crawl
     }
 
     /// Crawls the root of this text as [`SharedCrawler::crawl_since`] does, and as soon as for a client.
-    pub fn crawl_soon(&self, rt: &R, asked: Asked, root: &str) -> Result<bool, CrawlFault>
-        ensures { SayIfShown root.now result }
-    {
-        Ok(self.crawl_for_client(rt, asked, root)?.is_some())
-    }
-
-    /// Crawls the root of this text for a client that asked at this moment.
-    fn crawl_for_client(
-        &self,
-        rt: &R,
-        asked: Asked,
-        root: &str,
-    ) -> Result<Option<Told<N>>, CrawlFault>
-        ensures { RootsGive None (passing root.now) result None }
+    pub fn crawl_soon(&self, rt: &R, asked: Asked, root: &str) -> Result<Crawl<N>, CrawlFault>
+        ensures given { RootsGive None (passing root.now) (list_of result) None }
+        ensures answer { IfOk result (IsAnswer (N.published N.book) root.now) }
+        ensures since { IfOk result (BeganSince asked.count) }
     {
         let place = self.lanes.come(rt, root);
         let at = self.lanes.at(place);
         at.callers.enter();
-        let told = crawl_in(&self.begun, &self.shared, &at.lane, rt, asked, root);
+        let crawl = crawl_in(&self.begun, &self.shared, &at.lane, rt, asked, root);
         at.callers.leave(rt);
         self.lanes.go(rt, place);
-        told
+        crawl
     }
 
     /// Crawls the root of this text by a glance that looks so far, and returns whether it did. It does nothing if a client
@@ -133,12 +128,12 @@ impl<N: Named, R: Wait + Drop, T: Tree + Drop, S: Seconds + Drop> SharedCrawler<
         told
     }
 
-    /// Publishes the end of the root of this number, if it is shown, and returns the list of events. It waits for no
+    /// Publishes the end of a root that a look found, if it is shown, and returns the list of events. It waits for no
     /// crawl.
-    pub fn unwatch(&self, rt: &R, number: u64) -> Result<Told<N>, CrawlFault>
-        ensures { RootsGive None (ending number) (tells result) None }
+    pub fn unwatch(&self, rt: &R, root: FoundRoot) -> Result<Told<N>, CrawlFault>
+        ensures { RootsGive None (ending root.instance.root) (tells result) None }
     {
-        self.shared.end(rt, number)
+        self.shared.end(rt, root)
     }
 
     /// Frees the views that only the table before the last one still holds.
@@ -169,22 +164,22 @@ where
 }
 
 /// Crawls a root for a thread that asked at this moment, in a lane that it waits for.
-fn crawl_in<C, N, R, T, S>(
-    begun: &C,
+fn crawl_in<N, R, T, S>(
+    begun: &Begun,
     shared: &SharedPublisher<N, R>,
     lane: &Mutex<Lane<T, S>>,
     rt: &R,
     asked: Asked,
     root: &str,
-) -> Result<Option<Told<N>>, CrawlFault>
+) -> Result<Crawl<N>, CrawlFault>
 where
-    C: Counts,
     N: Named,
     R: Wait + Drop,
     T: Tree + Drop,
     S: Seconds + Drop,
-    requires asked { C.read asked.count }
-    ensures { RootsGive None (passing root.now) result None }
+    ensures given { RootsGive None (passing root.now) (list_of result) None }
+    ensures answer { IfOk result (IsAnswer (N.published N.book) root.now) }
+    ensures since { IfOk result (BeganSince asked.count) }
 {
     lane.lock(rt).crawl(begun, shared, rt, asked, root)
 }

@@ -1,18 +1,21 @@
 //! A publisher that threads share. Each call has it for a short time: no call lists a root.
-ghost use Rattle.std.specs.Prelude.{◌≡◌, ℕ, IfSome, IsTrue, List, MatchOption, MatchResult, None, Some};
+ghost use Rattle.std.specs.Prelude.{◌≡◌, ℕ, IfErr, IfOk, IfSome, IsTrue, List, MatchOption, MatchResult, None, Some};
 ghost use Rattle.wq_live.specs.declared.event.RootEvent.{RootEvent};
 ghost use Rattle.wq_live.specs.Event.{number_of, passes_over};
-ghost use Rattle.wq_live.specs.Patched.{MakePass, pass_by};
-ghost use Rattle.wq_record.specs.Seen.{is_count};
-ghost use Rattle.wq_view.specs.View.{IsViewOf, ViewData};
-ghost use Rattle.wq_crawl.specs.Publish.{EndsRoot, IsNotTakenIn, Passes};
-ghost use Rattle.wq_crawl.specs.Shared.{FindsOrRefuses, StartsRoot};
+ghost use Rattle.wq_crawl.specs.Answer.{BeganSince, IsAnswer};
+ghost use Rattle.wq_crawl.specs.Crawl.{IsRelisted, IsTakable, ListerData, crawler_at};
+ghost use Rattle.wq_crawl.specs.Publish.{EndsRoot};
+ghost use Rattle.wq_crawl.specs.Shared.{FindsOrRefuses, Publishes, PublishesGlance, StartsRoot};
 
+use crate::crawl::{Began, Crawl};
 use crate::fault::CrawlFault;
+use crate::found_root::FoundRoot;
+use crate::lister::Listed;
 use crate::place::{Place, place_for};
+use crate::relisted::{Relisted, told_by};
 use std::sync::{Mutex, Wait};
 use wq_live::{Named, Publisher, StartFault, Told};
-use wq_view::{Pass, Patch, ViewFault};
+use wq_view::Pass;
 
 /// A publisher that threads share. Contracts speak of the list of events that it has during a call.
 #[derive(Drop)]
@@ -69,59 +72,97 @@ impl<N: Named, R: Wait + Drop> SharedPublisher<N, R> {
         }
     }
 
-    /// Publishes a pass over the root of this text, if it is shown, and returns its number and the list.
+    /// The answer that the root of this text is not shown, if it is not.
+    pub(crate) fn gone(&self, rt: &R, root: &str) -> Option<Crawl<N>>
+        ensures none { IfSome result (λ crawl. crawl ≡ None) }
+        ensures answer { IfSome result (IsAnswer (N.published N.book) root.now) }
+    {
+        let publisher = self.publisher.lock(rt);
+        match publisher.find(root) {
+            Some(_) => None,
+            None => Some(Crawl::gone(&publisher, root)),
+        }
+    }
+
+    /// The present list, which has what an earlier crawl found of the root of this text, if that is still the same root.
+    pub(crate) fn again(
+        &self,
+        rt: &R,
+        root: &str,
+        began: Began,
+    ) -> Result<Option<Crawl<N>>, CrawlFault>
+        ensures answer { IfOk result (λ it. IfSome it (IsAnswer (N.published N.book) root.now)) }
+        ensures began { IfOk result (λ it. IfSome it (λ crawl. (told : List RootEvent)
+            × (crawl ≡ Some (record {
+              told = told;
+              number = began.number;
+              count = began.count;
+            })))) }
+        ensures short { IfErr result (λ fault. (fault ≡ CrawlFault.NoMemory)
+            × (events : List RootEvent) × (number_of root.now events ≡ Some began.number)) }
+    {
+        let publisher = self.publisher.lock(rt);
+        if publisher.find(root) != Some(began.number()) {
+            return Ok(None);
+        }
+        match Crawl::present(&publisher, began) {
+            Ok(crawl) => Ok(Some(crawl)),
+            Err(fault) => Err(fault),
+        }
+    }
+
+    /// Publishes the listing of the root of this text beside its view in a list that was given out, and returns the answer.
+    /// There is none if another pass over the root was published since then, or if it has ended.
     pub(crate) fn publish(
         &self,
         rt: &R,
         root: &str,
-        pass: Pass,
-    ) -> Result<Option<(u64, Told<N>)>, CrawlFault>
-        ensures { (events : List RootEvent) × MatchResult result
-            (λ it. MatchOption it (number_of root.now events ≡ None)
-            (λ it. (number_of root.now events ≡ Some it.0) × Passes events it.0 pass it.1))
-            (λ fault. (number : ℕ) × (number_of root.now events ≡ Some number)
-            × IsNotTakenIn events number pass fault) }
+        told: &Told<N>,
+        listed: Listed,
+    ) -> Result<Option<Crawl<N>>, CrawlFault>
+        requires shown { number_of root.now told.now ≡ Some listed.number }
+        requires fit { IsTakable listed.number told.now listed.relisted }
+        // For every state of a lister that gave this listing:
+        ensures published { (before : ListerData) → (after : ListerData)
+            → IsRelisted listed.number root.now (crawler_at told.now before) listed.relisted
+            (crawler_at told.now after) → Publishes root.now before result after }
+        ensures answer { IfOk result (λ it. IfSome it (IsAnswer (N.published N.book) root.now)) }
+        ensures since { IfOk result (λ it. IfSome it (BeganSince listed.raised.count)) }
     {
         let mut publisher = self.publisher.lock(rt);
-        let Some(number) = publisher.find(root) else {
+        if !is_as_told(&publisher, root, told, listed.number()) {
             return Ok(None);
-        };
-        match publisher.publish(number, pass) {
-            Ok(told) => Ok(Some((number, told))),
-            Err(ViewFault::TicksSpent) => Err(CrawlFault::TicksSpent),
-            Err(ViewFault::NoMemory) => Err(CrawlFault::NoMemory),
+        }
+        match Crawl::published(&mut publisher, listed) {
+            Ok(crawl) => Ok(Some(crawl)),
+            Err(fault) => Err(fault),
         }
     }
 
-    /// Publishes a pass at this second over the root of this number and text, which differs by these patches from the
-    /// root's view by a list that was given out. There is none if the root is not as it was then.
-    pub(crate) fn publish_patches(
+    /// Publishes what a glance at the root of this number and text came to, beside its view in a list that was given out,
+    /// and returns whether it did. It does not if another pass over the root was published since then, or if it has ended.
+    pub(crate) fn publish_glance(
         &self,
         rt: &R,
         root: &str,
         told: &Told<N>,
         number: u64,
-        patches: &[Patch],
-        second: i64,
-    ) -> Result<Option<Told<N>>, CrawlFault>
-        requires fit { (view : ViewData) × IsViewOf (passes_over number told.now) view
-            × MakePass view.records patches.now }
-        requires second { IsTrue (is_count second) }
-        ensures { (view : ViewData) → IsViewOf (passes_over number told.now) view
-            → (events : List RootEvent) × MatchResult result
-            (λ it. IfSome it (λ after. (number_of root.now events ≡ Some number)
-            × Passes events number (pass_by view.records patches.now second) after))
-            (λ fault. (number_of root.now events ≡ Some number)
-            × IsNotTakenIn events number (pass_by view.records patches.now second) fault) }
+        relisted: Relisted,
+    ) -> Result<bool, CrawlFault>
+        requires shown { number_of root.now told.now ≡ Some number }
+        requires fit { IsTakable number told.now relisted }
+        // For every state of a lister that gave this listing:
+        ensures { (before : ListerData) → (after : ListerData)
+            → IsRelisted number root.now (crawler_at told.now before) relisted
+            (crawler_at told.now after) → PublishesGlance root.now before result after }
     {
         let mut publisher = self.publisher.lock(rt);
-        if publisher.find(root) != Some(number) || !publisher.is_as_told(told, number) {
-            return Ok(None);
+        if !is_as_told(&publisher, root, told, number) {
+            return Ok(false);
         }
-        match publisher.publish_patches(number, patches, second) {
-            Ok(told) => Ok(Some(told)),
-            Err(ViewFault::TicksSpent) => Err(CrawlFault::TicksSpent),
-            Err(ViewFault::NoMemory) => Err(CrawlFault::NoMemory),
+        match relisted.publish(&mut publisher, number) {
+            Ok(_) => Ok(true),
+            Err(fault) => Err(fault),
         }
     }
 
@@ -145,12 +186,13 @@ impl<N: Named, R: Wait + Drop> SharedPublisher<N, R> {
         }
     }
 
-    /// Publishes the end of the root of this number, if it is shown, and returns the list.
-    pub(crate) fn end(&self, rt: &R, number: u64) -> Result<Told<N>, CrawlFault>
+    /// Publishes the end of a root that a look found, if it is shown, and returns the list.
+    pub(crate) fn end(&self, rt: &R, root: FoundRoot) -> Result<Told<N>, CrawlFault>
         ensures { (events : List RootEvent) × MatchResult result
-            (λ told. EndsRoot events number told) (λ fault. fault ≡ CrawlFault.NoMemory) }
+            (λ told. EndsRoot events root.instance.root told)
+            (λ fault. fault ≡ CrawlFault.NoMemory) }
     {
-        match self.publisher.lock(rt).end(number) {
+        match self.publisher.lock(rt).end(root.number()) {
             Ok(told) => Ok(told),
             Err(_) => Err(CrawlFault::NoMemory),
         }
@@ -160,4 +202,18 @@ impl<N: Named, R: Wait + Drop> SharedPublisher<N, R> {
     pub(crate) fn let_go(&self, rt: &R) {
         self.publisher.lock(rt).let_go();
     }
+}
+
+/// Whether the root of this text is shown under this number, and no pass over it was published since a list was given out.
+fn is_as_told<N: Named, R: Wait + Drop>(
+    publisher: &Publisher<N, R>,
+    root: &str,
+    told: &Told<N>,
+    number: u64,
+) -> bool
+    ensures shown { IsTrue result → number_of root.now publisher.now ≡ Some number }
+    ensures same { IsTrue result
+        → passes_over number publisher.now ≡ passes_over number told.now }
+{
+    publisher.find(root) == Some(number) && publisher.is_as_told(told, number)
 }

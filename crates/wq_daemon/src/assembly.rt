@@ -2,15 +2,19 @@
 ghost use Rattle.std.specs.Prelude.{◌≡◌};
 
 use crate::lock_host::LockHost;
+use crate::lock_seats::LockSeats;
+use crate::operator::Operator;
+use crate::rounds::Rounds;
 use std::alloc::{AllocError, Global};
 use std::io;
-use std::sync::Arc;
+use std::sync::{Arc, Mutex};
 use std::time::Clock;
 use wq_base::Workers;
 use wq_clock::Run;
-use wq_crawl::{LaneParts, Seconds, Tree};
+use wq_crawl::{LaneParts, Seconds, SharedCrawler};
 use wq_launch::{Notices, Spawn};
-use wq_live::{Blank, Named};
+use wq_live::{Blank, Named, Publisher};
+use wq_patch::Tree;
 use wq_registry::Cache;
 use wq_server::{Listening, Pace, Runtime, ToldTree, run};
 use wq_session::SharedShelf;
@@ -64,28 +68,81 @@ where
     requires { blank.book ≡ N.book }
 {
     let publisher = blank.open::<N, R>(rt);
-    let notices = Arc::new(alloc, parts.notices)?;
-    let first = told_lane(rt, alloc, parts.first, &notices)?;
-    let mut more = Vec::with_capacity(alloc, parts.more.len())?;
-    for lane in parts.more {
-        more.push(told_lane(rt, alloc, lane, &notices)?)
-            .map_err(AllocError::from)?;
-    }
-    let cache = Cache::new(alloc, parts.run.start, parts.run.pid)?;
-    let shelf = SharedShelf::new(alloc, cache, parts.sockname);
-    let host = LockHost::new(
-        rt,
-        alloc,
-        parts.run,
-        publisher,
+    let Parts {
+        run: this,
         first,
         more,
-        shelf,
-        notices.clone()?,
-        parts.spawn,
-        parts.workers,
-    )?;
-    run(rt, alloc, listening, host, &notices, parts.pace)
+        notices,
+        spawn,
+        sockname,
+        pace,
+        workers,
+    } = parts;
+    let notices = Arc::new(alloc, notices)?;
+    let operator = Operator::new(rt, alloc, &sockname, &notices)?;
+    let shelf = shelf_of(alloc, this, sockname)?;
+    let mut publisher = publisher;
+    let rounds = Rounds::new(rt, alloc, this, publisher.seat()?, spawn)?;
+    let seats = LockSeats::new(rt, alloc, &mut publisher)?;
+    let crawler = crawler_of(rt, alloc, publisher, first, more, &notices)?;
+    let host = LockHost::new(
+        rt, alloc, this, seats, crawler, shelf, rounds, operator, workers,
+    );
+    run(rt, alloc, listening, host, &notices, pace)
+}
+
+/// An empty shelf of a server whose socket has this name.
+fn shelf_of(
+    alloc: Global,
+    run: Run,
+    sockname: String,
+) -> Result<Arc<Mutex<SharedShelf>>, AllocError> {
+    let cache = Cache::new(alloc, run.start, run.pid)?;
+    let shelf = SharedShelf::new(alloc, cache, sockname);
+    Ok(Arc::new(alloc, Mutex::new(shelf))?)
+}
+
+/// The crawler of a server, whose lanes tell the operator of their listings.
+fn crawler_of<N, R, T, S, O>(
+    rt: R,
+    alloc: Global,
+    publisher: Publisher<N, R>,
+    first: LaneParts<T, S>,
+    more: Vec<LaneParts<T, S>>,
+    notices: &Arc<O>,
+) -> Result<Arc<SharedCrawler<N, R, ToldTree<R, T, O>, S>>, AllocError>
+where
+    N: Named,
+    R: Runtime,
+    T: Tree + Drop,
+    S: Seconds + Drop,
+    O: Notices + Drop,
+{
+    let first = told_lane(rt, alloc, first, notices)?;
+    let more = told_lanes(rt, alloc, more, notices)?;
+    let crawler = SharedCrawler::new(alloc, publisher, first, more)?;
+    Ok(Arc::new(alloc, crawler)?)
+}
+
+/// The parts of lanes, whose trees tell the operator of their listings.
+fn told_lanes<R, T, S, O>(
+    rt: R,
+    alloc: Global,
+    lanes: Vec<LaneParts<T, S>>,
+    notices: &Arc<O>,
+) -> Result<Vec<LaneParts<ToldTree<R, T, O>, S>>, AllocError>
+where
+    R: Clock + Copy + Drop,
+    T: Tree + Drop,
+    S: Seconds + Drop,
+    O: Notices + Drop,
+{
+    let mut told = Vec::with_capacity(alloc, lanes.len())?;
+    for lane in lanes {
+        told.push(told_lane(rt, alloc, lane, notices)?)
+            .map_err(AllocError::from)?;
+    }
+    Ok(told)
 }
 
 /// The parts of a lane, whose tree tells the operator of its listings.

@@ -4,6 +4,9 @@
 mod assembly;
 mod failures;
 mod lock_host;
+mod lock_seats;
+mod operator;
+mod round_crawl;
 mod rounds;
 
 pub use assembly::{MORE_LANES, Parts, SEATS, serve_clients};

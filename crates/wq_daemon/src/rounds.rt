@@ -14,7 +14,6 @@ use wq_verify::StoredProgram;
 use wq_view::View;
 
 /// The parts for rounds of triggers. A round takes their locks while it holds the shelf, and never the other way round.
-#[derive(Drop)]
 pub(crate) struct Rounds<N, P, R>
 where
     N: Named,
@@ -131,6 +130,25 @@ where
             }
         }
         ahead
+    }
+}
+
+// They are freed by one call, wherever a function gives up.
+impl<N, P, R> Drop for Rounds<N, P, R>
+where
+    N: Named,
+    P: Spawn + Drop,
+    R: Wait + Copy + Drop,
+{
+    fn drop(self) {
+        let Rounds {
+            rt: _,
+            alloc: _,
+            run: _,
+            seat: _,
+            launcher: _,
+            runs: _,
+        } = self;
     }
 }
 

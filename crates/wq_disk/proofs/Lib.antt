@@ -3,3 +3,4 @@ pub mod Entries
 mod Distinct
 mod EachOnce
 mod Cuts
+mod Faults

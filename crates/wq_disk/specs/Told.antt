@@ -1,9 +1,10 @@
 -- The answers of a disk for paths: the stat of a file, and the names in a directory. A disk may
 -- answer otherwise for the same path later, so these are relations. No public document defines it.
-use Rattle.std.specs.Prelude.{◌≡◌, ◌⊎◌, ℕ, List, [], Option, Some, None}
+use Rattle.std.specs.Prelude.{◌≡◌, ◌⊎◌, ℕ, IsTrue, List, [], Option, Some, None}
 use Rattle.std.specs.Str.{IsUtf8}
-use Rattle.wq_crawl.specs.declared.tree.TreeFault.{TreeFault}
-use Rattle.wq_crawl.specs.declared.tree.TreeFault.TheVariants.{NoHandle, Unreadable}
+use Rattle.wq_patch.specs.Tree.{is_of_device}
+use Rattle.wq_patch.specs.declared.tree.TreeFault.{TreeFault}
+use Rattle.wq_patch.specs.declared.tree.TreeFault.TheVariants.{Unreadable}
 use Rattle.wq_record.specs.Seen.{Stat}
 use Rattle.wq_disk.specs.Entries.{AreEntriesOf}
 
@@ -17,13 +18,14 @@ GivesStat = List ℕ → Option Stat → Type 0
 abbrev pub Has : Type 1
 Has = List ℕ → Option (List (List ℕ)) → Type 0
 
--- a fault says that no file handle is left only if a call of the system failed so at some path
-abbrev pub IsHandleFault : (List ℕ → Type 0) → TreeFault → Type 0
-IsHandleFault fails fault = fault ≡ NoHandle → (path : List ℕ) × fails path
+-- whether a call of the system failed at a path with an error that means this fault of a whole walk
+abbrev pub Fails : Type 1
+Fails = TreeFault → List ℕ → Type 0
 
--- a fault that a disk may give below a root: it never says that the root cannot be read
-abbrev pub IsFailure : (List ℕ → Type 0) → TreeFault → Type 0
-IsFailure fails fault = (fault ≡ Unreadable → ⊥) × IsHandleFault fails fault
+-- a fault that a disk may give below a root: it is one of the device only if a call of the system
+-- failed so at some path
+abbrev pub IsFailure : Fails → TreeFault → Type 0
+IsFailure fails fault = IsTrue (is_of_device fault) → (path : List ℕ) × fails fault path
 
 -- a disk gives some names for the directory of a path, and these are the entries among them
 unfoldable pub GivesEntries : Has → List ℕ → List (List ℕ) → Type 0
@@ -45,8 +47,9 @@ IsUnreadable says has root = has root None ⊎ says root None
 abbrev pub HasStat : GivesStat → List ℕ → Type 0
 HasStat says path = (stat : Stat) × says path (Some stat)
 
--- a fault says that a root cannot be read only if it cannot be read, and that no file handle is
--- left only if a call of the system failed so
-abbrev pub IsRootFault : GivesStat → Has → (List ℕ → Type 0) → List ℕ → TreeFault → Type 0
+-- a fault is one of the device only if the root itself cannot be read, or a call of the system
+-- failed so at some path
+abbrev pub IsRootFault : GivesStat → Has → Fails → List ℕ → TreeFault → Type 0
 IsRootFault says has fails root fault =
-    (fault ≡ Unreadable → IsUnreadable says has root) × IsHandleFault fails fault
+    IsTrue (is_of_device fault)
+    → ((fault ≡ Unreadable) × IsUnreadable says has root) ⊎ ((path : List ℕ) × fails fault path)

@@ -1,12 +1,14 @@
 -- The meaning of an error of the system at one path for a walk. The numbers are those of errno(3)
--- on Linux. The rule that such an error ends the walk is this server's own.
-use Rattle.std.specs.Prelude.{◌≡◌, IsTrue, ℤ, pos, negsuc, Bool, false, ◌==◌, ◌||◌, if◌then◌else◌, Option, Some, None}
+-- on Linux. The rule which of them end the walk is this server's own.
+use Rattle.std.specs.Prelude.{◌≡◌, IsTrue, ℤ, pos, negsuc, Bool, false, true, ◌==◌, ◌||◌, if◌then◌else◌}
+use Rattle.std.specs.Prelude.{Option, Some, None}
 use Rattle.std.specs.IoError.{error_kind, raw_os_error}
 use Rattle.std.specs.declared.io.Error.{Error}
 use Rattle.std.specs.declared.io.ErrorKind.{ErrorKind}
 use Rattle.std.specs.declared.io.ErrorKind.TheVariants.{OutOfMemory}
-use Rattle.wq_crawl.specs.declared.tree.TreeFault.{TreeFault}
-use Rattle.wq_crawl.specs.declared.tree.TreeFault.TheVariants.{NoHandle, NoMemory, Unreadable}
+use Rattle.wq_patch.specs.Tree.{is_of_device}
+use Rattle.wq_patch.specs.declared.tree.TreeFault.{TreeFault}
+use Rattle.wq_patch.specs.declared.tree.TreeFault.TheVariants.{NoHandle, NoMemory, Unreadable}
 
 -- whether an error with this number says that no more files can be opened: in the machine, or in
 -- this process
@@ -15,24 +17,38 @@ is_of_handles (Some (pos number)) = (number == 23) || (number == 24)
 is_of_handles (Some (negsuc below)) = false
 is_of_handles None = false
 
--- the fault of a whole walk that an error of this kind means: memory ran out, or else none
-abbrev pub memory_fault : ErrorKind → Option TreeFault
-memory_fault OutOfMemory = Some NoMemory
-memory_fault kind = None
+-- whether an error with this number is about its path alone: EPERM, ENOENT, EACCES, ENOTDIR,
+-- ENAMETOOLONG or ELOOP. An error without a number is too, since the system was not asked
+abbrev pub is_of_path : Option ℤ → Bool
+is_of_path (Some (pos number)) =
+    (number == 1) || (number == 2) || (number == 13) || (number == 20) || (number == 36)
+    || (number == 40)
+is_of_path (Some (negsuc below)) = false
+is_of_path None = true
 
--- the fault of a whole walk that an error with this number and of this kind means; none if the
--- error is about its path alone
+-- whether an error of this kind says that memory ran out
+abbrev pub is_of_memory : ErrorKind → Bool
+is_of_memory OutOfMemory = true
+is_of_memory kind = false
+
+-- the fault of a whole walk that an error with this number and of this kind means: no file handle
+-- is left, memory ran out, or the file system failed; none if the error is about its path alone
 abbrev pub walk_fault : Option ℤ → ErrorKind → Option TreeFault
-walk_fault number kind = if is_of_handles number then Some NoHandle else memory_fault kind
+walk_fault number kind =
+    if is_of_handles number then Some NoHandle
+    else if is_of_memory kind then Some NoMemory
+    else if is_of_path number then None
+    else Some Unreadable
 
--- a call of the system failed because no file handle was left, which says nothing of its path
-abbrev pub HasFailed : Type 0
-HasFailed = (error : Error) × IsTrue (is_of_handles (raw_os_error error))
+-- a call of the system failed with an error that means this fault of the whole walk, and says
+-- nothing of its path
+abbrev pub HasFailed : TreeFault → Type 0
+HasFailed fault =
+    (error : Error) × (walk_fault (raw_os_error error) (error_kind error) ≡ Some fault)
 
--- a fault that a call of the system may mean: it never says that the root cannot be read, and says
--- that no file handle is left only if a call failed so
+-- a fault of a call: it is one of the device only if a call of the system failed so
 abbrev pub IsCallFault : TreeFault → Type 0
-IsCallFault fault = (fault ≡ Unreadable → ⊥) × (fault ≡ NoHandle → HasFailed)
+IsCallFault fault = IsTrue (is_of_device fault) → HasFailed fault
 
 -- a call of the system failed with an error that is about its path alone
 abbrev pub HasMissed : Type 0

@@ -11,14 +11,16 @@ use crate::stat::{Stat, stat_of};
 use crate::unseen::walk_fault;
 use std::env;
 use std::fs::Files;
+use std::os::unix::fs::MetadataExt;
 use std::sync::Arc;
 use std::sync::atomic::{AtomicBool, Ordering};
-use wq_crawl::TreeFault;
+use wq_patch::TreeFault;
 
-/// A source of directories and files. It fails if no answer can be had for any of them, because no file handle is left
-/// or memory ran out.
+/// A source of directories and files. It fails if no answer can be had, because no file handle is left, memory ran out,
+/// or the file system failed.
 pub trait Disk {
     ghost use Rattle.std.specs.Prelude.{ℕ, List, Option};
+    ghost use Rattle.wq_patch.specs.declared.tree.TreeFault.{TreeFault};
     ghost use Rattle.wq_record.specs.Seen.{Stat};
 
     // The stats that it may give for the file of a path: none if it cannot look at the file.
@@ -28,8 +30,9 @@ pub trait Disk {
     // directory.
     ghost has: { Self → List ℕ → Option (List (List ℕ)) → Type 0 };
 
-    // A call of the system failed at a path because no file handle was left. So no path has an answer.
-    ghost fails: { Self → List ℕ → Type 0 };
+    // A call of the system failed at a path with an error that means this fault of a whole walk: no file handle was left,
+    // or the file system failed. So the path has no answer.
+    ghost fails: { Self → TreeFault → List ℕ → Type 0 };
 
     /// The names of all entries in the directory of this path, each once, or nothing if it cannot be read. If a path
     /// ends in a slash, the disk may follow a link there. A path without that slash is not read if it ends in a link.
@@ -90,6 +93,16 @@ impl FileDisk {
         self.entered.clear();
         let _ = env::set_current_dir(&self.files, "/");
         self.is_taken.store(false, Ordering::SeqCst);
+    }
+
+    /// Whether a root is on another device than the directory above it, as the root of a mounted file system is. There is
+    /// no answer if one of them cannot be looked at.
+    pub fn has_own_device(&self, root: &str) -> Option<bool> {
+        let mut path = with_slash(self.files.alloc(), root).ok()?;
+        let here = self.files.metadata(path.as_str()).ok()?.dev();
+        path.push_str("..").ok()?;
+        let above = self.files.metadata(path.as_str()).ok()?.dev();
+        Some(here != above)
     }
 
     /// A path to the same file from the working directory. That of the root stays whole: a root that was deleted is

@@ -18,7 +18,7 @@ use std::fs::Files;
 use std::io::{Error, ErrorKind, Read};
 use std::str;
 use std::sync::ArcSlice;
-use wq_crawl::TreeFault;
+use wq_patch::TreeFault;
 use wq_view::{MAX_LISTING_ROWS, MAX_NAME};
 
 /// The number of bytes of names that one call asks for.

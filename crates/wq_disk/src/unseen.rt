@@ -2,28 +2,76 @@
 //! the calls.
 ghost use Rattle.std.specs.Prelude.{◌≡◌, IfSome};
 ghost use Rattle.std.specs.IoError.{error_kind, raw_os_error};
-ghost use Rattle.wq_disk.specs.Unseen.{IsCallFault, walk_fault};
+ghost use Rattle.wq_disk.specs.Unseen.{IsCallFault, is_of_handles, is_of_memory, is_of_path, walk_fault};
 
 use std::io::{Error, ErrorKind};
-use wq_crawl::TreeFault;
+use wq_patch::TreeFault;
 
-/// The machine can open no more files (Linux `errno(3)`).
+/// This process may not do so (Linux `errno(3)`, as all numbers here).
+const EPERM: i32 = 1;
+
+/// There is no such file.
+const ENOENT: i32 = 2;
+
+/// This process may not read or search it.
+const EACCES: i32 = 13;
+
+/// A file stands in the place of a directory.
+const ENOTDIR: i32 = 20;
+
+/// The machine can open no more files.
 const ENFILE: i32 = 23;
 
-/// The process can open no more files (Linux `errno(3)`).
+/// The process can open no more files.
 const EMFILE: i32 = 24;
+
+/// A name, or the whole path, is too long.
+const ENAMETOOLONG: i32 = 36;
+
+/// Links lead round in a circle.
+const ELOOP: i32 = 40;
 
 /// The fault of a whole walk that an error at one path means. There is none if the error is about the path alone: its
 /// file is deleted, of another kind or closed to this process.
 ///
-/// If no more files can be opened, or memory ran out, an error says nothing of its path.
+/// If no more files can be opened, memory ran out, or a file system failed, an error says nothing of its path.
 pub(crate) fn walk_fault(error: &Error) -> Option<TreeFault>
     ensures fault { result ≡ walk_fault (raw_os_error error.now) (error_kind error.now) }
     ensures call { IfSome result IsCallFault }
 {
-    match (error.raw_os_error(), error.kind()) {
-        (Some(ENFILE | EMFILE), _) => Some(TreeFault::NoHandle),
-        (_, ErrorKind::OutOfMemory) => Some(TreeFault::NoMemory),
-        _ => None,
+    let number = error.raw_os_error();
+    if is_of_handles(number) {
+        return Some(TreeFault::NoHandle);
     }
+    if is_of_memory(error.kind()) {
+        return Some(TreeFault::NoMemory);
+    }
+    if is_of_path(number) {
+        return None;
+    }
+    Some(TreeFault::Unreadable)
+}
+
+/// Whether an error with this number says that no more files can be opened.
+fn is_of_handles(number: Option<i32>) -> bool
+    ensures { result ≡ is_of_handles number }
+{
+    matches!(number, Some(ENFILE | EMFILE))
+}
+
+/// Whether an error of this kind says that memory ran out.
+fn is_of_memory(kind: ErrorKind) -> bool
+    ensures { result ≡ is_of_memory kind }
+{
+    matches!(kind, ErrorKind::OutOfMemory)
+}
+
+/// Whether an error with this number is about its path alone. One without a number is, since the system was not asked.
+fn is_of_path(number: Option<i32>) -> bool
+    ensures { result ≡ is_of_path number }
+{
+    matches!(
+        number,
+        None | Some(EPERM | ENOENT | EACCES | ENOTDIR | ENAMETOOLONG | ELOOP)
+    )
 }

@@ -1,9 +1,9 @@
 //! Whether a walk goes on to its end. Another module reads directories for it.
 ghost use Rattle.std.specs.Prelude.{◌≡◌, IfErr};
-ghost use Rattle.wq_crawl.specs.declared.tree.TreeFault.TheVariants.{GaveWay};
+ghost use Rattle.wq_patch.specs.declared.tree.TreeFault.TheVariants.{GaveWay};
 
 use std::sync::atomic::{AtomicU64, Ordering};
-use wq_crawl::TreeFault;
+use wq_patch::TreeFault;
 
 /// Whether a walk goes on to its end.
 #[derive(Clone, Copy)]

@@ -4,20 +4,22 @@ ghost use Rattle.wq_eval.specs.Piece.{AreRight, AreSound, is_kept, piece_of};
 
 use crate::piece::{Done, Pieces};
 use std::alloc::{AllocError, Global};
-use wq_base::Asker;
+use wq_base::{Asker, Unanswered};
 
 /// The positions that the program keeps of all pieces, in their order.
 ///
 /// The workers may have evaluated any pieces. This function evaluates a piece that is missing, takes
-/// one that is there twice only once, and drops one whose number no piece has. If the asker goes it
-/// evaluates none, as if memory had run out.
+/// one that is there twice only once, and drops one whose number no piece has.
+///
+/// # Errors
+/// Memory ran out, or the asker went before a missing piece was evaluated.
 #[tactic(auto, using(crate::proofs::Whole::next_piece, crate::proofs::Whole::all_pieces))]
 pub fn collect<A: Asker>(
     alloc: Global,
     asker: &A,
     pieces: &Pieces<'_>,
     lists: Vec<Vec<Done>>,
-) -> Result<Vec<u32>, AllocError>
+) -> Result<Vec<u32>, Unanswered>
     requires sound { AreSound pieces.now }
     requires right { All (λ list. AreRight pieces.now list.items) lists.items }
     ensures { IfOk result (λ kept. kept.items
@@ -81,7 +83,7 @@ fn append<A: Asker>(
     all: &[Done],
     at: usize,
     number: u32,
-) -> Result<(), AllocError>
+) -> Result<(), Unanswered>
     requires sound { AreSound pieces.now }
     requires right { AreRight pieces.now all.now }
     ensures { OnOk result (kept.new.items ≡ kept.old.items
@@ -90,8 +92,8 @@ fn append<A: Asker>(
     if let Some(done) = all.get(at)
         && done.number == number
     {
-        return kept.extend_from_slice(done.kept.as_slice());
+        return Ok(kept.extend_from_slice(done.kept.as_slice())?);
     }
     let done = pieces.evaluate(alloc, asker, number)?;
-    kept.extend_from_slice(done.kept.as_slice())
+    Ok(kept.extend_from_slice(done.kept.as_slice())?)
 }

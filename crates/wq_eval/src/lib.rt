@@ -13,8 +13,8 @@ mod piece;
 mod workers;
 
 pub use collector::collect;
-pub use evaluation::filter;
+pub use evaluation::{filter, filter_for};
 pub use gate::{Gate, OpenGate};
 pub use law::{answers_are_said, answers_are_within, runs_say, steps_are_said};
 pub use piece::{Done, Pieces, piece_of};
-pub use workers::filter_workers;
+pub use workers::{filter_workers, filter_workers_for};

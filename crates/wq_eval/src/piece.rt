@@ -2,9 +2,9 @@
 ghost use Rattle.std.specs.Prelude.{◌≡◌, ◌≤◌, ◌*◌, IfOk, length};
 ghost use Rattle.wq_eval.specs.Piece.{AreSound, IsRight, piece_of};
 
-use crate::evaluation::filter;
-use std::alloc::{AllocError, Global};
-use wq_base::Asker;
+use crate::evaluation::filter_for;
+use std::alloc::Global;
+use wq_base::{Asker, Unanswered};
 use wq_verify::Program;
 use wq_view::View;
 
@@ -50,13 +50,13 @@ impl<'a> Pieces<'a> {
         alloc: Global,
         asker: &A,
         number: u32,
-    ) -> Result<Done, AllocError>
+    ) -> Result<Done, Unanswered>
         requires { AreSound self.now }
         ensures number { IfOk result (λ done. done.number ≡ number) }
         ensures kept { IfOk result (IsRight self.now) }
     {
         let positions = self.positions_of(number);
-        let kept = filter(alloc, asker, self.program, self.view, positions)?;
+        let kept = filter_for(alloc, asker, self.program, self.view, positions)?;
         Ok(Done { number, kept })
     }
 }

@@ -14,14 +14,53 @@ use crate::piece::{Done, Pieces};
 use std::alloc::{AllocError, Global};
 use std::sync::atomic::{AtomicU64, Ordering};
 use std::thread::{Threads, join};
-use wq_base::{Asker, Stays};
+use wq_base::{Asker, Stays, Unanswered};
 use wq_verify::Program;
 use wq_view::View;
 
 /// The positions that [`filter`](crate::filter) gives, found by up to so many threads. Each takes
-/// pieces of so many positions until none is left, and calls the gate as it begins one. If the
-/// asker goes there are none, as if memory had run out.
-pub fn filter_workers<R: Threads, G: Gate + Sync, A: Asker>(
+/// pieces of so many positions until none is left, and calls the gate as it begins one.
+///
+/// # Errors
+/// Memory ran out.
+pub fn filter_workers<R: Threads, G: Gate + Sync>(
+    rt: &R,
+    alloc: Global,
+    gate: &G,
+    workers: u32,
+    piece: u32,
+    program: &Program,
+    view: &View,
+    positions: &[u32],
+) -> Result<Vec<u32>, AllocError>
+    requires workers { AreFew workers }
+    requires piece { 1 ≤ piece }
+    requires within { All (λ i. i < length view.now.records) positions.now }
+    requires count { length positions.now ≤ max_records }
+    ensures { IfOk result (λ kept. kept.items
+        ≡ filter (passes_at (says_yes program.now) view.now.records) positions.now) }
+{
+    match filter_workers_for(
+        rt,
+        alloc,
+        gate,
+        &Stays {},
+        workers,
+        piece,
+        program,
+        view,
+        positions,
+    ) {
+        Ok(kept) => Ok(kept),
+        Err(_) => Err(AllocError),
+    }
+}
+
+/// The same for an asker.
+///
+/// # Errors
+/// Memory ran out, or the asker went.
+pub fn filter_workers_for<R: Threads, G: Gate + Sync, A: Asker>(
     rt: &R,
     alloc: Global,
     gate: &G,
@@ -31,7 +70,7 @@ pub fn filter_workers<R: Threads, G: Gate + Sync, A: Asker>(
     program: &Program,
     view: &View,
     positions: &[u32],
-) -> Result<Vec<u32>, AllocError>
+) -> Result<Vec<u32>, Unanswered>
     requires workers { AreFew workers }
     requires piece { 1 ≤ piece }
     requires within { All (λ i. i < length view.now.records) positions.now }
@@ -105,11 +144,13 @@ fn work<G: Gate, A: Asker>(
             break;
         }
         gate.enter(number as u32);
-        let Ok(done) = pieces.evaluate(alloc, asker, number as u32) else {
-            if asker.is_gone() {
+        let done = match pieces.evaluate(alloc, asker, number as u32) {
+            Ok(done) => done,
+            Err(Unanswered::NoMemory) => break,
+            Err(Unanswered::Gone) => {
                 drawn.store(u64::from(count), Ordering::SeqCst);
+                break;
             }
-            break;
         };
         if all.push(done).is_err() {
             break;

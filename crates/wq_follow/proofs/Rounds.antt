@@ -87,7 +87,7 @@ Does instance view t after before shown errs count counted = (fired : FiredData)
 
 -- its follower, once the batch was told
 followed : (view : ViewData) (t : TriggerData) (batch : Batch) (next : FollowerData) → IsBatch view.records (batch_of t view) batch
-    → next ≡ told_up_to batch.tick t.follower → next ≡ told_up_to (batch_of t view).now t.follower
+    → next ≡ told_up_to batch.now t.follower → next ≡ told_up_to (batch_of t view).now t.follower
 followed view t batch next is moves = moves ∙ ap (λ (b : BatchData). told_up_to b.now t.follower) is.0
 
 pub does_runs : (instance : InstanceData) (view : ViewData) (t : TriggerData) (before shown : Option LauncherData) (count counted : ℕ)
@@ -118,7 +118,7 @@ does_short_start instance view t batch before shown count counted asks stays is 
 
 pub does_quiet : (instance : InstanceData) (view : ViewData) (t : TriggerData) (batch : Batch) (next : FollowerData) (before shown : Option LauncherData) (count counted : ℕ)
     → AsksRun t.running true before shown → counted ≡ count → IsBatch view.records (batch_of t view) batch → length batch.files.items ≡ 0
-    → next ≡ told_up_to batch.tick t.follower
+    → next ≡ told_up_to batch.now t.follower
     → Does instance view t (record { order = t.order; follower = next; object = t.object; running = None }) before shown false count counted
 does_quiet instance view t batch next before shown count counted asks stays is none moves = (
   quiet,
@@ -134,7 +134,7 @@ does_quiet instance view t batch next before shown count counted asks stays is n
 pub does_started : (instance : InstanceData) (view : ViewData) (t : TriggerData) (batch : Batch) (next : FollowerData) (start : StartData) (run : ℕ) (before mid shown : Option LauncherData) (count counted : ℕ)
     → AsksRun t.running true before mid → counted ≡ count → IsBatch view.records (batch_of t view) batch → length batch.files.items ≢ 0
     → start ≡ start_of t.order instance (batch_at view.records batch) → StartsRun mid start (Some run) shown
-    → next ≡ told_up_to batch.tick t.follower
+    → next ≡ told_up_to batch.now t.follower
     → Does instance view t (record { order = t.order; follower = next; object = t.object; running = Some run }) before shown false count counted
 does_started instance view t batch next start run before mid shown count counted asks stays is some made starts moves = (
   started run start,

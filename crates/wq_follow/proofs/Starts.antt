@@ -16,7 +16,7 @@ pub start_from : (order : OrderData) (instance : InstanceData) (records : List R
     → count ≤ length places
     → a ≡ order.command ++ appended order.appends (records_at records places)
     → overflow ≡ cuts order count (length places)
-    → e ≡ env_of order instance batch.from batch.tick overflow
+    → e ≡ env_of order instance batch.from batch.now overflow
     → given ≡ taken order.limit places
     → i ≡ input_text order.input instance batch.from (records_at records given)
     → record { args = a; env = e; input = i } ≡ start_of order instance (batch_at records batch)
@@ -26,13 +26,13 @@ start_from order instance records batch places given count overflow a e i same w
     let counted : count ≡ length more = sym (length_front records count places within fits) ∙ ap length front in
     let cut_as : overflow ≡ cuts order (length more) (length files) =
     cut ∙ ap (λ n. cuts order n (length places)) counted ∙ ap (λ n. cuts order (length more) n) (sym (length_at records places within)) in
-    let env_as : e ≡ env_of order instance batch.from batch.tick (cuts order (length more) (length files)) =
-    is_env ∙ ap (env_of order instance batch.from batch.tick) cut_as in
+    let env_as : e ≡ env_of order instance batch.from batch.now (cuts order (length more) (length files)) =
+    is_env ∙ ap (env_of order instance batch.from batch.now) cut_as in
     let input_as : i ≡ input_text order.input instance batch.from (taken order.limit files) =
     is_input ∙ ap (λ g. input_text order.input instance batch.from (records_at records g)) is_given
     ∙ ap (input_text order.input instance batch.from) (taken_at records order.limit places within) in
-    parts a (order.command ++ more) e (env_of order instance batch.from batch.tick (cuts order (length more) (length files))) i (input_text order.input instance batch.from (taken order.limit files)) is_args env_as input_as
-    ∙ ap (λ f. start_of order instance (record { fresh = batch.fresh; from = batch.from; now = batch.tick; files = records_at records f })) same
+    parts a (order.command ++ more) e (env_of order instance batch.from batch.now (cuts order (length more) (length files))) i (input_text order.input instance batch.from (taken order.limit files)) is_args env_as input_as
+    ∙ ap (λ f. start_of order instance (record { fresh = batch.fresh; from = batch.from; now = batch.now; files = records_at records f })) same
   where
     parts : (a b : List (List ℕ)) (e f : EnvData) (i j : List ℕ) → a ≡ b → e ≡ f → i ≡ j
         → ◌≡◌ {A = StartData} (record { args = a; env = e; input = i }) (record { args = b; env = f; input = j })

@@ -12,7 +12,7 @@ abbrev pub batch_at : List RecordData → Batch → BatchData
 batch_at records batch = record {
   fresh = batch.fresh;
   from = batch.from;
-  now = batch.tick;
+  now = batch.now;
   files = records_at records batch.files.items;
 }
 

@@ -42,6 +42,15 @@ moved running view t = record {
   running = running;
 }
 
+-- the trigger, once a batch that ends at this tick was told
+abbrev pub told_to : ℕ → TriggerData → TriggerData
+told_to tick t = record {
+  order = t.order;
+  follower = told_up_to tick t.follower;
+  object = t.object;
+  running = t.running;
+}
+
 -- the trigger when its command does not run
 abbrev pub stopped : TriggerData → TriggerData
 stopped t =

@@ -10,7 +10,7 @@ pub struct Batch {
     /// The bound from which it tells changes.
     pub from: Bound,
     /// The tick at which it ends.
-    pub tick: u64,
+    pub now: u64,
     /// The places of its files in the view, ascending.
     pub files: Vec<u32>,
 }

@@ -53,7 +53,7 @@ impl Follower {
         requires { IfSome ahead (λ ahead. IsAheadAt view.now.records ahead.now) }
         ensures batch { IfOk result (IsBatch view.now.records
             (polled (follower_data self.now) view.now)) }
-        ensures tick { IfOk result (λ batch. batch.tick ≤ max_number) }
+        ensures tick { IfOk result (λ batch. batch.now ≤ max_number) }
         ensures from { IfOk result (λ batch. batch.from ≡ ((follower_data self.now).plan).bound) }
         ensures wants { IfErr result (λ _.
             is_told (follower_data self.now).last view.now.tick ≡ false) }
@@ -67,11 +67,11 @@ impl Follower {
 
     /// The batch was told: the next one begins at its end. It takes no memory.
     pub fn commit(&mut self, batch: &Batch)
-        requires { batch.now.tick ≤ max_number }
-        ensures { follower_data self.new ≡ told_up_to batch.now.tick (follower_data self.old) }
+        requires { batch.now.now ≤ max_number }
+        ensures { follower_data self.new ≡ told_up_to batch.entry.now.now (follower_data self.old) }
     {
-        self.plan.tell_from(batch.tick);
-        self.last = Some(batch.tick);
+        self.plan.tell_from(batch.now);
+        self.last = Some(batch.now);
     }
 
     /// Whether the last batch ended at this tick or a later one.
@@ -90,13 +90,13 @@ impl Follower {
         ensures batch { (records : List RecordData) → IsBatch records
             (nothing (follower_data self.now).plan (last_or tick (follower_data self.now).last))
             result }
-        ensures tick { result.tick ≤ max_number }
+        ensures tick { result.now ≤ max_number }
         ensures from { result.from ≡ ((follower_data self.now).plan).bound }
     {
         Batch {
             fresh: self.plan.bound().is_fresh(),
             from: self.plan.bound(),
-            tick: self.last_or(tick),
+            now: self.last_or(tick),
             files: Vec::new(alloc),
         }
     }
@@ -123,13 +123,13 @@ impl Follower {
         requires { IfSome ahead (λ ahead. IsAheadAt view.now.records ahead.now) }
         ensures batch { IfOk result (IsBatch view.now.records
             (listing (follower_data self.now).plan view.now)) }
-        ensures tick { IfOk result (λ batch. batch.tick ≤ max_number) }
+        ensures tick { IfOk result (λ batch. batch.now ≤ max_number) }
         ensures from { IfOk result (λ batch. batch.from ≡ ((follower_data self.now).plan).bound) }
     {
         Ok(Batch {
             fresh: self.plan.bound().is_fresh(),
             from: self.plan.bound(),
-            tick: view.tick(),
+            now: view.tick(),
             files: self.plan.files_ahead(alloc, view, ahead)?,
         })
     }

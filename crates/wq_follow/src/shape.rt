@@ -11,7 +11,7 @@ ghost use Rattle.wq_follow.specs.Started.{input_data};
 
 use crate::command_text::CommandText;
 use crate::fault::TriggerFault;
-use crate::order::Input;
+use crate::order::{Input, Order};
 use serde_json::Value;
 use std::alloc::{AllocError, Global};
 use wq_base::{MAX_NUMBER, Table, Text};
@@ -21,13 +21,52 @@ use wq_query::{QueryFault, flag, some_fields};
 pub const MAX_TRIGGER_NAME: usize = 255;
 
 /// The command that the object of a trigger describes.
-#[derive(Drop)]
 pub(crate) struct Shape {
     pub(crate) name: Text,
     pub(crate) command: CommandText,
     pub(crate) appends: bool,
     pub(crate) input: Input,
     pub(crate) limit: Option<u64>,
+}
+
+// A shape is let go by one call, wherever a function gives up.
+impl Drop for Shape {
+    fn drop(self) {
+        let Shape {
+            name: _,
+            command: _,
+            appends: _,
+            input: _,
+            limit: _,
+        } = self;
+    }
+}
+
+impl Shape {
+    ghost use Rattle.wq_follow.specs.Defined.{shape_data};
+    ghost use Rattle.wq_follow.specs.Defining.{order_of};
+    ghost use Rattle.wq_follow.specs.Started.{order_data};
+
+    /// How a trigger of this shape starts its command, for the root with this text.
+    pub(crate) fn into_order(self, root: Text) -> Order
+        ensures { order_data result ≡ order_of (shape_data self) root }
+    {
+        let Shape {
+            name,
+            command,
+            appends,
+            input,
+            limit,
+        } = self;
+        Order {
+            name,
+            root,
+            command,
+            appends,
+            input,
+            limit,
+        }
+    }
 }
 
 /// Reads the command that an object describes.

@@ -216,13 +216,13 @@ fn variables(
     batch: &Batch,
     overflow: bool,
 ) -> Result<Env, AllocError>
-    requires now { batch.now.tick ≤ max_number }
+    requires now { batch.now.now ≤ max_number }
     requires from { IsClocked batch.now.from }
     ensures { IfOk result (λ env. env_data env ≡ env_of (order_data order.now)
-        (instance_data instance.now) batch.now.from batch.now.tick overflow) }
+        (instance_data instance.now) batch.entry.now.from batch.entry.now.now overflow) }
 {
     Ok(Env {
-        clock: print(instance, batch.tick),
+        clock: print(instance, batch.now),
         overflow,
         root: Text::copied(alloc, order.root.as_str())?,
         since: since(instance, batch.from),
@@ -239,10 +239,10 @@ pub(crate) fn start_of(
     batch: &Batch,
 ) -> Result<Start, AllocError>
     requires within { AreWithin view.now.records batch.now.files.items }
-    requires now { batch.now.tick ≤ max_number }
+    requires now { batch.now.now ≤ max_number }
     requires from { IsClocked batch.now.from }
     ensures { IfOk result (λ s. start_data s ≡ start_of (order_data order.now)
-        (instance_data instance.now) (batch_at view.now.records batch.now)) }
+        (instance_data instance.now) (batch_at view.now.records batch.entry.now)) }
 {
     let places = batch.files.as_slice();
     let count = appended(order, view, places);

@@ -24,7 +24,6 @@ use wq_reply::{Plan, print_list};
 use wq_view::View;
 
 /// The changes of a root that a client wants to be told, list by list.
-#[derive(Drop)]
 pub struct Subscription {
     pub(crate) name: Text,
     /// The text of its root.
@@ -32,6 +31,18 @@ pub struct Subscription {
     /// The number of its root.
     pub(crate) number: u64,
     pub(crate) follower: Follower,
+}
+
+// A subscription is let go by one call, wherever a function gives up.
+impl Drop for Subscription {
+    fn drop(self) {
+        let Subscription {
+            name: _,
+            root: _,
+            number: _,
+            follower: _,
+        } = self;
+    }
 }
 
 impl Subscription {
@@ -76,7 +87,7 @@ impl Subscription {
     pub fn poll(&self, alloc: Global, view: &View) -> Result<Batch, AllocError>
         ensures batch { IfOk result (IsBatch view.now.records
             (polled (subscription_data self.now).follower view.now)) }
-        ensures tick { IfOk result (λ batch. batch.tick ≤ max_number) }
+        ensures tick { IfOk result (λ batch. batch.now ≤ max_number) }
         ensures wants { IfErr result (λ _.
             is_told ((subscription_data self.now).follower).last view.now.tick ≡ false) }
     {
@@ -85,9 +96,9 @@ impl Subscription {
 
     /// The batch was sent: the next one begins at its end. It takes no memory.
     pub fn commit(&mut self, batch: &Batch)
-        requires { batch.now.tick ≤ max_number }
+        requires { batch.now.now ≤ max_number }
         ensures { subscription_data self.new
-            ≡ sent_up_to batch.now.tick (subscription_data self.old) }
+            ≡ sent_up_to batch.entry.now.now (subscription_data self.old) }
     {
         self.follower.commit(batch);
     }
@@ -104,7 +115,7 @@ impl Subscription {
         ensures { IfOk result (λ text. text.items ≡ compact_text (list_data
             (subscription_data self.now).root (subscription_data self.now).name
             ((subscription_data self.now).follower).plan (instance_data instance.now)
-            view.now.tick (records_at view.now.records batch.now.files.items))) }
+            view.now.tick (records_at view.now.records batch.entry.now.files.items))) }
     {
         let plan = self.follower.plan();
         let files = batch.files.as_slice();

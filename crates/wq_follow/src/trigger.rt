@@ -4,12 +4,13 @@ ghost use Rattle.wq_reply.specs.Ahead.{IsAheadAt};
 ghost use Rattle.wq_reply.specs.Plan.{planned};
 ghost use Rattle.wq_follow.specs.Started.{IsClocked};
 
+use crate::batch::Batch;
 use crate::definition::Definition;
 use crate::follower::Follower;
 use crate::launch::Launch;
 use crate::object_text::ObjectText;
 use crate::order::Order;
-use crate::start::start_of;
+use crate::start::{Start, start_of};
 use std::alloc::{AllocError, Global};
 use std::sync::Arc;
 use wq_base::Text;
@@ -19,7 +20,6 @@ use wq_verify::StoredProgram;
 use wq_view::View;
 
 /// A command that is started when files changed.
-#[derive(Drop)]
 pub struct Trigger {
     pub(crate) order: Order,
     pub(crate) follower: Follower,
@@ -29,17 +29,36 @@ pub struct Trigger {
     ghost clocked: { IsClocked (planned follower.plan).bound },
 }
 
+// A trigger is let go by one call, wherever a function gives up.
+impl Drop for Trigger {
+    fn drop(self) {
+        let Trigger {
+            order: _,
+            follower: _,
+            object: _,
+            running: _,
+        } = self;
+    }
+}
+
 impl Trigger {
-    ghost use Rattle.std.specs.Prelude.{None, is_err, option_map};
+    ghost use Rattle.std.specs.Prelude.{◌≤◌, IfErr, None, is_err, option_map};
+    ghost use Rattle.wq_base.specs.Limit.{max_number};
     ghost use Rattle.wq_clock.specs.Instance.{instance_data};
     ghost use Rattle.wq_reply.specs.Meaning.{AnswersWithin};
     ghost use Rattle.wq_query.specs.Query.{asked_of};
+    ghost use Rattle.wq_reply.specs.Listing.{AreWithin};
+    ghost use Rattle.wq_follow.specs.Batch.{polled};
     ghost use Rattle.wq_follow.specs.Defined.{definition_data};
     ghost use Rattle.wq_follow.specs.Defining.{triggered};
     ghost use Rattle.wq_follow.specs.Followed.{trigger_data};
     ghost use Rattle.wq_follow.specs.Kept.{data_in};
     ghost use Rattle.wq_follow.specs.Launcher.{AsksRun};
-    ghost use Rattle.wq_follow.specs.Round.{Agrees, CountsFailure, FiredData, Fires, is_short};
+    ghost use Rattle.wq_follow.specs.Follower.{IsBatch, batch_at};
+    ghost use Rattle.wq_follow.specs.Round.{Agrees, CountsFailure, FiredData, Fires};
+    ghost use Rattle.wq_follow.specs.Round.{WantsMemory, is_short, told_to};
+    ghost use Rattle.wq_follow.specs.Start.{start_of};
+    ghost use Rattle.wq_follow.specs.Started.{start_data};
 
     /// The trigger of a definition, for the root with this text. It was told nothing yet.
     ///
@@ -61,7 +80,7 @@ impl Trigger {
     {
         let plan = Plan::of(definition.query, Bound::Fresh, program);
         Trigger {
-            order: Order::of(definition.shape, root),
+            order: definition.shape.into_order(root),
             follower: Follower::new(plan),
             object: definition.object.into_text(),
             running,
@@ -87,6 +106,47 @@ impl Trigger {
         ensures { result ≡ (trigger_data self.now).running }
     {
         self.running
+    }
+
+    /// The next batch, at a view of the root. The trigger does not move: see [`commit`](Trigger::commit).
+    ///
+    /// At a view that is no newer than the last batch it takes no memory, and no time that grows with the view.
+    pub fn poll(&self, alloc: Global, view: &View) -> Result<Batch, AllocError>
+        ensures batch { IfOk result (IsBatch view.now.records
+            (polled (trigger_data self.now).follower view.now)) }
+        ensures tick { IfOk result (λ batch. batch.now ≤ max_number) }
+        ensures from { IfOk result (λ batch. IsClocked batch.from) }
+        ensures wants { IfErr result (λ _. WantsMemory view.now (trigger_data self.now)) }
+    {
+        self.follower.poll(alloc, view, None)
+    }
+
+    /// The batch was told: the next one begins at its end. It takes no memory.
+    pub fn commit(&mut self, batch: &Batch)
+        requires { batch.now.now ≤ max_number }
+        ensures { trigger_data self.new ≡ told_to batch.entry.now.now (trigger_data self.old) }
+    {
+        self.follower.commit(batch);
+    }
+
+    /// The start of the command for a batch of this view.
+    ///
+    /// # Errors
+    /// Memory ran out.
+    pub fn start_of(
+        &self,
+        alloc: Global,
+        instance: &Instance,
+        view: &View,
+        batch: &Batch,
+    ) -> Result<Start, AllocError>
+        requires within { AreWithin view.now.records batch.now.files.items }
+        requires now { batch.now.now ≤ max_number }
+        requires from { IsClocked batch.now.from }
+        ensures { IfOk result (λ start. start_data start ≡ start_of (trigger_data self.now).order
+            (instance_data instance.now) (batch_at view.now.records batch.entry.now)) }
+    {
+        start_of(alloc, &self.order, instance, view, batch)
     }
 
     /// A round: starts the command at a view of its root, if it does not run and files changed.

@@ -23,10 +23,6 @@ pub record CountedData : Type 0 where
 abbrev pub one_more : ℕ → ℕ
 one_more count = min (count + 1) (2 ^ 64 - 1)
 
--- the count with so many looks more; it stops at the greatest number
-abbrev pub with_looks : ℕ → ℕ → ℕ
-with_looks count looks = min (count + looks) (2 ^ 64 - 1)
-
 -- the looks that a bound may take: two for each file that changed after a tick, and two more; two
 -- for each file, if the bound is a second
 abbrev pub since_looks : Option Bound → List RecordData → ℕ

@@ -14,7 +14,7 @@ use crate::position::union;
 use crate::since::changed_since;
 use crate::suffix::with_suffix;
 use std::alloc::{AllocError, Global};
-use wq_base::Asker;
+use wq_base::{Asker, Stays, Unanswered};
 use wq_term::Generators;
 use wq_view::View;
 
@@ -23,12 +23,12 @@ use wq_view::View;
 ///
 /// The cost grows with the number of candidates, and with the number of files below the paths. A
 /// bound that is a second looks at each record, and so do patterns, whatever their number. Suffixes
-/// look at one byte for each record: the number of its suffix in its chunk of the view.
+/// read one byte for each record: the number of its suffix in its chunk of the view.
 ///
-/// If the asker goes while patterns are tried there are none, as if memory had run out.
-pub fn candidates<A: Asker>(
+/// # Errors
+/// Memory ran out.
+pub fn candidates(
     alloc: Global,
-    asker: &A,
     view: &View,
     generators: &Generators,
 ) -> Result<Vec<u32>, AllocError>
@@ -36,13 +36,32 @@ pub fn candidates<A: Asker>(
         ≡ positions_of (is_candidate generators.now) view.now.records) }
 {
     let mut counted = Counted::of(view);
-    candidates_counted(alloc, asker, &mut counted, generators)
+    candidates_counted(alloc, &mut counted, generators)
+}
+
+/// The same for an asker.
+///
+/// # Errors
+/// Memory ran out, or the asker went while patterns were tried.
+pub fn candidates_for<A: Asker>(
+    alloc: Global,
+    asker: &A,
+    view: &View,
+    generators: &Generators,
+) -> Result<Vec<u32>, Unanswered>
+    ensures { IfOk result (λ found. found.items
+        ≡ positions_of (is_candidate generators.now) view.now.records) }
+{
+    let mut counted = Counted::of(view);
+    candidates_counted_for(alloc, asker, &mut counted, generators)
 }
 
 /// The positions of the candidates. The number of looks is bounded.
-pub fn candidates_counted<A: Asker>(
+///
+/// # Errors
+/// Memory ran out.
+pub fn candidates_counted(
     alloc: Global,
-    asker: &A,
     counted: &mut Counted<'_>,
     generators: &Generators,
 ) -> Result<Vec<u32>, AllocError>
@@ -52,15 +71,37 @@ pub fn candidates_counted<A: Asker>(
         ≤ counted.old.count + allowed generators.now counted.old.view.records }
     ensures same { counted.new.view ≡ counted.old.view }
 {
+    match candidates_counted_for(alloc, &Stays {}, counted, generators) {
+        Ok(found) => Ok(found),
+        Err(_) => Err(AllocError),
+    }
+}
+
+/// The same for an asker.
+///
+/// # Errors
+/// Memory ran out, or the asker went while patterns were tried.
+pub fn candidates_counted_for<A: Asker>(
+    alloc: Global,
+    asker: &A,
+    counted: &mut Counted<'_>,
+    generators: &Generators,
+) -> Result<Vec<u32>, Unanswered>
+    ensures found { IfOk result (λ found. found.items
+        ≡ positions_of (is_candidate generators.now) counted.old.view.records) }
+    ensures few { counted.new.count
+        ≤ counted.old.count + allowed generators.now counted.old.view.records }
+    ensures same { counted.new.view ≡ counted.old.view }
+{
     if !is_any_there(generators) {
-        return all(alloc, counted.len());
+        return Ok(all(alloc, counted.len())?);
     }
     let changed = changed_since(alloc, counted, generators.since)?;
     let suffixed = with_suffix(alloc, counted, &generators.suffix)?;
     let on_path = with_path(alloc, counted, &generators.path)?;
     let fitting = with_glob(alloc, asker, counted, &generators.glob)?;
     let early = union(alloc, changed, suffixed)?;
-    union(alloc, union(alloc, early, on_path)?, fitting)
+    Ok(union(alloc, union(alloc, early, on_path)?, fitting)?)
 }
 
 /// Every position below a number.

@@ -1,16 +1,16 @@
 //! A view whose looks are counted. So the cost of a search for candidates can be stated.
-ghost use Rattle.std.specs.Prelude.{◌≡◌, ◌≤◌, ◌<◌, ◌+◌, ◌==◌, ◌&&◌, ℕ, false, count_by, nat_le, nat_lt, length, slice_get, IfOk, IfSome, MatchOption, Some};
+ghost use Rattle.std.specs.Prelude.{◌≡◌, ◌∷◌, ◌≤◌, ◌<◌, ◌+◌, ◌==◌, ◌&&◌, ℕ, [], false, nat_le, nat_lt, length, slice_get, IfSome, MatchOption, Some};
 ghost use Rattle.wq_view.specs.Below.{is_below};
 ghost use Rattle.wq_view.specs.Limit.{max_records};
 ghost use Rattle.wq_view.specs.Order.{Known};
 ghost use Rattle.wq_view.specs.Position.{has_name, passes_at, positions_of};
+ghost use Rattle.wq_view.specs.Suffix.{has_suffix};
 ghost use Rattle.wq_view.specs.View.{newest_of};
 ghost use Rattle.wq_gen.specs.Candidate.{suffix_is_among};
-ghost use Rattle.wq_gen.specs.Counted.{one_more, with_looks};
+ghost use Rattle.wq_gen.specs.Counted.{one_more};
 
-use std::alloc::{AllocError, Global};
 use std::marker::Model;
-use wq_view::{Reader, Record, Suffixes, View};
+use wq_view::{Reader, Record, SuffixSearch, Suffixes, View};
 
 /// A view, through which each look is counted.
 #[derive(Drop)]
@@ -84,24 +84,40 @@ impl<'a> Counted<'a> {
         self.view.newest(k)
     }
 
-    /// The positions of the records whose suffix is one of these, ascending. Each of them is a look, and that there are
-    /// no others is one more.
-    pub fn with_suffix(
-        &mut self,
-        alloc: Global,
-        sought: &Suffixes<'_>,
-    ) -> Result<Vec<u32>, AllocError>
-        ensures found { IfOk result (λ found. found.items
-            ≡ positions_of (suffix_is_among sought.now) self.old.view.records) }
-        ensures count { IfOk result (λ found. self.new.count
-            ≡ with_looks self.old.count (length found.items + 1)) }
-        ensures few { self.new.count ≤ self.old.count
-            + (count_by (suffix_is_among sought.now) self.old.view.records + 1) }
+    /// The position of a record with this suffix: the one with so many such records before it. A to Z count as a to z, and
+    /// no record has an empty suffix.
+    pub fn suffix_at(&mut self, text: &[u8], k: usize) -> Option<usize>
+        ensures value { result
+            ≡ slice_get (positions_of (has_suffix text.now) self.old.view.records) k }
+        ensures bound { IfSome result (λ i. i < length self.old.view.records) }
+        ensures few { IfSome result (λ i. i < max_records) }
         ensures same { self.new.view ≡ self.old.view }
+        ensures count { self.new.count ≡ one_more self.old.count }
     {
-        let found = self.view.with_suffix(alloc, sought)?;
-        self.count = one_more(self.count.saturating_add(found.len() as u64));
-        Ok(found)
+        self.count = one_more(self.count);
+        // That a position is below the limit of records follows from the number of records.
+        let _count = self.view.len();
+        self.view.suffix_at(text, k)
+    }
+
+    /// A search for the records whose suffix is one of these. Each step of it is a look, and there was none yet.
+    pub fn search<'s>(&self, sought: &'s Suffixes<'s>) -> CountedSearch<'a, 's>
+        ensures { result ≡ positions_of (suffix_is_among sought.now) self.now.view.records }
+    {
+        CountedSearch {
+            search: self.view.search(sought),
+        }
+    }
+
+    /// The next position that a search gives, if there is one.
+    pub fn next_found(&mut self, search: &mut CountedSearch<'_, '_>) -> Option<usize>
+        ensures left { MatchOption result (search.old ≡ []) (λ i. search.old ≡ i ∷ search.new) }
+        ensures few { IfSome result (λ i. i < max_records) }
+        ensures same { self.new.view ≡ self.old.view }
+        ensures count { self.new.count ≡ one_more self.old.count }
+    {
+        self.count = one_more(self.count);
+        search.search.next()
     }
 
     /// The range of the positions of the records strictly below a directory. All records are below the empty one.
@@ -131,6 +147,20 @@ impl<'a> Counted<'a> {
         self.count = one_more(self.count);
         self.view.find(name)
     }
+}
+
+/// A search by suffix over a view whose looks are counted. [`Counted::next_found`] alone takes a step of it.
+#[derive(Drop)]
+pub struct CountedSearch<'a, 's> {
+    search: SuffixSearch<'a, 's>,
+}
+
+impl<'a, 's> Model for CountedSearch<'a, 's> {
+    ghost use Rattle.std.specs.Prelude.{ℕ, List};
+
+    ghost Value = { List ℕ };
+
+    ghost view = { λ s. s.search };
 }
 
 /// The count with one look more.

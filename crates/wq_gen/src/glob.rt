@@ -10,8 +10,8 @@ ghost use Rattle.wq_gen.specs.Counted.{glob_looks};
 
 use crate::counted::Counted;
 use crate::position::keep_if;
-use std::alloc::{AllocError, Global};
-use wq_base::{Asker, FILES_BETWEEN_LOOKS, Table};
+use std::alloc::Global;
+use wq_base::{Asker, FILES_BETWEEN_LOOKS, Table, Unanswered};
 use wq_glob::Pattern;
 use wq_view::Record;
 
@@ -21,7 +21,7 @@ pub(crate) fn with_glob<A: Asker>(
     asker: &A,
     counted: &mut Counted<'_>,
     patterns: &Option<Table<Pattern>>,
-) -> Result<Vec<u32>, AllocError>
+) -> Result<Vec<u32>, Unanswered>
     ensures found { IfOk result (λ found. found.items
         ≡ positions_of (gives is_fitting patterns.now) counted.old.view.records) }
     ensures few { counted.new.count
@@ -34,14 +34,13 @@ pub(crate) fn with_glob<A: Asker>(
     }
 }
 
-/// The positions of the files that exist and fit one of these patterns. If the asker goes there are
-/// none, as if memory had run out.
+/// The positions of the files that exist and fit one of these patterns, unless the asker goes.
 fn fitting<A: Asker>(
     alloc: Global,
     asker: &A,
     counted: &mut Counted<'_>,
     patterns: &[Pattern],
-) -> Result<Vec<u32>, AllocError>
+) -> Result<Vec<u32>, Unanswered>
     ensures found { IfOk result (λ found. found.items
         ≡ positions_of (is_fitting patterns.now) counted.old.view.records) }
     ensures few { counted.new.count
@@ -51,7 +50,7 @@ fn fitting<A: Asker>(
     let mut found = Vec::new(alloc);
     for i in 0..counted.len() {
         if i % FILES_BETWEEN_LOOKS == 0 && asker.is_gone() {
-            return Err(AllocError);
+            return Err(Unanswered::Gone);
         }
         keep_if(is_fitting(patterns, counted.look(i)), &mut found, i)?;
     }

@@ -16,5 +16,6 @@ mod position;
 mod since;
 mod suffix;
 
-pub use candidate::{candidates, candidates_counted};
-pub use counted::Counted;
+pub use candidate::{candidates, candidates_counted, candidates_counted_for, candidates_for};
+pub use counted::{Counted, CountedSearch};
+pub use wq_term::{Generators, PathGen};

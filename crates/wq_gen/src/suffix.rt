@@ -1,5 +1,5 @@
 //! The files with one of some suffixes.
-ghost use Rattle.std.specs.Prelude.{◌≡◌, ◌≤◌, ◌+◌, sum_by, IfOk};
+ghost use Rattle.std.specs.Prelude.{◌≡◌, ◌≤◌, ◌+◌, count_by, sum_by, IfOk};
 ghost use Rattle.wq_view.specs.Position.{positions_of};
 ghost use Rattle.wq_gen.specs.Candidate.{gives, suffix_is_among};
 ghost use Rattle.wq_gen.specs.Counted.{suffix_looks, text_looks};
@@ -42,5 +42,26 @@ fn with_texts(
     if texts.is_empty() {
         return Ok(Vec::new(alloc));
     }
-    counted.with_suffix(alloc, &Suffixes::of(alloc, texts)?)
+    let sought = Suffixes::of(alloc, texts)?;
+    found_by_suffix(alloc, counted, &sought)
+}
+
+/// The positions of the files whose suffix is one of these. Each of them is a look, and that there are no others is one.
+fn found_by_suffix(
+    alloc: Global,
+    counted: &mut Counted<'_>,
+    sought: &Suffixes<'_>,
+) -> Result<Vec<u32>, AllocError>
+    ensures found { IfOk result (λ found. found.items
+        ≡ positions_of (suffix_is_among sought.now) counted.old.view.records) }
+    ensures few { counted.new.count ≤ counted.old.count
+        + (count_by (suffix_is_among sought.now) counted.old.view.records + 1) }
+    ensures same { counted.new.view ≡ counted.old.view }
+{
+    let mut found = Vec::new(alloc);
+    let mut search = counted.search(sought);
+    while let Some(i) = counted.next_found(&mut search) {
+        found.push(i as u32)?;
+    }
+    Ok(found)
 }

@@ -9,7 +9,7 @@ use Rattle.wq_crawl.specs.Basis.{Basis}
 use Rattle.wq_session.specs.Serving.{PlaceData, stand_at}
 use Rattle.wq_session.specs.Out.{MayRefuse, OutData, runs_out}
 use Rattle.wq_crawl.specs.Need.{watch}
-use Rattle.wq_ask.specs.Need.{need_of}
+use Rattle.wq_session.specs.Need.{need_of}
 use Rattle.wq_ask.specs.declared.ask.Ask.{Ask}
 use Rattle.wq_ask.specs.declared.ask.Ask.TheVariants.{Alone, OfRoot, OfShelf, Unwatch, Watch}
 use Rattle.wq_ask.specs.declared.refusal.Refusal.TheVariants.{NoMemory as OutOfMemory}

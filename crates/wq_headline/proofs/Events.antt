@@ -11,7 +11,7 @@ use Rattle.wq_replay.specs.World.{HappeningData, WorldData, asked, idle}
 use Rattle.wq_crawl.specs.Basis.{Basis}
 use Rattle.wq_session.specs.Idling.{IsIdled}
 use Rattle.wq_session.specs.Serving.{IsAnswered, PlaceData, stand_at}
-use Rattle.wq_ask.specs.Need.{need_of}
+use Rattle.wq_session.specs.Need.{need_of}
 use Rattle.wq_session.specs.Out.{OutData}
 use Rattle.wq_ask.specs.Reading.{Asks}
 use Rattle.wq_ask.specs.declared.ask.Ask.{Ask}

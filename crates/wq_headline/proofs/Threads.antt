@@ -4,7 +4,7 @@ use Rattle.serde_json.specs.Data.{Data}
 use Rattle.serde_json.specs.View.{view as data_of}
 use Rattle.serde_json.specs.declared.value.Value.{Value}
 use Rattle.wq_ask.specs.HandedIn.{AsksHandInValid, HandsInValid}
-use Rattle.wq_ask.specs.Need.{need_of}
+use Rattle.wq_session.specs.Need.{need_of}
 use Rattle.wq_session.specs.Out.{OutData}
 use Rattle.wq_ask.specs.Reading.{Asks}
 use Rattle.wq_ask.specs.declared.ask.Ask.{Ask}

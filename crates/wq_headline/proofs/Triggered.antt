@@ -8,7 +8,7 @@ use Rattle.serde_json.specs.Find.{get}
 use Rattle.serde_json.specs.View.{view as data_of}
 use Rattle.wq_base.proofs.Fault.{or_its_fault-ok, or_own_fault-ok, unless_fault-ok}
 use Rattle.wq_crawl.specs.Need.{NeedData, crawl as crawl_of, look, none, unwatch, watch}
-use Rattle.wq_ask.specs.Need.{need_of}
+use Rattle.wq_session.specs.Need.{need_of}
 use Rattle.wq_session.specs.Out.{OutData}
 use Rattle.wq_ask.specs.declared.ask.Ask.{Ask}
 use Rattle.wq_ask.specs.declared.ask.Ask.TheVariants.{Alone, OfRoot, OfShelf, Unwatch, Watch}

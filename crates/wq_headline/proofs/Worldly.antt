@@ -5,7 +5,7 @@ use Rattle.serde_json.specs.View.{view as data_of}
 use Rattle.serde_json.specs.declared.value.Value.{Value}
 use Rattle.wq_ask.specs.Argument.{queries}
 use Rattle.wq_crawl.specs.Need.{crawl as crawl_of, none}
-use Rattle.wq_ask.specs.Need.{need_of}
+use Rattle.wq_session.specs.Need.{need_of}
 use Rattle.wq_session.specs.Out.{OutData, runs_out}
 use Rattle.wq_ask.specs.Query.{IsQuerying}
 use Rattle.wq_ask.specs.Reading.{Asks, IsRequested, requested}

@@ -16,7 +16,7 @@ use Rattle.wq_crawl.specs.Basis.{Basis}
 use Rattle.wq_crawl.specs.Ready.{KnownData}
 use Rattle.wq_session.specs.Serving.{GoesOn, PlaceData, Serves, lines_for, written_for}
 use Rattle.wq_crawl.specs.Need.{NeedData, none, look, crawl as crawl_of, watch as watch_of, unwatch}
-use Rattle.wq_ask.specs.Need.{need_of}
+use Rattle.wq_session.specs.Need.{need_of}
 use Rattle.wq_session.specs.Out.{OutData}
 use Rattle.wq_ask.specs.Reading.{Asks}
 use Rattle.wq_ask.specs.declared.ask.Ask.{Ask}

@@ -1,11 +1,14 @@
 -- The step that adds an event keeps the fact that threads share: the length of the list.
-use Rattle.std.proofs.Common.{◌≡◌, ℕ, ◌+◌, ◌<◌, ◌==◌, Bool, true, false, List, [], ◌∷◌, ◌++◌, length, refl, ap, sym, subst, arith, inl, length-append, append-nil, None}
+use Rattle.std.proofs.Common.{◌≡◌, ℕ, ◌+◌, ◌<◌, ◌==◌, Bool, true, false, List, [], ◌∷◌, ◌++◌, length, map, take, get_or, refl, ap, sym, subst, ◌∙◌, arith, inl, length-append, append-nil, append_assoc, None}
+use Rattle.std.proofs.lemmas.List.{map-append, take_more}
 use Rattle.std.proofs.lemmas.Bool.Decides.{nat_tests}
 use mathlib.Core.List.{IsPrefix}
 use prog.Atomic.{either}
 use Rattle.logbook.specs.Pages.{Cell, cell, keeps, no_nib, step, Moves, Goes}
 use Rattle.wq_live.specs.declared.event.RootEvent.{RootEvent}
 use Rattle.wq_live.specs.Log.{IsCount, AddsEvent}
+use Rattle.wq_live.specs.News.{event_of}
+use Rattle.wq_live.specs.declared.news.News.{News}
 use Rattle.wq_live.proofs.Beginnings.{prefix_whole}
 
 abbrev pub shown : List RootEvent → List RootEvent
@@ -47,3 +50,11 @@ pub adds_moves : (v : List RootEvent) (e : RootEvent) (old : ℕ) → length v �
 adds_moves v e old len cs log kept pre away =
     let P : List Cell → Type 0 = λ c. (0 < length c) × ((cell c 0).1 ≡ true) × Goes IsCount shown moved 0 (v, (no_nib, None)) (λ n. either (n == old) (old + 1) n) (AddsEvent (step 0 old (old + 1) e) (v, (no_nib, None))) c log in
     subst P (sym kept) (omega arith, refl, adds_goes log v e old len pre (length log == old) refl)
+
+-- one event more is added
+pub added_next : (all : List News) (i : ℕ) (news : News) → i < length all → get_or all i news ≡ news → (before so_far next : List RootEvent) → so_far ≡ before ++ map event_of (take i all) → next ≡ so_far ++ event_of news ∷ [] → next ≡ before ++ map event_of (take (i + 1) all)
+added_next all i news h is before so_far next so_far_is next_is =
+    next_is
+    ∙ ap (λ l. l ++ event_of news ∷ []) so_far_is
+    ∙ append_assoc before (map event_of (take i all)) (event_of news ∷ [])
+    ∙ ap (λ l. before ++ l) (sym (map-append event_of (take i all) (news ∷ [])) ∙ ap (map event_of) (sym (take_more all i news h ∙ ap (λ n. take i all ++ (n ∷ [])) is)))

@@ -76,16 +76,3 @@ no_memory r s b y e f ok iff = ((λ h. absurd (cc (h, e, f))), (λ p. absurd (cc
 -- if a start succeeded, the table was not full
 pub well : {A B P : Type 0} (a : A) (s : Result B StartFault) (b : B) → s ≡ Ok b → ((s ≡ Err TooManyRoots) ↔ P) → ((◌≡◌ {A = Result A StartFault} (Ok a) (Err TooManyRoots)) ↔ P)
 well a s b ok iff = ((λ h. absurd (cc h)), (λ p. absurd (cc (iff.1 p, ok))))
-
--- whether there is a first pass
-pub first_is : (pass : PassData) (none : Bool) → (IsTrue none ↔ (empty ≡ pass.stats)) → first_history pass ≡ (if none then [] else pass ∷ [])
-first_is pass true iff = at (len pass.stats == 0) refl
-  where
-    at : (b : Bool) → (len pass.stats == 0) ≡ b → first_history pass ≡ []
-    at true e = rw e refl
-    at false e = absurd (not_empty pass.stats e (iff.0 refl))
-first_is pass false iff = at (len pass.stats == 0) refl
-  where
-    at : (b : Bool) → (len pass.stats == 0) ≡ b → first_history pass ≡ pass ∷ []
-    at true e = absurd (cc (iff.1 (is_empty pass.stats e)))
-    at false e = rw e refl

@@ -1,14 +1,13 @@
 -- The table after a pass, and the root that a number finds.
-use Rattle.std.proofs.Common.{◌≡◌, ◌≢◌, ◌==◌, ℕ, ◌≤◌, Bool, true, false, List, [], ◌∷◌, ◌++◌, map, length, Option, Some, None, is_some, IfSome, MatchOption, option_map, refl, ap, sym, subst, ◌∙◌, append-nil}
+use Rattle.std.proofs.Common.{◌≡◌, ◌≢◌, ◌==◌, ℕ, ℤ, ◌≤◌, Bool, true, false, List, [], ◌∷◌, ◌++◌, map, length, Option, Some, None, is_some, IfSome, MatchOption, option_map, refl, ap, sym, subst, ◌∙◌, append-nil}
 use mathlib.Core.Bool.{false≢true}
 use Rattle.std.specs.List.{find}
 use Rattle.std.proofs.lemmas.List.Elements.{All-weaker, All-push, All-map, recursion_from_All}
 use Rattle.wq_view.specs.Listing.{PassData}
-use Rattle.wq_view.specs.History.{Differ, last_stats}
-use Rattle.std.proofs.lemmas.Option.{same_Some}
-use Rattle.wq_view.specs.View.{HasOneView, ViewData, IsViewOf}
+use Rattle.wq_view.specs.Change.{pass_by}
+use Rattle.wq_view.specs.History.{Differ, History, last_stats}
 use Rattle.wq_view.specs.declared.patch.Patch.{Patch}
-use Rattle.wq_live.specs.Patched.{MakePass}
+use Rattle.wq_view.specs.View.{HasOneView, ViewData, IsViewOf}
 use Rattle.wq_live.specs.declared.event.RootEvent.{RootEvent}
 use Rattle.wq_live.specs.declared.event.RootEvent.TheVariants.{Passed}
 use Rattle.wq_live.specs.Event.{number_in, started, is_shown, passes_over, IsLawfulList}
@@ -88,25 +87,15 @@ module _ (events : List RootEvent) (table : TableData) (is : IsTableOf events ta
         shows root v true e = rw (e, own root.number (turned root.number n true e)) (subst (λ k. IsViewOf (passes_over k events ++ pass ∷ []) view) (sym (same_number root.number n e)) of)
         shows root v false e = rw (e, other root.number (turned root.number n false e)) v
 
--- patches that make a pass with the view of the passes over a root do so with the root of a table
-pub fit_found : HasOneView → (events : List RootEvent) (table : TableData) → IsTableOf events table → (n : ℕ) (patches : List Patch) (view : ViewData) → IsViewOf (passes_over n events) view → MakePass view.records patches → IfSome (find (has_number n) table.roots) (λ root. MakePass root.view.records patches)
-fit_found one events table is n patches view is_view make = by (find (has_number n) table.roots) refl
+-- a root of a table has the view of the passes over it
+pub base_found : HasOneView → (events : List RootEvent) (table : TableData) → IsTableOf events table → (n : ℕ) (view : ViewData) → IsViewOf (passes_over n events) view → IfSome (find (has_number n) table.roots) (λ root. view ≡ root.view)
+base_found one events table is n view is_view = by (find (has_number n) table.roots) refl
   where
-    by : (root : Option RootView) → find (has_number n) table.roots ≡ root → IfSome root (λ root. MakePass root.view.records patches)
+    by : (root : Option RootView) → find (has_number n) table.roots ≡ root → IfSome root (λ root. view ≡ root.view)
     by None found = tt
-    by (Some root) found = subst (λ (v : ViewData). MakePass v.records patches) (one (passes_over n events) view root.view is_view (found_view events table is n root found)) make
+    by (Some root) found = one (passes_over n events) view root.view is_view (found_view events table is n root found)
 
--- the view of a root that is found is that of its passes
-pub shared_view : (events : List RootEvent) (table : TableData) → IsTableOf events table → (n : ℕ) (view : ViewData) → Some view ≡ option_map (λ (root : RootView). root.view) (find (has_number n) table.roots) → IsViewOf (passes_over n events) view
-shared_view events table is n view there = by (find (has_number n) table.roots) refl there
-  where
-    by : (root : Option RootView) → find (has_number n) table.roots ≡ root → Some view ≡ option_map (λ (root : RootView). root.view) root → IsViewOf (passes_over n events) view
-    by None found e = absurd (cc)
-    by (Some root) found e = subst (IsViewOf (passes_over n events)) (sym (same_Some view root.view e)) (found_view events table is n root found)
-
--- a fact of a result that there is, or is not
-pub none_passed : {A : Type 0} (o : Option A) (P : Type 0) (Q : A → Type 0) → o ≡ None → MatchOption o P Q → P
-none_passed o P Q is fact = subst (λ o. MatchOption o P Q) is fact
-
-pub some_passed : {A : Type 0} (o : Option A) (a : A) (P : Type 0) (Q : A → Type 0) → o ≡ Some a → MatchOption o P Q → Q a
-some_passed o a P Q is fact = subst (λ o. MatchOption o P Q) is fact
+-- patches make one pass with each view of a history
+pub same_pass : HasOneView → (history : History) (base view : ViewData) (patches : List Patch) (given second : ℤ) → given ≡ second → IsViewOf history base → IsViewOf history view → pass_by base.records patches given ≡ pass_by view.records patches second
+same_pass one history base view patches given second same is_base is_view =
+    ap (λ z. pass_by base.records patches z) same ∙ ap (λ (v : ViewData). pass_by v.records patches second) (one history base view is_base is_view)

@@ -2,4 +2,4 @@ pub mod Event
 pub mod Table
 pub mod Log
 pub mod Shared
-pub mod Patched
+pub mod News

@@ -7,7 +7,7 @@ mod event;
 mod kept;
 mod log;
 mod named;
-mod patched_pass;
+mod news;
 mod publication;
 mod publisher;
 mod refused;

@@ -1,11 +1,11 @@
 //! A beginning of the one list of events of all roots. No memory holds the list itself. Threads share its length, and
 //! have tokens without bytes for the part of it that they know.
-ghost use Rattle.std.specs.Prelude.{◌≡◌, ◌++◌, ◌∷◌, [], IsTrue, length, nat_lt};
+ghost use Rattle.std.specs.Prelude.{◌≡◌, ◌++◌, ◌∷◌, [], IsTrue, length, map, nat_lt};
 ghost use Rattle.wq_live.specs.Log.{Compared, head_of};
-ghost use Rattle.wq_live.specs.Patched.{event_by};
+ghost use Rattle.wq_live.specs.News.{event_of};
 
 use crate::event::RootEvent;
-use crate::patched_pass::PatchedPass;
+use crate::news::News;
 use logbook::{Gain, Offer, Plain, Play, Rule, Seen, Word};
 use std::marker::Model;
 
@@ -48,21 +48,13 @@ impl Play<RootEvent, u64> for Add {
     ghost then = { AddsEvent };
 }
 
-impl Plain<RootEvent, RootEvent, u64> for Add {
+impl<'a> Plain<News<'a>, RootEvent, u64> for Add {
     ghost use Rattle.std.specs.Prelude.{None};
+    ghost use Rattle.wq_live.specs.News.{event_of};
 
-    ghost ask = { λ event. event };
+    ghost ask = { λ news. event_of news };
 
-    ghost state = { λ event. None };
-}
-
-impl<'a> Plain<PatchedPass<'a>, RootEvent, u64> for Add {
-    ghost use Rattle.std.specs.Prelude.{None};
-    ghost use Rattle.wq_live.specs.Patched.{event_by};
-
-    ghost ask = { λ pass. event_by pass };
-
-    ghost state = { λ pass. None };
+    ghost state = { λ news. None };
 }
 
 /// The word that threads share: the length of the list.
@@ -121,42 +113,17 @@ impl Log {
 
     /// Adds an event to a log that knows the whole list, and returns whether it did. The call adds nothing if the list
     /// is longer. That never happens if one thread alone adds to the list.
-    pub(crate) fn add(&mut self, head: &Head, event: &RootEvent) -> bool
+    pub(crate) fn add(&mut self, head: &Head, news: &News<'_>) -> bool
         requires { head.now ≡ head_of self.old.book }
         ensures same { self.new.book ≡ self.old.book }
-        ensures added { IsTrue result → self.new.log ≡ self.old.log ++ event.now ∷ [] }
+        ensures added { IsTrue result → self.new.log ≡ self.old.log ++ event_of news.now ∷ [] }
     {
         if self.count == u64::MAX {
             return false;
         }
         let mut offer: Offer<RootEvent, u64, Law, Nothing> = self
             .seen
-            .plain::<Nothing, RootEvent, Add>(event);
-        let mut pen = self.seen.no_pen();
-        let count = self.count;
-        let found = head.compare_exchange::<Add, Nothing>(
-            count,
-            count + 1,
-            &mut self.seen,
-            &mut offer,
-            &mut pen,
-        );
-        self.count = if found == count { count + 1 } else { found };
-        found == count
-    }
-
-    /// Adds the event of a pass, as [`Log::add`] adds an event.
-    pub(crate) fn add_patched(&mut self, head: &Head, pass: &PatchedPass<'_>) -> bool
-        requires { head.now ≡ head_of self.old.book }
-        ensures same { self.new.book ≡ self.old.book }
-        ensures added { IsTrue result → self.new.log ≡ self.old.log ++ event_by pass.now ∷ [] }
-    {
-        if self.count == u64::MAX {
-            return false;
-        }
-        let mut offer: Offer<RootEvent, u64, Law, Nothing> = self
-            .seen
-            .plain::<Nothing, PatchedPass<'_>, Add>(pass);
+            .plain::<Nothing, News<'_>, Add>(news);
         let mut pen = self.seen.no_pen();
         let count = self.count;
         let found = head.compare_exchange::<Add, Nothing>(
@@ -171,12 +138,12 @@ impl Log {
     }
 
     /// Adds events in their order, and returns whether it added all.
-    pub(crate) fn add_all(&mut self, head: &Head, events: &[RootEvent]) -> bool
+    pub(crate) fn add_all(&mut self, head: &Head, news: &[News<'_>]) -> bool
         requires { head.now ≡ head_of self.old.book }
         ensures same { self.new.book ≡ self.old.book }
-        ensures added { IsTrue result → self.new.log ≡ self.old.log ++ events.now }
+        ensures added { IsTrue result → self.new.log ≡ self.old.log ++ map event_of news.now }
     {
-        for event in events {
+        for event in news {
             if !self.add(head, event) {
                 return false;
             }

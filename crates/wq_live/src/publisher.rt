@@ -1,21 +1,21 @@
 //! The publisher, which alone changes the list of events. It shows the table that follows from the list.
-ghost use Rattle.std.specs.Prelude.{if◌then◌else◌, ◌+◌, ◌↔◌, None, option_map, ◌≡◌, ◌<◌, ◌⊎◌, ◌++◌, ◌∷◌, [], Err, IfErr, IfOk, IsTrue, MatchResult, Some, drop, false, length, nat_lt, true};
+ghost use Rattle.std.specs.Prelude.{if◌then◌else◌, ◌+◌, ◌↔◌, None, option_map, ◌≡◌, ◌<◌, ◌⊎◌, ◌++◌, ◌∷◌, [], Err, IfErr, IfOk, IsTrue, MatchResult, Some, drop, false, length, map, nat_lt, true};
 ghost use Rattle.left_right.specs.Sides.{view};
 ghost use Rattle.wq_live.specs.Log.{AgreeAs, BeginsLog, head_of};
 ghost use Rattle.wq_base.specs.Limit.{max_number, max_roots};
 ghost use Rattle.wq_record.specs.Limit.{max_tick};
 ghost use Rattle.wq_record.specs.Seen.{is_count};
+ghost use Rattle.wq_view.specs.Change.{MakePass, pass_by};
 ghost use Rattle.wq_view.specs.View.{IsViewOf, ViewData};
 ghost use Rattle.wq_live.specs.declared.event.RootEvent.TheVariants.{Ended, Passed};
-ghost use Rattle.wq_live.specs.Event.{first_history, is_shown, passes_over, shown_root, shown, start_events, started};
-ghost use Rattle.wq_live.specs.Patched.{MakePass, event_by, pass_by};
+ghost use Rattle.wq_live.specs.Event.{is_shown, passes_over, shown_root, shown, start_events, started};
+ghost use Rattle.wq_live.specs.News.{event_of};
 ghost use Rattle.wq_live.specs.Table.{IsNews, IsNoNews, IsTableOf, WantsForTicks};
 
-use crate::event::RootEvent;
 use crate::kept::Note;
 use crate::log::Head;
 use crate::named::Named;
-use crate::patched_pass::PatchedPass;
+use crate::news::News;
 use crate::publication::{ShownWriter, show};
 use crate::seat::{Look, Seat, Told};
 use crate::shown::Next;
@@ -24,8 +24,7 @@ use core::{mem, slice};
 use std::alloc::{AllocError, Global};
 use std::marker::{Model, PhantomData};
 use std::sync::{Arc, Wait};
-use wq_base::Text;
-use wq_view::{Pass, Patch, View, ViewFault, history_has_one_view};
+use wq_view::{Change, Pass, Patch, View, ViewFault, history_has_one_view};
 
 /// The publisher. Contracts see its list of events.
 pub struct Publisher<N: Named, R: Wait + Drop> {
@@ -174,9 +173,10 @@ impl<N: Named, R: Wait + Drop> Publisher<N, R> {
     {
         let next = self.table().with_start(text, &pass)?;
         let number = next.given();
-        let text = Text::copied(self.alloc, text)?;
-        let events = start_events(self.alloc, number, text, pass)?;
-        let told = self.add(next, &events)?;
+        let none = View::new(self.alloc);
+        let change = pass.over(&none);
+        let news = start_news(self.alloc, number, text, &pass, &change)?;
+        let told = self.add(next, &news)?;
         Ok((number, told))
     }
 
@@ -202,15 +202,38 @@ impl<N: Named, R: Wait + Drop> Publisher<N, R> {
         ensures spent { (result ≡ Err ViewFault.TicksSpent) ↔ WantsForTicks self.old number pass }
         ensures err { IfErr result (λ _. self.new ≡ self.old) }
     {
-        let Some(next) = self.table().with_pass(number, &pass)? else {
+        let Some(view) = self.table().view(number) else {
             return Ok(self.told()?);
         };
-        let event = RootEvent::Passed(number, pass);
-        Ok(self.add(next, slice::from_ref(&event))?)
+        let change = pass.over(view);
+        self.publish_change(number, &change)
+    }
+
+    /// Publishes a pass over the root of this number, which has the view that the pass differs from. No rows are made of
+    /// the other files. The call answers as [`Publisher::publish`] does.
+    pub fn publish_change(&mut self, number: u64, change: &Change<'_>) -> Result<Told<N>, ViewFault>
+        requires { IsViewOf (passes_over number self.old) (change.now).base }
+        ensures told { IfOk result (λ told. told ≡ self.new) }
+        ensures published { N.published N.book self.new }
+        ensures added { IfOk result (λ _.
+            (IsNoNews self.old number (change.now).pass × (self.new ≡ self.old))
+            ⊎ (IsNews self.old number (change.now).pass
+            × (length (passes_over number self.old) < max_tick)
+            × (self.new ≡ self.old ++ Passed number (change.now).pass ∷ []))) }
+        ensures spent { (result ≡ Err ViewFault.TicksSpent)
+            ↔ WantsForTicks self.old number (change.now).pass }
+        ensures err { IfErr result (λ _. self.new ≡ self.old) }
+    {
+        history_has_one_view();
+        let Some(next) = self.table().with_change(number, change)? else {
+            return Ok(self.told()?);
+        };
+        let news = News::Pass(number, change);
+        Ok(self.add(next, slice::from_ref(&news))?)
     }
 
     /// Publishes a pass at this second over the root of this number, whose rows differ by these patches from the root's
-    /// view. No rows are made of the other files. The call answers as [`Publisher::publish`] does.
+    /// view. The call answers as [`Publisher::publish`] does.
     pub fn publish_patches(
         &mut self,
         number: u64,
@@ -237,19 +260,11 @@ impl<N: Named, R: Wait + Drop> Publisher<N, R> {
         ensures err { IfErr result (λ _. self.new ≡ self.old) }
     {
         history_has_one_view();
-        let Some(next) = self.table().with_patches(number, patches, second)? else {
+        let Some(view) = self.table().view(number) else {
             return Ok(self.told()?);
         };
-        let Some(view) = self.table().share_of(number)? else {
-            return Err(ViewFault::NoMemory);
-        };
-        let pass = PatchedPass {
-            number,
-            view: &view,
-            patches,
-            second,
-        };
-        Ok(self.add_patched(next, &pass)?)
+        let change = Change::of(view, patches, second);
+        self.publish_change(number, &change)
     }
 
     /// Publishes the end of the root of this number, and returns the list after it. The call adds nothing if the root
@@ -267,8 +282,8 @@ impl<N: Named, R: Wait + Drop> Publisher<N, R> {
         let Some(next) = self.table().with_end(number)? else {
             return self.told();
         };
-        let event = RootEvent::Ended(number);
-        self.add(next, slice::from_ref(&event))
+        let news = News::End(number);
+        self.add(next, slice::from_ref(&news))
     }
 
     /// Frees the table before the last one, with the views that no other table has. It changes nothing, and waits for
@@ -288,40 +303,17 @@ impl<N: Named, R: Wait + Drop> Publisher<N, R> {
     }
 
     /// Adds events, and shows the table after them.
-    fn add(&mut self, table: RootTable, events: &[RootEvent]) -> Result<Told<N>, AllocError>
-        requires { IsTableOf (self.old ++ events.now) table }
+    fn add(&mut self, table: RootTable, news: &[News<'_>]) -> Result<Told<N>, AllocError>
+        requires { IsTableOf (self.old ++ map event_of news.now) table }
         ensures added { MatchResult result
-            (λ told. (self.new ≡ self.old ++ events.now) × (told ≡ self.new))
+            (λ told. (self.new ≡ self.old ++ map event_of news.now) × (told ≡ self.new))
             (λ _. self.new ≡ self.old) }
         ensures published { N.published N.book self.new }
     {
         let table = Arc::new(self.alloc, table)?;
         let told = table.clone()?;
         let mut log = self.writer.published().log().again();
-        if !log.add_all(&self.head, events) {
-            return Err(AllocError);
-        }
-        self.show(Next::new(table, log))?;
-        self.keeps_older = true;
-        Ok(Told::new(self.writer.published().with_table(told)))
-    }
-
-    /// Adds the event of a pass, and shows the table after it.
-    fn add_patched(
-        &mut self,
-        table: RootTable,
-        pass: &PatchedPass<'_>,
-    ) -> Result<Told<N>, AllocError>
-        requires { IsTableOf (self.old ++ event_by pass.now ∷ []) table }
-        ensures added { MatchResult result
-            (λ told. (self.new ≡ self.old ++ event_by pass.now ∷ []) × (told ≡ self.new))
-            (λ _. self.new ≡ self.old) }
-        ensures published { N.published N.book self.new }
-    {
-        let table = Arc::new(self.alloc, table)?;
-        let told = table.clone()?;
-        let mut log = self.writer.published().log().again();
-        if !log.add_patched(&self.head, pass) {
+        if !log.add_all(&self.head, news) {
             return Err(AllocError);
         }
         self.show(Next::new(table, log))?;
@@ -345,27 +337,21 @@ impl<N: Named, R: Wait + Drop> Publisher<N, R> {
 }
 
 /// The events that the start of a root adds: its start, and its first pass unless that saw no file.
-fn start_events(
+fn start_news<'a>(
     alloc: Global,
     number: u64,
-    text: Text,
-    pass: Pass,
-) -> Result<Vec<RootEvent>, AllocError>
-    ensures { IfOk result (λ events. events.items ≡ start_events number text pass) }
+    text: &'a str,
+    pass: &Pass,
+    change: &'a Change<'a>,
+) -> Result<Vec<News<'a>>, AllocError>
+    requires { (change.now).pass ≡ pass.now }
+    ensures { IfOk result (λ news.
+        map event_of news.items ≡ start_events number text.now pass.now) }
 {
-    let mut events = Vec::with_capacity(alloc, 2)?;
-    events.push(RootEvent::Started(number, text))?;
-    if saw_nothing(alloc, &pass) {
-        return Ok(events);
+    let mut news = Vec::with_capacity(alloc, 2)?;
+    news.push(News::Start(number, text))?;
+    if !pass.is_empty() {
+        news.push(News::Pass(number, change))?;
     }
-    events.push(RootEvent::Passed(number, pass))?;
-    Ok(events)
-}
-
-/// Whether a first pass saw no file.
-fn saw_nothing(alloc: Global, pass: &Pass) -> bool
-    ensures { first_history pass.now ≡ (if result then [] else pass.now ∷ []) }
-{
-    let is_same = View::new(alloc).shows(pass);
-    is_same
+    Ok(news)
 }

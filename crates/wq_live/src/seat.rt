@@ -19,10 +19,16 @@ use std::sync::Arc;
 use wq_view::View;
 
 /// A list of events that the publisher gave out, with its table. Contracts see the list.
-#[derive(Drop)]
 pub struct Told<N: Named> {
     shown: Shown,
     of: PhantomData<N>,
+}
+
+// A list is let go by one call, wherever a function gives up.
+impl<N: Named> Drop for Told<N> {
+    fn drop(self) {
+        let Told { shown: _, of: _ } = self;
+    }
 }
 
 impl<N: Named> Model for Told<N> {
@@ -72,6 +78,14 @@ impl<N: Named> Told<N> {
         ensures { result.now ≡ record { book = N.book; log = self.now } }
     {
         self.shown.log()
+    }
+
+    /// The value that is shown of the list.
+    fn into_shown(self) -> Shown
+        ensures { result ≡ record { book = N.book; log = self } }
+    {
+        let Told { shown, of: _ } = self;
+        shown
     }
 }
 
@@ -130,8 +144,7 @@ impl<N: Named> Seat<N> {
             told: before,
             of,
         } = self;
-        let Told { shown, of: _ } = told;
-        let told = ahead(&saw, longest(before, shown));
+        let told = ahead(&saw, longest(before, told.into_shown()));
         Seat {
             reader,
             saw,

@@ -6,9 +6,7 @@ ghost use Rattle.wq_live.specs.declared.event.RootEvent.{RootEvent};
 ghost use Rattle.wq_live.specs.declared.event.RootEvent.TheVariants.{Ended, Passed};
 ghost use Rattle.wq_view.specs.History.{History, last_stats};
 ghost use Rattle.wq_record.specs.Limit.{max_tick};
-ghost use Rattle.wq_view.specs.View.{IsViewOf, ViewData};
-ghost use Rattle.wq_record.specs.Seen.{is_count};
-ghost use Rattle.wq_live.specs.Patched.{MakePass, pass_by};
+ghost use Rattle.wq_view.specs.View.{IsViewOf};
 ghost use Rattle.wq_live.specs.Event.{IsFull, first_history, is_shown, number_of, passes_over, start_events};
 ghost use Rattle.wq_live.specs.Table.{IsFullTable, IsNews, IsNoNews, IsStarted, IsTableOf, WantsForTicks, has_number, number_by_text, root_by_text, with_view, without};
 
@@ -18,7 +16,7 @@ use std::marker::Model;
 use std::sync::Arc;
 use thiserror::Error;
 use wq_base::{MAX_NUMBER, MAX_ROOTS, Text};
-use wq_view::{Pass, Patch, View, ViewFault, history_has_one_view};
+use wq_view::{Change, Pass, View, ViewFault};
 
 /// The reason for which a root is not started. The fault leaves the table as it was.
 #[derive(Clone, Copy, Debug, PartialEq, Eq, Drop, Error)]
@@ -267,45 +265,37 @@ impl RootTable {
         ensures spent { (events : List RootEvent) → IsTableOf events self.now
             → ((result ≡ Err ViewFault.TicksSpent) ↔ WantsForTicks events number pass.now) }
     {
-        let Some(root) = self.root_of_number(number) else {
-            return Ok(None);
-        };
-        let Some(view) = root.view.after(pass)? else {
-            return Ok(None);
-        };
-        Ok(Some(self.with_view(number, view)?))
+        match self.root_of_number(number) {
+            Some(root) => self.with_change(number, &pass.over(&root.view)),
+            None => Ok(None),
+        }
     }
 
-    /// The table after a pass at this second over the root of this number, whose rows differ by these patches from the
-    /// root's view. The call answers as [`RootTable::with_pass`] does.
-    pub fn with_patches(
+    /// The table after a pass over the root of this number, which has the view that the pass differs from. The call
+    /// answers as [`RootTable::with_pass`] does.
+    pub fn with_change(
         &self,
         number: u64,
-        patches: &[Patch],
-        second: i64,
+        change: &Change<'_>,
     ) -> Result<Option<RootTable>, ViewFault>
-        requires fit { IfSome (find (has_number number) self.now.roots)
-            (λ root. MakePass root.view.records patches.now) }
-        requires second { IsTrue (is_count second) }
+        requires { IfSome (find (has_number number) self.now.roots)
+            (λ root. (change.now).base ≡ root.view) }
         ensures passed { (events : List RootEvent) → IsTableOf events self.now
-            → (view : ViewData) → IsViewOf (passes_over number events) view
             → IfOk result (λ next. MatchOption next
-            (IsNoNews events number (pass_by view.records patches.now second))
-            (λ table. IsNews events number (pass_by view.records patches.now second) × IsTableOf
-            (events ++ Passed number (pass_by view.records patches.now second) ∷ []) table)) }
+            (IsNoNews events number (change.now).pass)
+            (λ table. IsNews events number (change.now).pass
+            × IsTableOf (events ++ Passed number (change.now).pass ∷ []) table)) }
         ensures room { (events : List RootEvent) → IsTableOf events self.now
             → IfOk result (λ next.
             IfSome next (λ _. length (passes_over number events) < max_tick)) }
         ensures spent { (events : List RootEvent) → IsTableOf events self.now
-            → (view : ViewData) → IsViewOf (passes_over number events) view
             → ((result ≡ Err ViewFault.TicksSpent)
-            ↔ WantsForTicks events number (pass_by view.records patches.now second)) }
+            ↔ WantsForTicks events number (change.now).pass) }
     {
-        history_has_one_view();
         let Some(root) = self.root_of_number(number) else {
             return Ok(None);
         };
-        let Some(view) = root.view.after_patches(patches, second)? else {
+        let Some(view) = root.view.after(change)? else {
             return Ok(None);
         };
         Ok(Some(self.with_view(number, view)?))

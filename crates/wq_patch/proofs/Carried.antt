@@ -4,7 +4,7 @@ use Rattle.std.proofs.lemmas.List.{drop-drop, take-append-drop}
 use Rattle.wq_record.specs.RecordData.{RecordData}
 use Rattle.wq_record.specs.Seen.{SeenData}
 use Rattle.wq_view.specs.SeenRows.{seen_rows}
-use Rattle.wq_patch.specs.PatchMaker.{records_after, rows_before}
+use Rattle.wq_patch.specs.PatchMaker.{records_behind, rows_before}
 use Rattle.wq_view.specs.Patch.{patched}
 use Rattle.wq_view.specs.declared.patch.Patch.{Patch}
 use Rattle.wq_patch.proofs.Joining.{patched_parts}
@@ -26,9 +26,9 @@ plain_carried records kept p ps replaced rows =
 
 -- a patch that changes something, with the records that were kept before it
 pub changed_carried : (records : List RecordData) (fewer : List Patch) (kept : ℕ) (p q : Patch) (ps : List Patch) → q.kept ≡ kept + p.kept → q.replaced ≡ p.replaced → q.rows.items ≡ p.rows.items
-    → rows_before records (fewer ++ (q ∷ [])) ++ carried 0 (records_after records (fewer ++ (q ∷ []))) ps ≡ rows_before records fewer ++ carried kept (records_after records fewer) (p ∷ ps)
+    → rows_before records (fewer ++ (q ∷ [])) ++ carried 0 (records_behind records (fewer ++ (q ∷ []))) ps ≡ rows_before records fewer ++ carried kept (records_behind records fewer) (p ∷ ps)
 changed_carried records fewer kept p q ps keeps replaces rows =
-    let left = records_after records fewer in
+    let left = records_behind records fewer in
     let before = rows_before records fewer in
     let front = seen_rows (take kept left) in
     let more = seen_rows (take p.kept (drop kept left)) in
@@ -40,8 +40,8 @@ changed_carried records fewer kept p q ps keeps replaces rows =
     ∙ ap (λ rs. before ++ rs) (append_assoc (front ++ more) p.rows.items back ∙ append_assoc front more (p.rows.items ++ back))
 
 -- no patch is left
-pub ended : (records : List RecordData) (fewer : List Patch) (kept : ℕ) → patched records fewer ≡ rows_before records fewer ++ carried kept (records_after records fewer) []
+pub ended : (records : List RecordData) (fewer : List Patch) (kept : ℕ) → patched records fewer ≡ rows_before records fewer ++ carried kept (records_behind records fewer) []
 ended records fewer kept =
-    let left = records_after records fewer in
+    let left = records_behind records fewer in
     patched_parts records fewer
     ∙ ap (λ rs. rows_before records fewer ++ rs) (ap seen_rows (sym (take-append-drop kept left)) ∙ seen-append (take kept left) (drop kept left))

@@ -2,3 +2,4 @@ mod PatchRuns
 mod Passed
 mod Joining
 mod Carried
+mod AmongNames

@@ -4,7 +4,7 @@ use Rattle.std.proofs.lemmas.List.{append-nil, drop-drop, length-drop, take-appe
 use Rattle.wq_record.specs.RecordData.{RecordData}
 use Rattle.wq_record.specs.Seen.{SeenData}
 use Rattle.wq_view.specs.SeenRows.{seen_rows}
-use Rattle.wq_patch.specs.PatchMaker.{AreWithin, IsSamePiece, IsWithin, patches_made, records_after, records_to_come, rows_before, rows_made}
+use Rattle.wq_patch.specs.PatchMaker.{AreInside, IsSamePiece, IsWithin, patches_made, records_behind, records_to_come, rows_before, rows_made}
 use Rattle.wq_view.specs.declared.patch.Patch.{Patch}
 use Rattle.wq_patch.specs.declared.patch_maker.PatchMaker.{PatchMaker}
 use Rattle.wq_view.proofs.SeenAgain.{seen-append, seen_later}
@@ -13,24 +13,24 @@ pub regroup : {X : Type 0} (s q b t : List X) → s ++ (q ++ (b ++ t)) ≡ (s ++
 regroup s q b t = sym (append_assoc s (q ++ b) t ∙ ap (λ r. s ++ r) (append_assoc q b t))
 
 -- one patch more: the rows up to its end
-pub rows_more : (records : List RecordData) (ps : List Patch) (p : Patch) → rows_before records (ps ++ (p ∷ [])) ≡ rows_before records ps ++ (seen_rows (take p.kept (records_after records ps)) ++ p.rows.items)
+pub rows_more : (records : List RecordData) (ps : List Patch) (p : Patch) → rows_before records (ps ++ (p ∷ [])) ≡ rows_before records ps ++ (seen_rows (take p.kept (records_behind records ps)) ++ p.rows.items)
 rows_more records [] p = ap (λ rows. seen_rows (take p.kept records) ++ rows) (append-nil p.rows.items)
 rows_more records (q ∷ ps) p =
     let later = drop q.replaced (drop q.kept records) in
     ap (λ rows. seen_rows (take q.kept records) ++ (q.rows.items ++ rows)) (rows_more later ps p)
-    ∙ regroup (seen_rows (take q.kept records)) q.rows.items (rows_before later ps) (seen_rows (take p.kept (records_after later ps)) ++ p.rows.items)
+    ∙ regroup (seen_rows (take q.kept records)) q.rows.items (rows_before later ps) (seen_rows (take p.kept (records_behind later ps)) ++ p.rows.items)
 
 -- the records after it
-pub after_more : (records : List RecordData) (ps : List Patch) (p : Patch) → records_after records (ps ++ (p ∷ [])) ≡ drop p.replaced (drop p.kept (records_after records ps))
+pub after_more : (records : List RecordData) (ps : List Patch) (p : Patch) → records_behind records (ps ++ (p ∷ [])) ≡ drop p.replaced (drop p.kept (records_behind records ps))
 after_more records [] p = refl
 after_more records (q ∷ ps) p = after_more (drop q.replaced (drop q.kept records)) ps p
 
 -- its records are there
-pub within_more : (records : List RecordData) (ps : List Patch) (p : Patch) → AreWithin records ps → p.kept + p.replaced ≤ length (records_after records ps) → AreWithin records (ps ++ (p ∷ []))
+pub within_more : (records : List RecordData) (ps : List Patch) (p : Patch) → AreInside records ps → p.kept + p.replaced ≤ length (records_behind records ps) → AreInside records (ps ++ (p ∷ []))
 within_more records [] p are is = (is, tt)
 within_more records (q ∷ ps) p are is = (are.0, within_more (drop q.replaced (drop q.kept records)) ps p are.1 is)
 
-pub within_parts : (records : List RecordData) (ps : List Patch) (p : Patch) → AreWithin records (ps ++ (p ∷ [])) → AreWithin records ps × (p.kept + p.replaced ≤ length (records_after records ps))
+pub within_parts : (records : List RecordData) (ps : List Patch) (p : Patch) → AreInside records (ps ++ (p ∷ [])) → AreInside records ps × (p.kept + p.replaced ≤ length (records_behind records ps))
 within_parts records [] p are = (tt, are.0)
 within_parts records (q ∷ ps) p are =
     let rest = within_parts (drop q.replaced (drop q.kept records)) ps p are.1 in
@@ -38,29 +38,29 @@ within_parts records (q ∷ ps) p are =
 
 -- the rows up to the end of the open patch
 abbrev rows_at : List RecordData → List Patch → ℕ → List SeenData → List SeenData
-rows_at records done kept rows = rows_before records done ++ (seen_rows (take kept (records_after records done)) ++ rows)
+rows_at records done kept rows = rows_before records done ++ (seen_rows (take kept (records_behind records done)) ++ rows)
 
 -- the records after it
 abbrev left_at : List RecordData → List Patch → ℕ → ℕ → List RecordData
-left_at records done kept replaced = drop replaced (drop kept (records_after records done))
+left_at records done kept replaced = drop replaced (drop kept (records_behind records done))
 
 rows_open : (records : List RecordData) (made : PatchMaker) → made.tail ≡ 0 → rows_made records made ≡ rows_at records made.done.items made.last.kept made.last.rows.items
 unfolding rows_made
 rows_open records made is =
-    ap (λ t. rows_before records (patches_made made) ++ seen_rows (take t (records_after records (patches_made made)))) is
+    ap (λ t. rows_before records (patches_made made) ++ seen_rows (take t (records_behind records (patches_made made)))) is
     ∙ append-nil (rows_before records (patches_made made))
     ∙ rows_more records made.done.items made.last
 
 left_open : (records : List RecordData) (made : PatchMaker) → made.tail ≡ 0 → records_to_come records made ≡ left_at records made.done.items made.last.kept made.last.replaced
 unfolding records_to_come
 left_open records made is =
-    ap (λ t. drop t (records_after records (patches_made made))) is ∙ after_more records made.done.items made.last
+    ap (λ t. drop t (records_behind records (patches_made made))) is ∙ after_more records made.done.items made.last
 
-within_open : (records : List RecordData) (made : PatchMaker) → IsWithin records made → AreWithin records made.done.items × (made.last.kept + made.last.replaced ≤ length (records_after records made.done.items))
+within_open : (records : List RecordData) (made : PatchMaker) → IsWithin records made → AreInside records made.done.items × (made.last.kept + made.last.replaced ≤ length (records_behind records made.done.items))
 unfolding IsWithin
 within_open records made are = within_parts records made.done.items made.last are.0
 
-open_within : (records : List RecordData) (made : PatchMaker) → made.tail ≡ 0 → AreWithin records made.done.items → made.last.kept + made.last.replaced ≤ length (records_after records made.done.items) → IsWithin records made
+open_within : (records : List RecordData) (made : PatchMaker) → made.tail ≡ 0 → AreInside records made.done.items → made.last.kept + made.last.replaced ≤ length (records_behind records made.done.items) → IsWithin records made
 unfolding IsWithin
 open_within records made is are fits = (within_more records made.done.items made.last are fits, omega (arith, is))
 
@@ -70,8 +70,8 @@ pub kept_rows : (records : List RecordData) (made next : PatchMaker) (count : �
 unfolding rows_made records_to_come
 kept_rows records made next count done last tail =
     let ps = patches_made made in
-    let after = records_after records ps in
-    (λ j. rows_before records (done j ++ (last j ∷ [])) ++ seen_rows (take (tail j) (records_after records (done j ++ (last j ∷ [])))))
+    let after = records_behind records ps in
+    (λ j. rows_before records (done j ++ (last j ∷ [])) ++ seen_rows (take (tail j) (records_behind records (done j ++ (last j ∷ [])))))
     ∙ ap (λ rows. rows_before records ps ++ rows) (seen_later after made.tail count)
     ∙ sym (append_assoc (rows_before records ps) (seen_rows (take made.tail after)) (seen_rows (take count (drop made.tail after))))
 
@@ -79,26 +79,26 @@ pub kept_left : (records : List RecordData) (made next : PatchMaker) (count : �
     → records_to_come records next ≡ drop count (records_to_come records made)
 unfolding records_to_come
 kept_left records made next count done last tail =
-    (λ j. drop (tail j) (records_after records (done j ++ (last j ∷ []))))
-    ∙ sym (drop-drop count made.tail (records_after records (patches_made made)))
+    (λ j. drop (tail j) (records_behind records (done j ++ (last j ∷ []))))
+    ∙ sym (drop-drop count made.tail (records_behind records (patches_made made)))
 
 pub kept_within : (records : List RecordData) (made next : PatchMaker) (count : ℕ) → next.done.items ≡ made.done.items → next.last ≡ made.last → next.tail ≡ made.tail + count
     → IsWithin records made → count ≤ length (records_to_come records made) → IsWithin records next
 unfolding IsWithin records_to_come
 kept_within records made next count done last tail are there =
-    let after = records_after records (patches_made made) in
+    let after = records_behind records (patches_made made) in
     let sum : made.tail + count ≤ length after = omega (arith, are.1, there, length-drop made.tail after) in
-    subst (λ t. AreWithin records (patches_made next) × (t ≤ length (records_after records (patches_made next)))) (sym tail)
-    (subst (λ ps. AreWithin records ps × (made.tail + count ≤ length (records_after records ps))) (λ j. sym done j ++ (sym last j ∷ [])) (are.0, sum))
+    subst (λ t. AreInside records (patches_made next) × (t ≤ length (records_behind records (patches_made next)))) (sym tail)
+    (subst (λ ps. AreInside records ps × (made.tail + count ≤ length (records_behind records ps))) (λ j. sym done j ++ (sym last j ∷ [])) (are.0, sum))
 
 -- nothing changed
 pub same_piece : (made next : PatchMaker) → next.done.items ≡ made.done.items → next.last ≡ made.last → next.tail ≡ made.tail → IsSamePiece made next
 unfolding IsSamePiece rows_made records_to_come IsWithin
 same_piece made next done last tail records = (
-  (λ j. rows_before records (done j ++ (last j ∷ [])) ++ seen_rows (take (tail j) (records_after records (done j ++ (last j ∷ []))))),
-  (λ j. drop (tail j) (records_after records (done j ++ (last j ∷ [])))),
-  (λ are. subst (λ t. AreWithin records (patches_made next) × (t ≤ length (records_after records (patches_made next)))) (sym tail)
-      (subst (λ ps. AreWithin records ps × (made.tail ≤ length (records_after records ps))) (λ j. sym done j ++ (sym last j ∷ [])) are)),
+  (λ j. rows_before records (done j ++ (last j ∷ [])) ++ seen_rows (take (tail j) (records_behind records (done j ++ (last j ∷ []))))),
+  (λ j. drop (tail j) (records_behind records (done j ++ (last j ∷ [])))),
+  (λ are. subst (λ t. AreInside records (patches_made next) × (t ≤ length (records_behind records (patches_made next)))) (sym tail)
+      (subst (λ ps. AreInside records ps × (made.tail ≤ length (records_behind records ps))) (λ j. sym done j ++ (sym last j ∷ [])) are)),
 )
 
 -- a patch was begun
@@ -109,16 +109,16 @@ opened made next done kept replaced rows tail records = (at, left, within)
     at : rows_made records next ≡ rows_made records made
     at = rows_open records next tail
         ∙ (λ j. rows_at records (done j) (kept j) (rows j))
-        ∙ ap (λ back. rows_before records (patches_made made) ++ back) (append-nil (seen_rows (take made.tail (records_after records (patches_made made)))))
+        ∙ ap (λ back. rows_before records (patches_made made) ++ back) (append-nil (seen_rows (take made.tail (records_behind records (patches_made made)))))
 
     left : records_to_come records next ≡ records_to_come records made
     left = left_open records next tail ∙ (λ j. left_at records (done j) (kept j) (replaced j))
 
     within : IsWithin records made → IsWithin records next
     within are =
-        let fits : next.last.kept + next.last.replaced ≤ length (records_after records (patches_made made)) = omega (arith, kept, replaced, are.1) in
-        open_within records next tail (subst (AreWithin records) (sym done) are.0)
-        (subst (λ ps. next.last.kept + next.last.replaced ≤ length (records_after records ps)) (sym done) fits)
+        let fits : next.last.kept + next.last.replaced ≤ length (records_behind records (patches_made made)) = omega (arith, kept, replaced, are.1) in
+        open_within records next tail (subst (AreInside records) (sym done) are.0)
+        (subst (λ ps. next.last.kept + next.last.replaced ≤ length (records_behind records ps)) (sym done) fits)
 
 -- one record more is in the open patch
 pub covered_rows : (records : List RecordData) (made next : PatchMaker) → made.tail ≡ 0 → next.tail ≡ 0 → next.done.items ≡ made.done.items → next.last.kept ≡ made.last.kept → next.last.rows.items ≡ made.last.rows.items
@@ -130,25 +130,25 @@ pub covered_left : (records : List RecordData) (made next : PatchMaker) → made
     → records_to_come records next ≡ drop 1 (records_to_come records made)
 covered_left records made next before after done kept replaced =
     left_open records next after ∙ (λ j. left_at records (done j) (kept j) (replaced j))
-    ∙ sym (drop-drop 1 made.last.replaced (drop made.last.kept (records_after records made.done.items)))
+    ∙ sym (drop-drop 1 made.last.replaced (drop made.last.kept (records_behind records made.done.items)))
     ∙ ap (drop 1) (sym (left_open records made before))
 
 pub covered_within : (records : List RecordData) (made next : PatchMaker) → made.tail ≡ 0 → next.tail ≡ 0 → next.done.items ≡ made.done.items → next.last.kept ≡ made.last.kept → next.last.replaced ≡ made.last.replaced + 1
     → IsWithin records made → 1 ≤ length (records_to_come records made) → IsWithin records next
 covered_within records made next before after done kept replaced are there =
-    let begin = records_after records made.done.items in
+    let begin = records_behind records made.done.items in
     let parts = within_open records made are in
     let left : 1 ≤ length (drop made.last.replaced (drop made.last.kept begin)) = omega (arith, there, ap length (left_open records made before)) in
     let fits : next.last.kept + next.last.replaced ≤ length begin = omega (arith, kept, replaced, left, length-drop made.last.replaced (drop made.last.kept begin), length-drop made.last.kept begin) in
-    open_within records next after (subst (AreWithin records) (sym done) parts.0)
-    (subst (λ ps. next.last.kept + next.last.replaced ≤ length (records_after records ps)) (sym done) fits)
+    open_within records next after (subst (AreInside records) (sym done) parts.0)
+    (subst (λ ps. next.last.kept + next.last.replaced ≤ length (records_behind records ps)) (sym done) fits)
 
 -- rows more are in the open patch
 pub added_rows : (records : List RecordData) (made next : PatchMaker) (more : List SeenData) → made.tail ≡ 0 → next.tail ≡ 0 → next.done.items ≡ made.done.items → next.last.kept ≡ made.last.kept → next.last.rows.items ≡ made.last.rows.items ++ more
     → rows_made records next ≡ rows_made records made ++ more
 added_rows records made next more before after done kept rows =
     let front = rows_before records made.done.items in
-    let seen = seen_rows (take made.last.kept (records_after records made.done.items)) in
+    let seen = seen_rows (take made.last.kept (records_behind records made.done.items)) in
     rows_open records next after ∙ (λ j. rows_at records (done j) (kept j) (rows j))
     ∙ sym (append_assoc front (seen ++ made.last.rows.items) more ∙ ap (λ back. front ++ back) (append_assoc seen made.last.rows.items more))
     ∙ ap (λ xs. xs ++ more) (sym (rows_open records made before))
@@ -162,9 +162,9 @@ pub added_within : (records : List RecordData) (made next : PatchMaker) → made
     → IsWithin records made → IsWithin records next
 added_within records made next before after done kept replaced are =
     let parts = within_open records made are in
-    let fits : next.last.kept + next.last.replaced ≤ length (records_after records made.done.items) = omega (arith, kept, replaced, parts.1) in
-    open_within records next after (subst (AreWithin records) (sym done) parts.0)
-    (subst (λ ps. next.last.kept + next.last.replaced ≤ length (records_after records ps)) (sym done) fits)
+    let fits : next.last.kept + next.last.replaced ≤ length (records_behind records made.done.items) = omega (arith, kept, replaced, parts.1) in
+    open_within records next after (subst (AreInside records) (sym done) parts.0)
+    (subst (λ ps. next.last.kept + next.last.replaced ≤ length (records_behind records ps)) (sym done) fits)
 
 -- no patch changes anything, and no record is left
 pub plain : (made : PatchMaker) → made.done.items ≡ [] → made.last.replaced ≡ 0 → made.last.rows.items ≡ [] → (records : List RecordData) → records_to_come records made ≡ [] → rows_made records made ≡ seen_rows records
@@ -173,9 +173,9 @@ plain made done replaced rows records none =
     let kept = made.last.kept in
     let tail = made.tail in
     let back = drop kept records in
-    let left : drop tail back ≡ [] = (λ j. drop tail (drop (sym replaced j) back)) ∙ (λ j. drop tail (records_after records (sym done j ++ (made.last ∷ [])))) ∙ none in
+    let left : drop tail back ≡ [] = (λ j. drop tail (drop (sym replaced j) back)) ∙ (λ j. drop tail (records_behind records (sym done j ++ (made.last ∷ [])))) ∙ none in
     let whole : take tail back ≡ back = sym (append-nil (take tail back)) ∙ ap (λ r. take tail back ++ r) (sym left) ∙ take-append-drop tail back in
-    (λ j. rows_before records (done j ++ (made.last ∷ [])) ++ seen_rows (take tail (records_after records (done j ++ (made.last ∷ [])))))
+    (λ j. rows_before records (done j ++ (made.last ∷ [])) ++ seen_rows (take tail (records_behind records (done j ++ (made.last ∷ [])))))
     ∙ (λ j. (seen_rows (take kept records) ++ (rows j ++ [])) ++ seen_rows (take tail (drop (replaced j) back)))
     ∙ ap (λ front. front ++ seen_rows (take tail back)) (append-nil (seen_rows (take kept records)))
     ∙ ap (λ xs. seen_rows (take kept records) ++ seen_rows xs) whole
@@ -218,7 +218,7 @@ left_new made done kept replaced rows tail records = left_open records made tail
 
 pub within_new : (made : PatchMaker) → made.done.items ≡ [] → made.last.kept ≡ 0 → made.last.replaced ≡ 0 → made.last.rows.items ≡ [] → made.tail ≡ 0 → (records : List RecordData) → IsWithin records made
 within_new made done kept replaced rows tail records =
-    open_within records made tail (subst (AreWithin records) (sym done) tt) (omega (arith, kept, replaced))
+    open_within records made tail (subst (AreInside records) (sym done) tt) (omega (arith, kept, replaced))
 
 -- a list of no length
 pub none_of : {X : Type 0} (xs : List X) → length xs ≡ 0 → xs ≡ []

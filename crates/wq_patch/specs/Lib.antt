@@ -1,2 +1,5 @@
 pub mod Again
 pub mod PatchMaker
+pub mod Device
+pub mod Tree
+pub mod Recent

@@ -20,16 +20,16 @@ rows_before records (p ∷ ps) =
     ++ (p.rows.items ++ rows_before (drop p.replaced (drop p.kept records)) ps)
 
 -- the records after the last of these patches
-abbrev pub records_after : List RecordData → List Patch → List RecordData
-records_after records [] = records
-records_after records (p ∷ ps) = records_after (drop p.replaced (drop p.kept records)) ps
+abbrev pub records_behind : List RecordData → List Patch → List RecordData
+records_behind records [] = records
+records_behind records (p ∷ ps) = records_behind (drop p.replaced (drop p.kept records)) ps
 
 -- each of these patches is of records that are there
-abbrev pub AreWithin : List RecordData → List Patch → Type 0
-AreWithin records [] = Unit {0}
-AreWithin records (p ∷ ps) =
+abbrev pub AreInside : List RecordData → List Patch → Type 0
+AreInside records [] = Unit {0}
+AreInside records (p ∷ ps) =
     (p.kept + p.replaced ≤ length records)
-    × AreWithin (drop p.replaced (drop p.kept records)) ps
+    × AreInside (drop p.replaced (drop p.kept records)) ps
 
 -- all patches that are made, the open one last
 abbrev pub patches_made : PatchMaker → List Patch
@@ -39,17 +39,17 @@ patches_made made = made.done.items ++ (made.last ∷ [])
 unfoldable pub rows_made : List RecordData → PatchMaker → List SeenData
 rows_made records made =
     rows_before records (patches_made made)
-    ++ seen_rows (take made.tail (records_after records (patches_made made)))
+    ++ seen_rows (take made.tail (records_behind records (patches_made made)))
 
 -- the records that are not passed yet
 unfoldable pub records_to_come : List RecordData → PatchMaker → List RecordData
-records_to_come records made = drop made.tail (records_after records (patches_made made))
+records_to_come records made = drop made.tail (records_behind records (patches_made made))
 
 -- the records that the patches account for are there
 unfoldable pub IsWithin : List RecordData → PatchMaker → Type 0
 IsWithin records made =
-    AreWithin records (patches_made made)
-    × (made.tail ≤ length (records_after records (patches_made made)))
+    AreInside records (patches_made made)
+    × (made.tail ≤ length (records_behind records (patches_made made)))
 
 -- the patches of a piece are the same as before, whatever its records
 unfoldable pub IsSamePiece : PatchMaker → PatchMaker → Type 0
@@ -67,7 +67,7 @@ IsPut kept made before after =
 -- these patches are of records that are there, and so many records are after the last of them
 abbrev pub IsJoined : List RecordData → List Patch → ℕ → Type 0
 IsJoined records patches left =
-    AreWithin records patches × (left ≡ length (records_after records patches))
+    AreInside records patches × (left ≡ length (records_behind records patches))
 
 -- the patches of a piece with these records and these rows were joined to those of the records
 -- before it

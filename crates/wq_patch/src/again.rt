@@ -6,7 +6,7 @@ ghost use Rattle.wq_record.specs.Name.{is_valid_name};
 ghost use Rattle.wq_record.specs.Seen.{is_lawful_row};
 ghost use Rattle.wq_view.specs.SeenRows.{seen_row, seen_rows};
 ghost use Rattle.wq_view.specs.Limit.{max_listing_rows};
-ghost use Rattle.wq_patch.specs.PatchMaker.{IsJoinedTo, records_after, rows_before};
+ghost use Rattle.wq_patch.specs.PatchMaker.{IsJoinedTo, records_behind, rows_before};
 ghost use Rattle.wq_view.specs.Records.{records_left};
 
 use crate::patch_maker::PatchMaker;

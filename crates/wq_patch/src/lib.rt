@@ -1,5 +1,5 @@
-//! What a listing says of the files of a view whose records it has beside it: for files that are as their records say,
-//! no rows are made, and what differs becomes patches. The crate of walks lists files.
+//! Listings of the files below a root. A tree gives them: all rows, or what differs from the files of a view. For files
+//! that are as the view's records say, no rows are made, and what differs becomes patches. The crate of walks lists files.
 //!
 //! ```text
 //! let mut piece = Again::of(alloc, view.records(), view.len());
@@ -13,8 +13,12 @@
 mod again;
 mod patch_maker;
 mod patches;
+mod recent;
 mod rows;
+mod tree;
 
 pub use again::Again;
 pub use patches::{patched_rows, simplified};
+pub use recent::{Reach, Recent};
 pub use rows::existing_rows;
+pub use tree::{LeftOut, Listing, Tree, TreeFault};

@@ -1,11 +1,11 @@
 //! The patches of a listing, all together.
 ghost use Rattle.std.specs.Prelude.{◌≡◌, [], List, IfOk, IsTrue};
-ghost use Rattle.wq_patch.specs.PatchMaker.{records_after, rows_before};
+ghost use Rattle.wq_patch.specs.PatchMaker.{records_behind, rows_before};
 ghost use Rattle.wq_record.specs.RecordData.{RecordData};
 ghost use Rattle.wq_view.specs.Patch.{patched};
 ghost use Rattle.wq_view.specs.Records.{records_left};
 
-use crate::rows::{existing_rows, joined, push_seen, push_shared, with_seen};
+use crate::rows::{joined, push_seen, with_seen};
 use std::alloc::{AllocError, Global};
 use wq_record::Seen;
 use wq_view::{Patch, Records};
@@ -42,28 +42,18 @@ fn changes_nothing(patch: &Patch) -> bool
     patch.replaced == 0 && patch.rows.is_empty()
 }
 
-/// The rows of a listing that differs by these patches from the records. They share the names of the records and of the
-/// patches' rows.
+/// The rows of a listing that differs by these patches from the records. They share the names of the records.
 pub fn patched_rows(
     alloc: Global,
     records: Records<'_>,
-    patches: &[Patch],
+    patches: Vec<Patch>,
 ) -> Result<Vec<Seen>, AllocError>
     ensures { IfOk result (λ rows.
-        rows.items ≡ patched (records_left records.entry) patches.now) }
+        rows.items ≡ patched (records_left records.entry) patches.items) }
 {
-    let mut made = Vec::new(alloc);
-    let mut left = records;
-    let mut more = patches;
-    while let Some((patch, later)) = more.split_first() {
-        let mut kept = existing_rows(alloc, left, patch.kept)?;
-        made.append(&mut kept).map_err(AllocError::from)?;
-        push_shared(&mut made, &patch.rows)?;
-        left = left.after(patch.kept).after(patch.replaced);
-        more = later;
-    }
-    push_seen(&mut made, left)?;
-    Ok(made)
+    let (mut rows, left) = rows_with(alloc, records, patches)?;
+    push_seen(&mut rows, left)?;
+    Ok(rows)
 }
 
 /// The rows up to the end of the last of these patches of records, and the records after it.
@@ -75,7 +65,7 @@ pub(crate) fn rows_with(
     ensures rows { IfOk result (λ it.
         it.0.items ≡ rows_before (records_left records.entry) patches.items) }
     ensures left { IfOk result (λ it.
-        records_left it.1 ≡ records_after (records_left records.entry) patches.items) }
+        records_left it.1 ≡ records_behind (records_left records.entry) patches.items) }
 {
     let mut rows = Vec::new(alloc);
     let mut left = records;

@@ -73,21 +73,6 @@ pub(crate) fn joined(mut first: Vec<Seen>, mut rest: Vec<Seen>) -> Result<Vec<Se
     Ok(first)
 }
 
-/// Adds rows that share the names of these.
-pub(crate) fn push_shared(rows: &mut Vec<Seen>, others: &[Seen]) -> Result<(), AllocError>
-    ensures { OnOk result (rows.new.items ≡ rows.old.items ++ others.now) }
-{
-    for row in others {
-        rows.push(Seen {
-            name: row.name.copy()?,
-            kind: row.kind,
-            size: row.size,
-            mtime_ms: row.mtime_ms,
-        })?;
-    }
-    Ok(())
-}
-
 /// Adds the rows of the files that exist by these records.
 pub(crate) fn push_seen(rows: &mut Vec<Seen>, records: Records<'_>) -> Result<(), AllocError>
     ensures { OnOk result (rows.new.items

@@ -24,7 +24,6 @@ pub enum QuerySince {
 
 /// A client's question to a view: which files it wants, which fields of each, and what it wants of
 /// the list.
-#[derive(Drop)]
 pub struct Query {
     pub(crate) expr: Expr,
     /// The name of the program that says which files match, in place of the expression.
@@ -52,6 +51,20 @@ pub struct QueryParts {
     pub generators: Generators,
     /// Its options, by the keys that are tested last.
     pub options: Options,
+}
+
+// A query is freed by one call, wherever a function gives up.
+impl Drop for Query {
+    fn drop(self) {
+        let Query {
+            expr: _,
+            program: _,
+            fields: _,
+            since: _,
+            generators: _,
+            options: _,
+        } = self;
+    }
 }
 
 impl Query {

@@ -12,7 +12,7 @@ use Rattle.wq_registry.specs.ByName.{under}
 use Rattle.wq_registry.specs.Change.{later}
 use Rattle.wq_registry.specs.History.{adds_root, after_all}
 use Rattle.wq_registry.specs.Shelf.{blank, triggers_of}
-use Rattle.wq_ask.specs.Need.{need_of}
+use Rattle.wq_session.specs.Need.{need_of}
 use Rattle.wq_session.specs.Out.{OutData}
 use Rattle.wq_ask.specs.declared.ask.Ask.{Ask}
 use Rattle.wq_session.specs.Accepted.{AnswersAreCalls, CallNow}

@@ -18,7 +18,7 @@ use Rattle.wq_session.specs.Desk.{Replies}
 use Rattle.wq_session.proofs.Held.{shown_answer}
 use Rattle.wq_live.specs.declared.event.RootEvent.{RootEvent}
 use Rattle.wq_crawl.specs.declared.fault.CrawlFault.TheVariants.{NoMemory}
-use Rattle.wq_ask.specs.Need.{need_of}
+use Rattle.wq_session.specs.Need.{need_of}
 use Rattle.wq_session.specs.Out.{OutData}
 use Rattle.wq_ask.specs.declared.ask.Ask.{Ask}
 use Rattle.wq_session.specs.Round.{IsRound, RoundsAreCalls, turn_calls}

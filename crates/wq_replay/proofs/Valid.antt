@@ -7,7 +7,7 @@ use Rattle.wq_registry.specs.ByName.{under}
 use Rattle.wq_registry.specs.History.{AddsOne, adds_root}
 use Rattle.wq_registry.proofs.Added.{programs_were_added}
 use Rattle.wq_ask.specs.HandedIn.{AsksHandInValid, HandsInValid}
-use Rattle.wq_ask.specs.Need.{need_of}
+use Rattle.wq_session.specs.Need.{need_of}
 use Rattle.wq_session.specs.Out.{OutData}
 use Rattle.wq_ask.specs.declared.ask.Ask.{Ask}
 use Rattle.wq_ask.specs.declared.ask.Ask.TheVariants.{OfShelf}

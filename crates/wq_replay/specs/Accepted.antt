@@ -7,7 +7,7 @@ use Rattle.wq_live.specs.Table.{RootView, TableData, IsTableOf, root_by_text}
 use Rattle.wq_registry.specs.History.{adds_root, after_all}
 use Rattle.wq_registry.specs.Shelf.{blank}
 use Rattle.wq_session.specs.Out.{MayRefuse, OutData}
-use Rattle.wq_ask.specs.Need.{need_of}
+use Rattle.wq_session.specs.Need.{need_of}
 use Rattle.wq_ask.specs.declared.ask.Ask.{Ask}
 use Rattle.wq_session.specs.Accepted.{CallNow, Accepts}
 use Rattle.wq_session.specs.Crawl.{crawl_refusal}

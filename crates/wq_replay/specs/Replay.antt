@@ -11,7 +11,7 @@ use Rattle.wq_base.specs.Writing.{WritesFront}
 use Rattle.wq_stream.specs.declared.event.Event.{Event}
 use Rattle.wq_live.specs.Event.{IsLawfulList}
 use Rattle.wq_crawl.specs.Need.{NeedData, crawl as crawl_of, watch as watch_of}
-use Rattle.wq_ask.specs.Need.{need_of}
+use Rattle.wq_session.specs.Need.{need_of}
 use Rattle.wq_ask.specs.Reading.{Asks}
 use Rattle.wq_ask.specs.declared.ask.Ask.{Ask}
 use Rattle.wq_crawl.specs.declared.fault.CrawlFault.{CrawlFault}

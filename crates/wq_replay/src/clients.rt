@@ -4,7 +4,7 @@ ghost use Rattle.std.specs.Prelude.{length, map, option_map, position, vec_capac
 ghost use Rattle.std.specs.List.{insert};
 ghost use Rattle.wq_follow.specs.Followed.{subscription_data};
 ghost use Rattle.wq_follow.specs.Subscription.{SubscriptionData};
-ghost use Rattle.wq_ask.specs.Need.{need_of};
+ghost use Rattle.wq_session.specs.Need.{need_of};
 ghost use Rattle.wq_crawl.specs.At.{at_data};
 ghost use Rattle.wq_session.specs.Desk.{stand};
 ghost use Rattle.wq_session.specs.Followed.{follows_of};

@@ -2,7 +2,7 @@
 //! then itself. Other lines bring idle moments, a round of triggers, or the end of a run. `world` lets
 //! them happen.
 ghost use Rattle.std.specs.Prelude.{◌≡◌, ◌++◌, ◌∷◌, [], IfOk, map, option_to_list};
-ghost use Rattle.wq_ask.specs.Need.{need_of};
+ghost use Rattle.wq_session.specs.Need.{need_of};
 ghost use Rattle.wq_crawl.specs.Need.{need_data};
 ghost use Rattle.wq_replay.specs.Replay.{end_if, listed_root, needed, rounds};
 ghost use Rattle.wq_replay.specs.Stands.{crawl_data, happening_data};
@@ -14,6 +14,7 @@ use std::alloc::{AllocError, Global};
 use wq_ask::Ask;
 use wq_base::Text;
 use wq_crawl::{CrawlFault, Need};
+use wq_session::need_of;
 use wq_view::Pass;
 
 /// The happenings if a client asks this while `/r` lists that.
@@ -26,11 +27,24 @@ pub(crate) fn happenings(
     ensures { IfOk result (λ all. map happening_data all.items
         ≡ needed tree.now (need_of ask) ++ asked client ask ∷ []) }
 {
+    let mut happenings = before(alloc, tree, need_of(&ask))?;
+    happenings.push(Happening::Asked { client, ask })?;
+    Ok(happenings)
+}
+
+/// The crawl or the watching that an ask needs, if it needs one, in a list with room for the ask.
+fn before<'a>(
+    alloc: Global,
+    tree: &'a Pass,
+    need: Need<'_>,
+) -> Result<Vec<Happening<'a>>, AllocError>
+    ensures { IfOk result (λ all. map happening_data all.items
+        ≡ needed tree.now (need_data need.entry)) }
+{
     let mut happenings = Vec::with_capacity(alloc, 2)?;
-    if let Some(first) = needed(alloc, tree, ask.need())? {
+    if let Some(first) = needed(alloc, tree, need)? {
         happenings.push(first)?;
     }
-    happenings.push(Happening::Asked { client, ask })?;
     Ok(happenings)
 }
 

@@ -9,7 +9,6 @@ ghost use Rattle.wq_record.specs.RecordData.{RecordData};
 use crate::crew::{Alone, Crew};
 use std::alloc::{AllocError, Global};
 use std::sync::Arc;
-use wq_base::Stays;
 use wq_clock::Bound;
 use wq_gen::candidates;
 use wq_term::Generators;
@@ -44,7 +43,7 @@ impl Ahead {
             path: None,
             glob: None,
         };
-        let positions = candidates(alloc, &Stays {}, view, &changed)?;
+        let positions = candidates(alloc, view, &changed)?;
         let kept = kept(&Alone {}, alloc, &program, view, &positions, None)?;
         Ok(Ahead {
             program,

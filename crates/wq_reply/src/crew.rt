@@ -1,5 +1,5 @@
 //! The crew that finds the files of a query and prints its reply: the thread that asks alone, or several threads.
-ghost use Rattle.std.specs.Prelude.{◌≡◌, ◌<◌, ◌≤◌, All, IfOk, filter, length};
+ghost use Rattle.std.specs.Prelude.{◌≡◌, ◌<◌, ◌≤◌, All, IfOk, MatchResult, Ok, filter, is_err, length, true};
 ghost use Rattle.wq_base.specs.Limit.{AreFew};
 ghost use Rattle.wq_eval.specs.Answer.{says_yes};
 ghost use Rattle.wq_gen.specs.Candidate.{is_candidate};
@@ -11,15 +11,15 @@ ghost use Rattle.wq_view.specs.Position.{passes_at, positions_of};
 use crate::rows::{Printed, Rows, print_pieces};
 use std::alloc::{AllocError, Global};
 use std::thread::Threads;
-use wq_base::{Asker, Stays, Workers};
-use wq_eval::{OpenGate, filter, filter_workers};
-use wq_gen::candidates;
+use wq_base::{Asker, Unanswered, Workers};
+use wq_eval::{OpenGate, filter, filter_for, filter_workers_for};
+use wq_gen::{candidates, candidates_for};
 use wq_term::Generators;
 use wq_verify::Program;
 use wq_view::View;
 
 /// How many candidates a piece has.
-const PIECE: u32 = 1024;
+pub(crate) const PIECE: u32 = 1024;
 
 /// A query uses several threads only if there are so many candidates or more.
 const MIN_FOR_WORKERS: usize = 16384;
@@ -85,7 +85,7 @@ impl Crew for Alone {
         view: &View,
         generators: &Generators,
     ) -> Result<Vec<u32>, AllocError> {
-        candidates(alloc, &Stays {}, view, generators)
+        candidates(alloc, view, generators)
     }
 
     fn filter(
@@ -95,7 +95,7 @@ impl Crew for Alone {
         view: &View,
         positions: &[u32],
     ) -> Result<Vec<u32>, AllocError> {
-        filter(alloc, &Stays {}, program, view, positions)
+        filter(alloc, program, view, positions)
     }
 
     fn prints_later(&self, _files: usize) -> bool {
@@ -153,7 +153,7 @@ impl<R: Threads, A: Asker> Crew for Several<'_, R, A> {
         view: &View,
         generators: &Generators,
     ) -> Result<Vec<u32>, AllocError> {
-        candidates(alloc, self.asker, view, generators)
+        found(candidates_for(alloc, self.asker, view, generators))
     }
 
     fn filter(
@@ -165,9 +165,9 @@ impl<R: Threads, A: Asker> Crew for Several<'_, R, A> {
     ) -> Result<Vec<u32>, AllocError> {
         let count = self.count_for(positions.len());
         if count == 1 {
-            return filter(alloc, self.asker, program, view, positions);
+            return found(filter_for(alloc, self.asker, program, view, positions));
         }
-        filter_workers(
+        found(filter_workers_for(
             self.rt,
             alloc,
             &OpenGate {},
@@ -177,7 +177,7 @@ impl<R: Threads, A: Asker> Crew for Several<'_, R, A> {
             program,
             view,
             positions,
-        )
+        ))
     }
 
     fn prints_later(&self, files: usize) -> bool {
@@ -202,5 +202,15 @@ impl<R: Threads, A: Asker> Crew for Several<'_, R, A> {
             Ok(printed) => printed,
             Err(_) => Vec::new(alloc),
         }
+    }
+}
+
+/// What a search found. Nobody reads the reply of an asker that has gone, so it may say that memory ran out.
+fn found(searched: Result<Vec<u32>, Unanswered>) -> Result<Vec<u32>, AllocError>
+    ensures { MatchResult searched (λ places. result ≡ Ok places) (λ _. is_err result ≡ true) }
+{
+    match searched {
+        Ok(places) => Ok(places),
+        Err(_) => Err(AllocError),
     }
 }

@@ -5,6 +5,7 @@
 mod ahead;
 mod crew;
 mod form;
+mod gated;
 mod law;
 mod list_text;
 mod listing;
@@ -15,6 +16,8 @@ mod reply;
 mod room;
 mod row_writer;
 mod rows;
+mod values;
+mod whole;
 
 pub use ahead::Ahead;
 pub use crew::{Alone, Crew, Several};
@@ -24,3 +27,4 @@ pub use long::LongReply;
 pub use plan::Plan;
 pub use reply::{ReplyText, answer_text};
 pub use rows::{Printed, Rows};
+pub use whole::{answer, answer_bytes, answer_workers};

@@ -43,7 +43,7 @@ pub(crate) fn listed<C: Crew>(
 /// The places of the files that pass the plan's filter, even if the plan is to list nothing. `places`
 /// are those of the files that match.
 #[tactic(auto, using(crate::proofs::Places::places_existing, crate::proofs::Places::places_listed))]
-fn listed_places(
+pub(crate) fn listed_places(
     alloc: Global,
     plan: &Plan,
     view: &View,
@@ -78,7 +78,7 @@ fn matching<C: Crew>(
 }
 
 /// The places of the plan's candidates.
-fn candidates_of<C: Crew>(
+pub(crate) fn candidates_of<C: Crew>(
     crew: &C,
     alloc: Global,
     plan: &Plan,

@@ -20,7 +20,6 @@ use wq_view::View;
 /// A query with the bound from which its files are candidates, and the program that says which of
 /// them match. That is the one of the query's name, or one that answers the meaning of its
 /// expression within the steps of its measure.
-#[derive(Drop)]
 pub struct Plan {
     /// The query's expression, as contracts see it. A snapshot takes no memory.
     pub(crate) expr: Snapshot<Expr>,
@@ -37,6 +36,22 @@ pub struct Plan {
     ghost from: { generators.since ≡ Some bound },
     ghost meaning: { program_name.value ≡ None → SaysMeaning program.value (term_of expr.value) },
     ghost cost: { program_name.value ≡ None → KeepsMeasure program.value (term_of expr.value) },
+}
+
+// A plan is let go by one call, wherever a function gives up.
+impl Drop for Plan {
+    fn drop(self) {
+        let Plan {
+            expr: _,
+            program_name: _,
+            since: _,
+            fields: _,
+            generators: _,
+            options: _,
+            bound: _,
+            program: _,
+        } = self;
+    }
 }
 
 impl Plan {

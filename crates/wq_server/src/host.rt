@@ -9,8 +9,9 @@ use std::sync::Arc;
 use std::thread::Threads;
 use std::time::Duration;
 use wq_base::Asker;
-use wq_crawl::{Caller, Reach};
+use wq_crawl::Caller;
 use wq_launch::{Runs, StartedCommand};
+use wq_patch::Reach;
 use wq_stream::Inbox;
 
 /// The work of a crawl.

@@ -3,7 +3,7 @@
 
 use serde_json::Value;
 use std::alloc::{AllocError, Global};
-use wq_crawl::LeftOut;
+use wq_patch::LeftOut;
 
 /// A walk that took long.
 pub(crate) fn slow_line(alloc: Global, root: &str, seconds: u64) -> Result<String, AllocError> {

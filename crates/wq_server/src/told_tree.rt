@@ -9,8 +9,8 @@ use std::io;
 use std::sync::Arc;
 use std::time::{Clock, Instant};
 use wq_base::MAX_ROOTS;
-use wq_crawl::{LeftOut, Listing, Recent, Tree, TreeFault};
 use wq_launch::Notices;
+use wq_patch::{LeftOut, Listing, Recent, Tree, TreeFault};
 use wq_view::{Seen, View};
 
 /// The server tells its operator of a listing that took this many seconds.

@@ -5,7 +5,7 @@ use crate::pace::Pace;
 use crate::times::Took;
 use std::alloc::{AllocError, Global};
 use std::time::{Clock, Duration, Instant};
-use wq_crawl::Reach;
+use wq_patch::Reach;
 
 /// The last walk of a root.
 #[derive(Drop)]

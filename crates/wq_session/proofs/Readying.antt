@@ -5,7 +5,7 @@ use Rattle.wq_follow.specs.Subscription.{SubscriptionData}
 use Rattle.wq_registry.specs.Shelf.{blank}
 use Rattle.wq_session.specs.Out.{MayRefuse, OutData, runs_out}
 use Rattle.wq_crawl.specs.Need.{NeedData}
-use Rattle.wq_ask.specs.Need.{need_of}
+use Rattle.wq_session.specs.Need.{need_of}
 use Rattle.wq_ask.specs.declared.ask.Ask.{Ask}
 use Rattle.wq_ask.specs.declared.ask.Ask.TheVariants.{Alone, OfRoot, OfShelf, Unwatch, Watch}
 use Rattle.wq_ask.specs.declared.refusal.Refusal.TheVariants.{NoMemory}

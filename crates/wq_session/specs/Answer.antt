@@ -4,6 +4,7 @@
 use Rattle.std.specs.Prelude.{◌≡◌, ◌⊎◌, ℕ, true, is_some, List, Option, Some, None}
 use Rattle.std.specs.Prelude.{if◌then◌else◌}
 use Rattle.std.specs.Option.{option_map_or}
+use Rattle.wq_clock.specs.ClockText.{clock_text}
 use Rattle.wq_clock.specs.Instance.{InstanceData}
 use Rattle.wq_follow.specs.Subscription.{SubscriptionData, caught_up, list_of}
 use Rattle.wq_reply.specs.Plan.{PlanData}
@@ -41,7 +42,9 @@ giving out follows = record { out = out; follows = follows }
 abbrev pub subscribing_at : SubscriptionData → InstanceData → ViewData → List SubscriptionData
     → DoneData
 subscribing_at s instance view follows = record {
-  out = replies_with (subscribe_data instance view s.name) (list_of instance view s);
+  out =
+      replies_with (subscribe_data (clock_text instance view.tick) s.name)
+      (list_of instance view s);
   follows = with_subscription (caught_up view s) follows;
 }
 

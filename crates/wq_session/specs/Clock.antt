@@ -6,8 +6,10 @@ use Rattle.wq_base.specs.Fault.{or_fault}
 use Rattle.wq_ask.specs.declared.refusal.Refusal.{Refusal}
 use Rattle.wq_ask.specs.declared.refusal.Refusal.TheVariants.{NotWatched}
 use Rattle.wq_ask.specs.Clock.{clock_data}
+use Rattle.wq_clock.specs.ClockText.{clock_text}
 use Rattle.wq_crawl.specs.At.{AtData}
 
 -- the reply to `clock` at its root
 abbrev pub clock_at : AtData → Result Data Refusal
-clock_at at = or_fault NotWatched at.view (λ view. Ok (clock_data at.instance view))
+clock_at at =
+    or_fault NotWatched at.view (λ view. Ok (clock_data (clock_text at.instance view.tick)))

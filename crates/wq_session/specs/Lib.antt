@@ -1,6 +1,7 @@
 pub mod Limit
 pub mod Out
 pub mod Line
+pub mod Need
 pub mod Said
 pub mod Crawl
 pub mod At

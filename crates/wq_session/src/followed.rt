@@ -58,7 +58,8 @@ impl Session {
         ensures stays { OnErr result (follows_of self.new ≡ follows_of self.old) }
     {
         let mut subscription = subscription;
-        let reply = subscribe_reply(alloc, instance, view, subscription.name())?;
+        let clock = wq_clock::print(instance, view.tick());
+        let reply = subscribe_reply(alloc, &clock, subscription.name())?;
         let text = reply.to_vec(alloc)?;
         let list = subscription.first_list(alloc, instance, view)?;
         let out = Out::with_list(alloc, text, list)?;

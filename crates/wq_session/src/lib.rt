@@ -19,6 +19,7 @@ mod line;
 mod lock_desk;
 mod lookup;
 mod moment;
+mod need;
 mod outcome;
 mod plain;
 mod prepared;
@@ -43,6 +44,7 @@ pub use law::{
 };
 pub use line::Line;
 pub use lock_desk::LockDesk;
+pub use need::need_of;
 pub use outcome::{Out, ReplyLine};
 pub use prepared::Prepared;
 pub use service::{Ended, MAX_EVENTS, serve};

@@ -19,7 +19,6 @@ use wq_registry::{CacheKey, Compiled, compile_shared, kept_form};
 use wq_verify::StoredProgram;
 
 /// The knowledge of the program of an expression.
-#[derive(Drop)]
 pub(crate) struct Lookup {
     /// Whether the expression has no program because it would be too large.
     pub(crate) is_large: bool,
@@ -30,6 +29,18 @@ pub(crate) struct Lookup {
     pub(crate) key: Option<CacheKey>,
     /// A program that answers what the expression means within its measure, once it is found or compiled.
     pub(crate) program: Option<Arc<StoredProgram>>,
+}
+
+// It is let go by one call, wherever a function gives up.
+impl Drop for Lookup {
+    fn drop(self) {
+        let Lookup {
+            is_large: _,
+            stays: _,
+            key: _,
+            program: _,
+        } = self;
+    }
 }
 
 impl Lookup {
@@ -84,10 +95,16 @@ impl Lookup {
         let Some(program) = found else {
             return self.compiled_now(alloc, query);
         };
+        let Lookup {
+            is_large,
+            stays,
+            key,
+            program: _,
+        } = self;
         let lookup = Lookup {
-            is_large: self.is_large,
-            stays: self.stays,
-            key: self.key,
+            is_large,
+            stays,
+            key,
             program: Some(program),
         };
         (lookup.kept(alloc), None)
@@ -100,11 +117,17 @@ impl Lookup {
         if !self.stays {
             return self;
         }
+        let Lookup {
+            is_large,
+            stays,
+            key,
+            program,
+        } = self;
         Lookup {
-            is_large: self.is_large,
-            stays: self.stays,
-            key: self.key,
-            program: kept_program(alloc, self.program),
+            is_large,
+            stays,
+            key,
+            program: kept_program(alloc, program),
         }
     }
 
@@ -121,7 +144,7 @@ impl Lookup {
             is_large,
             stays,
             key,
-            ..
+            program: _,
         } = self;
         let compiled = match key {
             Some(key) => Compiled::new(key, query.expr(), &program),

@@ -19,7 +19,6 @@ use wq_reply::{LongReply, ReplyText};
 
 /// The output of a session for an event: a reply or none, the lists of subscriptions that follow it, and whether the
 /// session goes on. The reply and each list are compact JSON with keys in byte order, and a newline.
-#[derive(Drop)]
 pub struct Out {
     pub(crate) reply: Reply,
     pub(crate) lists: Option<Vec<Line>>,
@@ -61,6 +60,19 @@ impl ReplyLine<'_> {
         ensures { result ≡ is_none (line_in self.now) }
     {
         matches!(self, ReplyLine::None)
+    }
+}
+
+// An output is let go by one call, wherever a function gives up.
+impl Drop for Out {
+    fn drop(self) {
+        let Out {
+            reply: _,
+            lists: _,
+            goes_on: _,
+            shuts: _,
+            unset: _,
+        } = self;
     }
 }
 

@@ -4,7 +4,7 @@ ghost use Rattle.std.specs.Prelude.{◌≡◌, [], Some, map, option_map};
 ghost use Rattle.wq_clock.specs.Instance.{instance_data};
 ghost use Rattle.wq_reply.specs.Plan.{planned};
 ghost use Rattle.wq_follow.specs.Followed.{subscription_data};
-ghost use Rattle.wq_ask.specs.Need.{need_of};
+ghost use Rattle.wq_session.specs.Need.{need_of};
 ghost use Rattle.wq_session.specs.Answer.{CanFinish, Finishes};
 ghost use Rattle.wq_crawl.specs.At.{at_data};
 ghost use Rattle.wq_session.specs.Desk.{AnswersShelf, Replies, stand};
@@ -18,6 +18,7 @@ use crate::command::{listed, listed_triggers};
 use crate::crawl::crawl_refusal;
 use crate::cursor::Cursor;
 use crate::desk::Desk;
+use crate::need::need_of;
 use crate::outcome::Out;
 use crate::prepared::Prepared;
 use crate::reply::printed;
@@ -144,7 +145,7 @@ impl Session {
             × Replies ready ask (stand (D.shelf desk.old) (follows_of self.old)) result.1
             (stand (D.shelf desk.new) (follows_of self.new)) }
     {
-        let (views, ready) = views.ready(ask.need());
+        let (views, ready) = views.ready(need_of(&ask));
         match ready {
             Ok(root) => (views, self.answer_at(crew, alloc, ask, at_of(&root), desk)),
             Err(fault) => (views, Out::refused(alloc, crawl_refusal(fault))),

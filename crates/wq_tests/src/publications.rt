@@ -13,7 +13,9 @@ use std::sync::{Arc, Wait};
 use std::thread::Threads;
 use wq_base::{Stays, Workers};
 use wq_clock::Run;
-use wq_crawl::{CrawlFault, LaneParts, LockRoots, Roots, SeatViews, SharedCrawler};
+use wq_crawl::{
+    Crawl, CrawlFault, FoundRoot, LaneParts, LockRoots, Roots, SeatViews, SharedCrawler,
+};
 use wq_live::{Blank, Named, Told};
 use wq_registry::{CacheKey, Compiled, Forgotten};
 use wq_session::{Cursor, Desk, LockDesk, Prepared, Unset, Work, serve};
@@ -43,14 +45,14 @@ impl<N: Named, R: Wait + Drop> Roots<N> for Publishing<'_, N, R> {
         told
     }
 
-    fn crawl(&mut self, root: &str) -> Result<Option<Told<N>>, CrawlFault> {
+    fn crawl(&mut self, root: &str) -> Result<Crawl<N>, CrawlFault> {
         let _ = self.roots.crawl(root);
         self.roots.crawl(root)
     }
 
-    fn unwatch(&mut self, number: u64) -> Result<Told<N>, CrawlFault> {
+    fn unwatch(&mut self, root: FoundRoot) -> Result<Told<N>, CrawlFault> {
         publish_twice(&mut self.roots);
-        self.roots.unwatch(number)
+        self.roots.unwatch(root)
     }
 
     fn workers(&self) -> u32 {

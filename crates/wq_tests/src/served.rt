@@ -6,8 +6,9 @@ ghost use Rattle.wq_record.specs.Seen.{is_lawful_row};
 
 use std::alloc::{AllocError, Global};
 use std::sync::{Arc, Mutex};
-use wq_crawl::{Seconds, Tree, TreeFault};
+use wq_crawl::Seconds;
 use wq_follow::Trigger;
+use wq_patch::{Tree, TreeFault};
 use wq_registry::{Cache, Shelf};
 use wq_session::SharedShelf;
 use wq_view::{Kind, Seen, SharedBytes, is_valid_name};

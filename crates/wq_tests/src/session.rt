@@ -10,7 +10,7 @@ use std::test::Fail;
 use std::thread::Threads;
 use wq_base::Stays;
 use wq_clock::Run;
-use wq_crawl::{Crawler, Roots, SeatViews};
+use wq_crawl::{Crawler, FoundRoot, Roots, SeatViews};
 use wq_live::{Blank, Named, Seat};
 use wq_session::{Desk, LockDesk, serve};
 use wq_stream::{MemoryInbox, Splitter};
@@ -102,14 +102,19 @@ fn play_at_lock<N: Named, R: Threads + Wait + Copy + Drop + Sync>(
     Some(talks.len())
 }
 
-/// Whether roots give the right answers if only `/r` is shown, as root 1.
-fn is_answered<N: Named, R: Roots<N>>(roots: &mut R) -> bool {
-    matches!(roots.crawl("/r"), Ok(Some(_)))
-        && matches!(roots.crawl("/q"), Ok(None))
-        && roots.unwatch(1).is_ok()
-        && matches!(roots.crawl("/r"), Ok(None))
+/// Whether a crawl of a root gives a list, unless it is refused.
+fn is_crawled<N: Named, R: Roots<N>>(roots: &mut R, root: &str) -> Option<bool> {
+    Some(roots.crawl(root).ok()?.told().is_some())
+}
+
+/// Whether roots give the right answers if only `/r` is shown, which a look found.
+fn is_answered<N: Named, R: Roots<N>>(roots: &mut R, found: FoundRoot) -> bool {
+    is_crawled(roots, "/r") == Some(true)
+        && is_crawled(roots, "/q") == Some(false)
+        && roots.unwatch(found).is_ok()
+        && is_crawled(roots, "/r") == Some(false)
         && roots.watch("/r").is_ok()
-        && matches!(roots.crawl("/r"), Ok(Some(_)))
+        && is_crawled(roots, "/r") == Some(true)
 }
 
 /// Whether the roots of a session still answer after it has ended and no seat is left.
@@ -124,8 +129,10 @@ fn outlive<N: Named, R: Threads + Wait + Copy + Drop + Sync>(
     let mut desk = new_desk(alloc)?;
     let (ends, is_right) = talk_at(&rt, alloc, ends, &mut desk, &WATCH)?;
     let Ends { seat, mut roots } = ends;
-    drop(seat);
-    Some(is_right && is_answered(&mut roots))
+    let look = seat.look().ok()?;
+    let found = FoundRoot::seen(Run::new(7, 9), "/r", &look);
+    drop(look.leave());
+    Some(is_right && is_answered(&mut roots, found?))
 }
 
 /// Clients who use a program that the first of them added.

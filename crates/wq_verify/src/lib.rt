@@ -22,7 +22,7 @@ mod stack;
 mod stored;
 mod weight;
 
-pub use fault::{ProgramFault, Rejection};
+pub use fault::{ProgramFault, Refusal};
 pub use law::{
     first_budgets_stay, first_programs_stay, fronts_are_unique, fronts_grow, operands_are_needed,
     runs_begin_well, steps_go_well, valid_are_accepted, valid_are_typed,

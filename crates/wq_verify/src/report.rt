@@ -3,7 +3,7 @@
 ghost use Rattle.std.specs.Prelude.{◌≡◌, IfOk};
 ghost use Rattle.wq_verify.specs.Report.{Checks, IsReport, report_line, status_of};
 
-use crate::fault::{ProgramFault, Rejection};
+use crate::fault::{ProgramFault, Refusal};
 use crate::program::verify;
 use std::alloc::{AllocError, Global};
 use std::io::Write;
@@ -45,7 +45,7 @@ impl Report {
                 instructions: program.raw().code.len(),
                 budget: program.budget(LONGEST_NAME),
             },
-            Err((_, Rejection { code: fault, at })) => Report::WrongProgram { fault, at },
+            Err((_, Refusal { code: fault, at })) => Report::WrongProgram { fault, at },
         }
     }
 

@@ -4,7 +4,6 @@ mod Faults
 mod Listings
 mod Runs
 mod Slots
-mod Passing
 mod Absorbed
 mod Stats
 mod Histories
@@ -32,3 +31,7 @@ mod Patches
 mod Stretches
 mod Counted
 mod PatchedViews
+mod SuffixPlaces
+mod SuffixFlags
+mod Cursors
+mod Whole

@@ -4,13 +4,11 @@ use mathlib.Core.Bool.{false≢true}
 use Rattle.std.specs.List.{list_all, range_with_len}
 use Rattle.std.proofs.lemmas.List.{length-map, take_more}
 use Rattle.wq_view.specs.declared.chunk.Slot.{Slot}
-use Rattle.wq_view.specs.declared.pass_merge.Change.{Change}
 use Rattle.wq_record.specs.Seen.{SeenData}
 use Rattle.wq_record.specs.RecordData.{RecordData}
 use Rattle.wq_view.specs.Merge.{PairData, record_alone, record_and_row, row_alone, is_unchanged, pair_after, pairs_of, records_after}
 use Rattle.wq_view.specs.Run.{run_pairs, rows_behind, is_same_run}
 use Rattle.wq_view.specs.Chunk.{slot_records, records_in}
-use Rattle.wq_view.specs.Change.{IsChange}
 use Rattle.wq_view.specs.Moves.{MovesData, with_known, with_pair, with_pairs, with_same, no_moves}
 use Rattle.wq_view.proofs.NameOrder.{both_true}
 use Rattle.wq_view.proofs.Runs.{run_then, pairs_of_both, same_after}
@@ -83,30 +81,6 @@ kept_step slots i slot h is m so_far next so_far_is next_is =
     ∙ same_then (length before) (length (slot_records slot)) m
     ∙ ap (λ n. with_same n m) (sym (length-append before (slot_records slot)) ∙ ap length (sym (slot_taken slots i slot h is)))
 
--- one chunk more after the pass
-pub moves_step : (slots : List Slot) (i : ℕ) (slot : Slot) → i < length slots → get_or slots i slot ≡ slot → (rows left : List SeenData) (m so_far next : MovesData) → left ≡ rows_behind (records_in (take i slots)) rows → so_far ≡ with_pairs (run_pairs (records_in (take i slots)) rows) m → next ≡ with_pairs (run_pairs (slot_records slot) left) so_far → next ≡ with_pairs (run_pairs (records_in (take (i + 1) slots)) rows) m
-moves_step slots i slot h is rows left m so_far next left_is so_far_is next_is =
-    let before = records_in (take i slots) in
-    next_is
-    ∙ ap (with_pairs (run_pairs (slot_records slot) left)) so_far_is
-    ∙ ap (λ rest. with_pairs (run_pairs (slot_records slot) rest) (with_pairs (run_pairs before rows) m)) left_is
-    ∙ sym (pairs_then (run_pairs before rows) (run_pairs (slot_records slot) (rows_behind before rows)) m)
-    ∙ ap (λ ps. with_pairs ps m) (sym (pairs_of_both before rows (slot_records slot)))
-    ∙ ap (λ rs. with_pairs (run_pairs rs rows) m) (sym (slot_taken slots i slot h is))
-
--- the pairs of all records and rows: those of the records, and the rows after them
-pairs_all : (rs : List RecordData) (rows : List SeenData) → pairs_of rs rows ≡ run_pairs rs rows ++ pairs_of [] (rows_behind rs rows)
-pairs_all rs rows = ap (λ l. pairs_of l rows) (sym (append-nil rs)) ∙ run_then rs rows []
-
--- all chunks after the pass, and then the new records
-pub moves_made : (rs : List RecordData) (rows left : List SeenData) (m so_far next : MovesData) → left ≡ rows_behind rs rows → so_far ≡ with_pairs (run_pairs rs rows) m → next ≡ with_pairs (pairs_of [] left) so_far → next ≡ with_pairs (pairs_of rs rows) m
-moves_made rs rows left m so_far next left_is so_far_is next_is =
-    next_is
-    ∙ ap (with_pairs (pairs_of [] left)) so_far_is
-    ∙ ap (λ rest. with_pairs (pairs_of [] rest) (with_pairs (run_pairs rs rows) m)) left_is
-    ∙ sym (pairs_then (run_pairs rs rows) (pairs_of [] (rows_behind rs rows)) m)
-    ∙ ap (λ ps. with_pairs ps m) (sym (pairs_all rs rows))
-
 -- one new record more
 pub new_step : (rows : List SeenData) (i : ℕ) (row : SeenData) → i < length rows → get_or rows i row ≡ row → (m so_far next : MovesData) → so_far ≡ with_pairs (pairs_of [] (take i rows)) m → next ≡ with_pair (row_alone row) so_far → next ≡ with_pairs (pairs_of [] (take (i + 1) rows)) m
 new_step rows i row h is m so_far next so_far_is next_is =
@@ -141,14 +115,3 @@ shared_step slots i slot h is before so_far next so_far_is next_is =
     ∙ ap (λ l. l ++ slot_records slot) so_far_is
     ∙ append_assoc before (records_in (take i slots)) (slot_records slot)
     ∙ ap (λ l. before ++ l) (sym (slot_taken slots i slot h is))
-
--- the moves of a change are those of all records
-pub change_moves : (all : List RecordData) (rows : List SeenData) (change : Change) → IsChange all rows change → with_pairs (pairs_of (records_in change.others.now) change.rows.now) (with_same (length (records_in change.same.now)) no_moves) ≡ with_pairs (pairs_of all rows) no_moves
-change_moves all rows change is =
-    let first = records_in change.same.now in
-    let others = records_in change.others.now in
-    ap (with_pairs (pairs_of others change.rows.now)) (same_run first rows no_moves is.same)
-    ∙ sym (pairs_then (run_pairs first rows) (pairs_of others change.rows.now) no_moves)
-    ∙ ap (λ rest. with_pairs (run_pairs first rows ++ pairs_of others rest) no_moves) is.left
-    ∙ ap (λ ps. with_pairs ps no_moves) (sym (run_then first rows others))
-    ∙ ap (λ rs. with_pairs (pairs_of rs rows) no_moves) (sym is.parts)

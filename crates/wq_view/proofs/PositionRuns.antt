@@ -1,37 +1,11 @@
 -- The positions of records that pass a test, run by run.
-use Rattle.std.proofs.Common.{◌≡◌, ℕ, zero, suc, ◌+◌, ◌<◌, ◌≤◌, Bool, true, false, cond, List, [], ◌∷◌, ◌++◌, length, map, filter, take, get_or, slice_get, refl, sym, ap, ◌∙◌, append_assoc, append-nil, add-one, arith, length-append}
+use Rattle.std.proofs.Common.{◌≡◌, ℕ, zero, suc, ◌+◌, ◌<◌, ◌≤◌, Bool, true, false, cond, List, [], ◌∷◌, ◌++◌, length, map, filter, slice_get, refl, sym, ap, ◌∙◌, arith, length-append}
 use Rattle.std.specs.List.{range_with_len}
 use Rattle.std.specs.Option.{option_map_or}
-use Rattle.std.proofs.lemmas.List.{map-append}
 use Rattle.std.proofs.lemmas.List.Elements.{filter-append}
-use Rattle.std.proofs.lemmas.Option.{slice_get_read}
-use Rattle.wq_view.specs.declared.chunk.Slot.{Slot}
 use Rattle.wq_record.specs.RecordData.{RecordData}
-use Rattle.wq_view.specs.Chunk.{slot_records, records_in}
 use Rattle.wq_view.specs.Position.{passes_at, positions_from, positions_of}
-use Rattle.wq_view.proofs.MoveSteps.{range_next, range_both}
-use Rattle.wq_view.proofs.Slots.{slot_taken}
-
--- one record more, whether it passes or not
-pub one_more_kept : (test : RecordData → Bool) (rs : List RecordData) (start i : ℕ) (r : RecordData) (is_kept : Bool) (old found now : List ℕ) → found ≡ old ++ map (λ k. start + k) (filter (passes_at test rs) (range_with_len 0 i)) → i < length rs → r ≡ get_or rs i r → is_kept ≡ test r → now ≡ found ++ cond is_kept ((start + i) ∷ []) [] → now ≡ old ++ map (λ k. start + k) (filter (passes_at test rs) (range_with_len 0 (i + 1)))
-one_more_kept test rs start i r is_kept old found now so_far low is kept pushed =
-    pushed ∙ ap (λ l. l ++ cond is_kept ((start + i) ∷ []) []) so_far ∙ ap (λ b. (old ++ map later before) ++ cond b ((start + i) ∷ []) []) (kept ∙ sym here) ∙ append_assoc old (map later before) (cond (passes_at test rs i) ((start + i) ∷ []) []) ∙ ap (λ l. old ++ l) (by (passes_at test rs i) ∙ ap (map later) (sym next))
-  where
-    later : ℕ → ℕ
-    later k = start + k
-
-    before : List ℕ
-    before = filter (passes_at test rs) (range_with_len 0 i)
-
-    here : passes_at test rs i ≡ test r
-    here = ap (λ o. option_map_or test o false) (slice_get_read rs (length rs) i r refl low is)
-
-    next : filter (passes_at test rs) (range_with_len 0 (i + 1)) ≡ before ++ cond (passes_at test rs i) (i ∷ []) []
-    next = ap (λ n. filter (passes_at test rs) (range_with_len 0 n)) (add-one i) ∙ ap (filter (passes_at test rs)) (range_next 0 i i (omega arith)) ∙ filter-append (passes_at test rs) (range_with_len 0 i) (i ∷ [])
-
-    by : (b : Bool) → map later before ++ cond b ((start + i) ∷ []) [] ≡ map later (before ++ cond b (i ∷ []) [])
-    by true = sym (map-append later before (i ∷ []))
-    by false = append-nil (map later before) ∙ ap (map later) (sym (append-nil before))
+use Rattle.wq_view.proofs.MoveSteps.{range_both}
 
 got_first : (xs ys : List RecordData) (i : ℕ) → i < length xs → slice_get (xs ++ ys) i ≡ slice_get xs i
 got_first [] ys i low = absurd (omega (arith, low))
@@ -77,8 +51,3 @@ module _ (test : RecordData → Bool) (xs ys : List RecordData) where
       ∙ filter-append (passes_at test (xs ++ ys)) (range_with_len 0 (length xs)) (range_with_len (length xs) (length ys))
       ∙ ap (λ l. l ++ filter (passes_at test (xs ++ ys)) (range_with_len (length xs) (length ys))) (in_first 0 (length xs) (omega arith))
       ∙ ap (λ l. positions_of test xs ++ l) (ap (λ k. filter (passes_at test (xs ++ ys)) (range_with_len k (length ys))) (sym start) ∙ in_second 0 (length ys))
-
--- one chunk more
-pub one_more_chunk : (test : RecordData → Bool) (slots : List Slot) (i start : ℕ) (slot : Slot) (found now : List ℕ) → i < length slots → get_or slots i slot ≡ slot → start ≡ length (records_in (take i slots)) → found ≡ positions_of test (records_in (take i slots)) → now ≡ found ++ positions_from start test (slot_records slot) → now ≡ positions_of test (records_in (take (i + 1) slots))
-one_more_chunk test slots i start slot found now low is before so_far pushed =
-    pushed ∙ ap (λ l. l ++ positions_from start test (slot_records slot)) so_far ∙ ap (λ n. positions_of test (records_in (take i slots)) ++ positions_from n test (slot_records slot)) before ∙ sym (positions_in_two test (records_in (take i slots)) (slot_records slot)) ∙ ap (positions_of test) (sym (slot_taken slots i slot low is))

@@ -44,11 +44,6 @@ behind_in_parts r all first second parts (row ∷ rows) = by (name_cmp r.name ro
     by Equal less equal greater = equal
     by Greater less equal greater = greater
 
--- the rows after two runs
-pub behind_both : (rs : List RecordData) (rows : List SeenData) (more : List RecordData) → rows_behind (rs ++ more) rows ≡ rows_behind more (rows_behind rs rows)
-behind_both [] rows more = refl
-behind_both (r ∷ rs) rows more = behind_in_parts r (rows_behind (rs ++ more)) (rows_behind rs) (rows_behind more) (λ rows. behind_both rs rows more) rows
-
 list_all_both : {A : Type 0} (test : A → Bool) (xs ys : List A) → list_all test (xs ++ ys) ≡ (list_all test xs && list_all test ys)
 list_all_both test [] ys = refl
 list_all_both test (x ∷ xs) ys = at (test x) (list_all_both test xs ys)

@@ -1,6 +1,6 @@
 -- Chunks one after the other: their records, and the place at which each begins.
 use Rattle.std.proofs.Common.{◌≡◌, ◌<◌, ◌≤◌, ℕ, zero, suc, ◌+◌, ◌-◌, slice_get, List, [], ◌∷◌, ◌++◌, take, drop, length, get_or, Some, sym, ap, ◌∙◌, arith, length-append}
-use Rattle.std.proofs.lemmas.List.{append-nil, take_more, drop_more, take-append-drop}
+use Rattle.std.proofs.lemmas.List.{append-nil, take_more, take-append-drop}
 use Rattle.std.proofs.lemmas.Grind.{flat_map-append}
 use Rattle.std.proofs.lemmas.Option.{slice_get_within, get_or_from_slice_get}
 use Rattle.wq_view.specs.declared.chunk.Slot.{Slot}
@@ -34,9 +34,6 @@ last_is slots slot all e =
     omega (arith, last_end 0 slots slot (length slots - 1) all (omega (arith, within)) (get_or_from_slice_get slots (length slots - 1) slot slot e))
 
 module _ (slots : List Slot) (i : ℕ) (slot : Slot) (h : i < length slots) (is : get_or slots i slot ≡ slot) where
-  pub slot_next : drop i slots ≡ slot ∷ drop (i + 1) slots
-  slot_next = drop_more slots i slot h ∙ ap (λ s. s ∷ drop (i + 1) slots) is
-
   pub slot_taken : records_in (take (i + 1) slots) ≡ records_in (take i slots) ++ slot_records slot
   slot_taken = ap records_in (take_more slots i slot h ∙ ap (λ s. take i slots ++ s ∷ []) is) ∙ records_push (take i slots) slot
 

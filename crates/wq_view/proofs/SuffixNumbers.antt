@@ -1,21 +1,21 @@
 -- The numbers of suffixes, and the search by them.
-use Rattle.std.proofs.Common.{◌≡◌, ℕ, ◌+◌, ◌<◌, ◌≤◌, ◌⊎◌, inl, inr, Bool, true, false, List, [], ◌∷◌, ◌++◌, length, map, take, get_or, sym, ap, subst, ◌∙◌, arith, length-append}
+use Rattle.std.proofs.Common.{◌≡◌, ℕ, ◌+◌, ◌<◌, ◌≤◌, ◌⊎◌, inl, inr, true, List, [], ◌∷◌, ◌++◌, length, get_or, sym, ap, subst, ◌∙◌, arith, length-append}
 use Rattle.std.specs.Str.{bytes_eq, str_to_ascii_lowercase}
 use Rattle.std.proofs.Math.Seq.{get_or-append_seam}
 use Rattle.std.proofs.lemmas.Bool.{cases_lt}
-use Rattle.std.proofs.lemmas.List.{get_or-map, get_or_append_left, length-map, map-append, map_more}
+use Rattle.std.proofs.lemmas.List.{get_or-map, get_or_append_left, length-map}
 use Rattle.std.proofs.lemmas.Slice.Eq.{bytes_eq-Decides}
 use Rattle.wq_base.specs.Name.{suffix_of}
 use Rattle.wq_view.specs.declared.suffix.First.{First}
 use Rattle.wq_record.specs.RecordData.{RecordData}
-use Rattle.wq_view.specs.Suffix.{ArePlaces, IsNumber, IsNumberFor, IsNumbered, first_places, folded_suffix, folded_suffixes, has_suffix_of, is_folded_of, is_one_of, sought_places, suffix_at}
+use Rattle.wq_view.specs.Suffix.{ArePlaces, IsNumber, IsNumberFor, first_places, folded_suffix, folded_suffixes, suffix_at}
 
 -- the suffix of the record at a place
 pub suffix_there : (rs : List RecordData) (at : ℕ) (r : RecordData) → at < length rs → r ≡ get_or rs at r → get_or (folded_suffixes rs) at [] ≡ folded_suffix r
 suffix_there rs at r low is = get_or-map folded_suffix rs at r [] low ∙ ap folded_suffix (sym is)
 
 -- the place of a first record
-place_is : (firsts : List First) (k : ℕ) (d : First) → k < length firsts → get_or (first_places firsts) k 0 ≡ (get_or firsts k d).at
+pub place_is : (firsts : List First) (k : ℕ) (d : First) → k < length firsts → get_or (first_places firsts) k 0 ≡ (get_or firsts k d).at
 place_is firsts k d low = get_or-map (λ f. f.at) firsts k d 0 low
 
 pub place_in : (count : ℕ) (firsts : List First) (k : ℕ) (d : First) → ArePlaces count (first_places firsts) → k < length firsts → (get_or firsts k d).at < count
@@ -53,29 +53,6 @@ one_more_number suffixes old new numbers now at number count right next is i low
         let here : number ≡ get_or now i 0 = sym (ap (λ l. get_or l i 0) is ∙ ap (λ n. get_or (numbers ++ number ∷ []) n 0) place ∙ get_or-append_seam numbers number [] 0) in
         subst (λ n. IsNumber suffixes new n (get_or suffixes i [])) here (subst (λ k. IsNumber suffixes new number (get_or suffixes k [])) (sym last) next.right)
 
--- one suffix more has a flag
-pub one_more_flag : (texts : List (List ℕ)) (rs : List RecordData) (firsts : List First) (k : ℕ) (d : First) (r : RecordData) (flag : Bool) (flags now : List Bool) → ArePlaces (length rs) (first_places firsts) → k < length firsts → r ≡ get_or rs (get_or firsts k d).at r → flag ≡ is_one_of texts (suffix_of r.name) → flags ≡ sought_places texts (folded_suffixes rs) (first_places (take k firsts)) → now ≡ flags ++ flag ∷ [] → now ≡ sought_places texts (folded_suffixes rs) (first_places (take (k + 1) firsts))
-one_more_flag texts rs firsts k d r flag flags now fits low is sought so_far pushed =
-    pushed ∙ ap (λ l. l ++ flag ∷ []) so_far ∙ ap (λ b. map test (first_places (take k firsts)) ++ b ∷ []) (sought ∙ ap (is_folded_of texts) (sym (suffix_there rs (get_or firsts k d).at r (place_in (length rs) firsts k d fits low) is))) ∙ sym (map-append test (first_places (take k firsts)) ((get_or firsts k d).at ∷ [])) ∙ ap (map test) (sym (map_more (λ f. f.at) firsts k d low))
-  where
-    test : ℕ → Bool
-    test at = is_folded_of texts (get_or (folded_suffixes rs) at [])
-
--- the flag of a record's number says whether its suffix is sought
-pub flag_right : (texts : List (List ℕ)) (rs : List RecordData) (places numbers : List ℕ) (flags : List Bool) (i number : ℕ) (r : RecordData) → IsNumbered (folded_suffixes rs) places numbers → flags ≡ sought_places texts (folded_suffixes rs) places → i < length rs → r ≡ get_or rs i r → number ≡ get_or numbers i 0 → number < length flags → get_or flags number false ≡ has_suffix_of texts r
-flag_right texts rs places numbers flags i number r table flagged low is number_is flag = by (subst (λ n. IsNumber (folded_suffixes rs) places n (get_or (folded_suffixes rs) i [])) (sym number_is) (table.right i (omega (arith, low, length-map rs folded_suffix))))
-  where
-    test : ℕ → Bool
-    test at = is_folded_of texts (get_or (folded_suffixes rs) at [])
-
-    count : length flags ≡ length places
-    count = ap length flagged ∙ length-map places test
-
-    by : IsNumber (folded_suffixes rs) places number (get_or (folded_suffixes rs) i []) → get_or flags number false ≡ has_suffix_of texts r
-    by (inl there) =
-        ap (λ l. get_or l number false) flagged ∙ get_or-map test places number 0 false there.0 ∙ ap (is_folded_of texts) (there.1 ∙ suffix_there rs i r low is)
-    by (inr full) = absurd (omega (arith, full.0, full.1, flag, count))
-
 -- no suffix has a number at first
 pub no_places : (count : ℕ) (firsts : List First) → firsts ≡ [] → ArePlaces count (first_places firsts)
 no_places count firsts none =
@@ -84,7 +61,3 @@ no_places count firsts none =
       few = omega (arith, empty);
       inside = λ k low. absurd (omega (arith, low, empty));
     }
-
--- the place of a number is that of a record
-pub place_within : (rs : List RecordData) (places numbers items : List ℕ) (i : ℕ) → IsNumbered (folded_suffixes rs) places numbers → items ≡ numbers → i < length items → i < length rs
-place_within rs places numbers items i table same low = omega (arith, low, ap length same, table.each, length-map rs folded_suffix)

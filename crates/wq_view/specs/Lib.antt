@@ -15,6 +15,8 @@ pub mod Below
 pub mod Moves
 pub mod Suffix
 pub mod SeenRows
+pub mod Sought
+pub mod Cursor
 pub mod Patch
 pub mod Patching
 pub mod Stretch

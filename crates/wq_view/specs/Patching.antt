@@ -51,10 +51,6 @@ patched_shows records (p ∷ ps) =
 abbrev pub has_lawful_rows : Patch → Bool
 has_lawful_rows p = list_all is_lawful_row p.rows.items
 
--- the stats that a pass with these patches saw
-abbrev pub patched_stats : List RecordData → List Patch → FinMap name_cmp Stat
-patched_stats records patches = from_entries (map entry_of (patched records patches))
-
 -- each name of the first list is below each one of the second
 abbrev pub AreBelow : {A B : Type 0} → (A → List ℕ) → (B → List ℕ) → List A → List B → Type 0
 AreBelow f g xs ys = AllByRecursion (λ x. AllByRecursion (λ y. name_cmp (f x) (g y) ≡ Less) ys) xs

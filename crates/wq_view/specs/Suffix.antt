@@ -1,6 +1,6 @@
 -- The records with a suffix, and the numbers that a chunk gives to the suffixes of its records. The
 -- numbers are this server's own.
-use Rattle.std.specs.Prelude.{◌≡◌, ◌≤◌, ◌<◌, ◌&&◌, ◌==◌, ◌⊎◌, ◌++◌, ℕ, Bool, not, bytes_eq, List, [], ◌∷◌, length, get_or, map}
+use Rattle.std.specs.Prelude.{◌≡◌, ◌≤◌, ◌<◌, ◌&&◌, ◌==◌, ◌⊎◌, ◌++◌, ℕ, Bool, not, bytes_eq, List, [], ◌∷◌, length, get_or, map, false, true, slice_get, Some}
 use Rattle.std.specs.List.{list_any}
 use Rattle.std.specs.Str.{str_to_ascii_lowercase}
 use Rattle.wq_base.specs.Compare.{is_suffix}
@@ -71,6 +71,24 @@ pub record IsNumbered (suffixes : List (List ℕ)) (places numbers : List ℕ) :
   pub right : (i : ℕ) → i < length suffixes
       → IsNumber suffixes places (get_or numbers i 0) (get_or suffixes i [])
 
--- whether the suffixes at these places are sought
-abbrev pub sought_places : List (List ℕ) → List (List ℕ) → List ℕ → List Bool
-sought_places texts suffixes places = map (λ at. is_folded_of texts (get_or suffixes at [])) places
+-- a flag of a number says whether the suffix of a record is one of these texts; that of the last
+-- number says nothing, and is set
+abbrev pub IsFlagged : List (List ℕ) → List Bool → ℕ → RecordData → Type 0
+IsFlagged texts flags number r =
+    (get_or flags number false ≡ has_suffix_of texts r)
+    ⊎ ((number ≡ max_numbered) × (get_or flags number false ≡ true))
+
+-- the flags of the numbers of records
+pub record AreFlagged (texts : List (List ℕ)) (flags : List Bool) (numbers : List ℕ)
+    (records : List RecordData) : Type 0 where
+  pub each : length numbers ≡ length records
+  pub right : (i : ℕ) (r : RecordData) → slice_get records i ≡ Some r
+      → IsFlagged texts flags (get_or numbers i 0) r
+
+-- the flags of numbers: whether the suffix at the place of each is one of these texts; the last one
+-- is set
+pub record AreFlags (texts suffixes : List (List ℕ)) (places : List ℕ) (flags : List Bool)
+    : Type 0 where
+  pub each : (number : ℕ) → number < length places
+      → get_or flags number false ≡ is_folded_of texts (suffix_at suffixes places number)
+  pub last : get_or flags max_numbered false ≡ true

@@ -1,15 +1,15 @@
 //! A chunk of a view's records. Views share chunks.
-ghost use Rattle.std.specs.Prelude.{◌≡◌, ◌≤◌, ◌+◌, ◌++◌, length, IfOk, IsTrue, OnOk};
+ghost use Rattle.std.specs.Prelude.{◌≡◌, ◌≤◌, length, IfOk, IsTrue};
 ghost use Rattle.std.specs.List.{list_all};
 ghost use Rattle.wq_record.specs.Seen.{is_lawful_row};
 ghost use Rattle.wq_view.specs.SeenRows.{seen_rows};
-ghost use Rattle.wq_view.specs.Limit.{max_chunk, max_records};
-ghost use Rattle.wq_view.specs.Position.{positions_from};
-ghost use Rattle.wq_view.specs.Suffix.{folded_suffixes, has_suffix_of};
+ghost use Rattle.wq_view.specs.Limit.{max_chunk};
+ghost use Rattle.wq_view.specs.Sought.{texts_of};
+ghost use Rattle.wq_view.specs.Suffix.{AreFlagged, folded_suffixes};
 
 use crate::existence::existing_in;
+use crate::sought::Sought;
 use crate::suffix::SuffixTable;
-use crate::suffixes::Suffixes;
 use std::alloc::{AllocError, Global};
 use std::marker::Model;
 use std::sync::Arc;
@@ -98,21 +98,12 @@ impl Chunk {
         self.existing
     }
 
-    /// Adds the positions of the records whose suffix is sought. The first record has this position. The flags are for
-    /// any use.
-    pub(crate) fn push_sought(
-        &self,
-        start: usize,
-        sought: &Suffixes<'_>,
-        flags: &mut Vec<bool>,
-        found: &mut Vec<u32>,
-    ) -> Result<(), AllocError>
-        requires { start + length self.now ≤ max_records }
-        ensures { OnOk result (found.new.items ≡ found.old.items
-            ++ positions_from start (has_suffix_of sought.now) self.now) }
+    /// The numbers of the records' suffixes, and the flags of those that are sought.
+    pub(crate) fn flagged(&self, sought: Sought<'_>) -> (&[u8], [bool; 256])
+        ensures { AreFlagged (texts_of sought.entry) result.1 result.0.now self.now }
     {
-        self.suffixes
-            .push_sought(&self.records, start, sought, flags, found)
+        let flags = self.suffixes.flags(&self.records, sought);
+        (&self.suffixes.numbers, flags)
     }
 }
 

@@ -6,14 +6,11 @@ ghost use Rattle.std.specs.List.Sorted.{IsPartitionedBy, IsPartitionPoint};
 ghost use Rattle.wq_view.specs.Chunk.{AreChunks, IsChunkAt, IsPiece, count_before, is_chunk_before, records_in};
 ghost use Rattle.wq_view.specs.Limit.{max_records};
 ghost use Rattle.wq_record.specs.RecordData.{RecordData};
-ghost use Rattle.wq_view.specs.Position.{positions_of};
 ghost use Rattle.wq_view.specs.Records.{records_left};
-ghost use Rattle.wq_view.specs.Suffix.{has_suffix_of};
 
 use crate::chunk::{Chunk, Slot};
 use crate::limit::MAX_RECORDS;
 use crate::records::Records;
-use crate::suffixes::Suffixes;
 use std::alloc::{AllocError, Global};
 use std::marker::Model;
 use std::sync::Arc;
@@ -154,26 +151,6 @@ impl Chunks {
         let (_, records) = records.split_at(i - start);
         let (_, slots) = self.slots.split_at(at + 1);
         Records { records, slots }
-    }
-
-    /// The positions of the records whose suffix is one of these, ascending.
-    pub(crate) fn with_suffix(
-        &self,
-        alloc: Global,
-        sought: &Suffixes<'_>,
-    ) -> Result<Vec<u32>, AllocError>
-        ensures { IfOk result (λ found. found.items
-            ≡ positions_of (has_suffix_of sought.now) self.now) }
-    {
-        let mut found = Vec::new(alloc);
-        let mut flags = Vec::new(alloc);
-        let mut start = 0usize;
-        for slot in self.slots() {
-            slot.chunk
-                .push_sought(start, sought, &mut flags, &mut found)?;
-            start = slot.end;
-        }
-        Ok(found)
     }
 
     /// The number of records that pass a test. Each of them must come before all records that do not pass it.

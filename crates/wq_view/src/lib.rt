@@ -13,6 +13,7 @@
 #![tactic(auto)]
 
 mod below;
+mod change;
 mod chunk;
 mod chunk_filler;
 mod chunks;
@@ -28,11 +29,15 @@ mod patch;
 mod patch_merge;
 mod reader;
 mod records;
+mod sought;
 mod stretch;
 mod suffix;
+mod suffix_cursor;
+mod suffix_search;
 mod suffixes;
 mod view;
 
+pub use change::Change;
 pub use law::{
     history_has_one_view, kept_positions_filter, newest_is_sorted, newest_is_split,
     positions_are_there, positions_filter,
@@ -42,6 +47,7 @@ pub use listing::{Pass, PassFault};
 pub use patch::Patch;
 pub use reader::Reader;
 pub use records::{RecordRun, Records};
+pub use suffix_search::SuffixSearch;
 pub use suffixes::Suffixes;
 pub use view::{View, ViewFault};
 pub use wq_record::{Kind, MAX_NAME, MAX_TICK, Name, Record, Seen, SharedBytes, is_valid_name};

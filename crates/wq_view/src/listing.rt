@@ -1,7 +1,7 @@
 //! Listings of a tree: rows as a walker saw them, and the pass that rows without a fault make. The crate of walks reads
 //! the directories.
-ghost use Rattle.std.specs.Prelude.{◌≡◌, ◌<◌, ◌↔◌, false, Some, None, MatchResult, IfSome, IfNone, IfErr, List, [], length, ◌≤◌, IfOk, map, take, bytes_eq, slice_get, IsTrue, IsPermutation};
-ghost use Rattle.std.specs.FinMap.{entries, is_sorted};
+ghost use Rattle.std.specs.Prelude.{◌≡◌, ◌==◌, ◌<◌, ◌↔◌, false, Some, None, MatchResult, IfSome, IfNone, IfErr, List, [], length, ◌≤◌, IfOk, map, take, bytes_eq, slice_get, IsTrue, IsPermutation};
+ghost use Rattle.std.specs.FinMap.{is_sorted, len};
 ghost use Rattle.std.specs.List.{list_all, IsDistinct};
 ghost use Rattle.wq_view.specs.SeenRows.{seen_rows};
 ghost use Rattle.wq_view.specs.History.{History, last_stats};
@@ -15,8 +15,12 @@ ghost use Rattle.wq_view.specs.declared.patch.Patch.{Patch};
 ghost use Rattle.wq_record.specs.Name.{name_cmp};
 ghost use Rattle.wq_view.specs.Listing.{names_of, listing_of, listing_fault, is_of_whole, row_fault};
 
-use crate::limit::MAX_LISTING_ROWS;
+use crate::change::Change;
+use crate::limit::{MAX_LISTING_ROWS, MAX_RECORDS};
+use crate::patch::Patch;
+use crate::view::View;
 use std::marker::Model;
+use std::slice;
 use thiserror::Error;
 use wq_record::{Seen, is_count, is_valid_name};
 
@@ -43,7 +47,8 @@ pub enum PassFault {
 /// The result of one pass over a tree: one row for each name, and the second at which the pass was made.
 #[derive(Drop)]
 pub struct Pass {
-    rows: Vec<Seen>,
+    /// The rows, in the place of all records that a view can have.
+    whole: Patch,
     second: i64,
 }
 
@@ -53,15 +58,17 @@ impl Model for Pass {
     ghost use Rattle.wq_record.specs.Seen.{entry_of};
     ghost use Rattle.wq_record.specs.Name.{name_cmp};
     ghost use Rattle.wq_view.specs.Listing.{PassData, pass_code, IsPass};
+    ghost use Rattle.wq_view.specs.Patch.{IsWhole};
 
     ghost Value = { PassData };
 
     ghost coded = { pass_code };
 
     ghost view = { λ p.
-        record { stats = from_sorted (map entry_of p.rows.items); second = p.second } };
+        record { stats = from_sorted (map entry_of p.whole.rows.items); second = p.second } };
 
-    ghost invariant = { λ p. IsPass p.rows.items p.second };
+    ghost invariant = { λ p. IsPass p.whole.rows.items p.second
+        × IsWhole p.whole.kept p.whole.replaced };
 }
 
 impl Pass {
@@ -118,7 +125,12 @@ impl Pass {
         if !sort_by_name(&mut rows) {
             return Err(PassFault::NameTwice);
         }
-        Ok(Pass { rows, second })
+        let whole = Patch {
+            kept: 0,
+            replaced: MAX_RECORDS,
+            rows,
+        };
+        Ok(Pass { whole, second })
     }
 
     /// The fault of a pass at this second whose rows say of the files just what a view says, if it has one. Such a pass
@@ -156,14 +168,21 @@ impl Pass {
         }
     }
 
-    /// The rows in the byte order of their names.
-    pub(crate) fn rows(&self) -> &[Seen]
-        ensures entries { entries self.now.stats ≡ map entry_of result.now }
-        ensures rise { IsTrue (is_sorted name_cmp (map entry_of result.now)) }
-        ensures lawful { IsTrue (list_all is_lawful_row result.now) }
-        ensures count { length result.now ≤ MAX_LISTING_ROWS }
+    /// The pass as it differs from a view of its root. The call takes no memory.
+    pub fn over<'a>(&'a self, view: &View) -> Change<'a>
+        ensures { result ≡ record { base = view.now; pass = self.now } }
     {
-        &self.rows
+        let second = self.second();
+        // The patch replaces as many records.
+        view.len();
+        Change::of(view, slice::from_ref(&self.whole), second)
+    }
+
+    /// Whether the pass saw no file.
+    pub fn is_empty(&self) -> bool
+        ensures { result ≡ (len (self.now).stats == 0) }
+    {
+        self.whole.rows.is_empty()
     }
 
     /// The second of the Unix epoch at which the pass was made.

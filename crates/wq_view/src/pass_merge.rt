@@ -1,63 +1,20 @@
 //! The changes that a pass makes in a view. The view after the pass shares each chunk that the pass leaves as it is.
-ghost use Rattle.std.specs.Prelude.{◌≡◌, ◌≤◌, ◌++◌, true, false, take, drop, length, [], IfNone, IfOk, IfSome, IsTrue, OnOk};
+ghost use Rattle.std.specs.Prelude.{◌≡◌, ◌≤◌, ◌++◌, length, [], IfOk, IsTrue, OnOk};
 ghost use Rattle.std.specs.List.{list_all};
-ghost use Rattle.wq_view.specs.Change.{IsChange};
 ghost use Rattle.wq_view.specs.Chunk.{records_in, slot_records};
 ghost use Rattle.wq_view.specs.ChunkFiller.{filled};
-ghost use Rattle.wq_view.specs.Merge.{pair_after, pairs_of, records_after, shows};
-ghost use Rattle.wq_view.specs.Moves.{moves_data, no_moves, with_pair, with_pairs, with_same};
+ghost use Rattle.wq_view.specs.Merge.{pair_after, pairs_of, records_after};
+ghost use Rattle.wq_view.specs.Moves.{moves_data, with_pair, with_pairs, with_same};
 ghost use Rattle.wq_view.specs.Pair.{has_lawful_row, pair_data};
 ghost use Rattle.wq_view.specs.Run.{is_same_run, keeps_names, rows_behind, run_after, run_pairs};
 ghost use Rattle.wq_record.specs.Seen.{is_lawful_row, is_count};
 
 use crate::chunk::{Chunk, Slot};
 use crate::chunk_filler::ChunkFiller;
-use crate::chunks::Chunks;
 use crate::moves::Moves;
 use crate::pair::{Moment, Pair, Pairs};
 use std::alloc::{AllocError, Global};
 use wq_record::{MAX_TICK, Record, Seen};
-
-/// The change that a pass makes in chunks. It has the first chunks, which the pass leaves as they are, the chunks from
-/// the first changed one on, and the rows that belong to the latter or come after all records.
-#[derive(Clone, Copy)]
-pub(crate) struct Change<'a> {
-    pub(crate) same: &'a [Slot],
-    pub(crate) others: &'a [Slot],
-    pub(crate) rows: &'a [Seen],
-}
-
-/// The change that a pass with these rows makes. There is none if rows and records say just the same of the files that
-/// exist.
-pub(crate) fn first_change<'a>(slots: &'a [Slot], rows: &'a [Seen]) -> Option<Change<'a>>
-    ensures same { IfNone result (shows (records_in slots.now) rows.now ≡ true) }
-    ensures differs { IfSome result (λ _. shows (records_in slots.now) rows.now ≡ false) }
-    ensures change { IfSome result (IsChange (records_in slots.now) rows.now) }
-{
-    let mut left = rows;
-    for (at, slot) in slots.iter().enumerate() {
-        let seen = look(slot.chunk.records(), left);
-        if !seen.is_same {
-            return Some(change_at(slots, at, left));
-        }
-        left = seen.left;
-    }
-    if left.is_empty() {
-        return None;
-    }
-    Some(change_at(slots, slots.len(), left))
-}
-
-/// The change in the chunks from this place on, by these rows.
-fn change_at<'a>(slots: &'a [Slot], at: usize, rows: &'a [Seen]) -> Change<'a>
-    requires { at ≤ length slots.now }
-    ensures same { result.same.now ≡ take at slots.now }
-    ensures others { result.others.now ≡ drop at slots.now }
-    ensures rows { result.rows.now ≡ rows.now }
-{
-    let (same, others) = slots.split_at(at);
-    Change { same, others, rows }
-}
 
 /// What the rows of a run of records say of it, and the rows after them.
 #[derive(Clone, Copy)]
@@ -94,32 +51,6 @@ pub(crate) fn look<'a>(records: &'a [Record], rows: &'a [Seen]) -> Looked<'a>
     }
 }
 
-/// The chunks after a pass that makes this change, and the moves of their records. The call is refused if memory runs
-/// out, and also if there would be too many records.
-pub(crate) fn chunks_after(
-    alloc: Global,
-    change: &Change<'_>,
-    at: &Moment,
-) -> Result<(Chunks, Moves), AllocError>
-    requires lawful { IsTrue (list_all is_lawful_row change.now.rows.now) }
-    requires tick { at.now.tick ≤ MAX_TICK }
-    requires second { IsTrue (is_count at.now.second) }
-    ensures records { IfOk result (λ after. after.0 ≡ records_in change.now.same.now
-        ++ records_after at.now.tick at.now.second (records_in change.now.others.now)
-        change.now.rows.now) }
-    ensures moves { IfOk result (λ after. moves_data after.1
-        ≡ with_pairs (pairs_of (records_in change.now.others.now) change.now.rows.now)
-        (with_same (length (records_in change.now.same.now)) no_moves)) }
-{
-    let count = change.same.len().saturating_add(change.others.len());
-    let mut filling = ChunkFiller::new(alloc, count)?;
-    let mut moves = Moves::new(alloc);
-    share_all(&mut filling, &mut moves, change.same)?;
-    let left = push_all_after(&mut filling, &mut moves, change.others, change.rows, at)?;
-    push_new(&mut filling, &mut moves, left, at)?;
-    Ok((filling.finish()?, moves))
-}
-
 /// Adds chunks as they are.
 pub(crate) fn share_all(
     filling: &mut ChunkFiller,
@@ -136,31 +67,6 @@ pub(crate) fn share_all(
         filling.share(&slot.chunk)?;
     }
     Ok(())
-}
-
-/// Adds chunks as they are after a pass, and gives the rows after the ones that belong to them.
-fn push_all_after<'a>(
-    filling: &mut ChunkFiller,
-    moves: &mut Moves,
-    slots: &'a [Slot],
-    rows: &'a [Seen],
-    at: &Moment,
-) -> Result<&'a [Seen], AllocError>
-    requires lawful { IsTrue (list_all is_lawful_row rows.now) }
-    requires tick { at.now.tick ≤ MAX_TICK }
-    requires second { IsTrue (is_count at.now.second) }
-    ensures records { IfOk result (λ left. filled filling.new
-        ≡ filled filling.old ++ run_after at.now.tick at.now.second (records_in slots.now)
-        rows.now) }
-    ensures left { IfOk result (λ left. left.now ≡ rows_behind (records_in slots.now) rows.now) }
-    ensures moves { IfOk result (λ _. moves_data moves.new
-        ≡ with_pairs (run_pairs (records_in slots.now) rows.now) (moves_data moves.old)) }
-{
-    let mut left = rows;
-    for slot in slots {
-        left = push_after(filling, moves, slot, left, at)?;
-    }
-    Ok(left)
 }
 
 /// Adds a chunk as it is after a pass, and gives the rows after its own. A chunk that the pass leaves as it is, is
@@ -261,28 +167,6 @@ fn note_after(moves: &mut Moves, pair: Pair<'_>, at: &Moment) -> Result<Record, 
     let stays = pair.is_unchanged();
     moves.note(pair, stays)?;
     pair.after_if(stays, at)
-}
-
-/// Adds the records of the rows that come after all records. Their names are new.
-fn push_new(
-    filling: &mut ChunkFiller,
-    moves: &mut Moves,
-    rows: &[Seen],
-    at: &Moment,
-) -> Result<(), AllocError>
-    requires lawful { IsTrue (list_all is_lawful_row rows.now) }
-    requires tick { at.now.tick ≤ MAX_TICK }
-    requires second { IsTrue (is_count at.now.second) }
-    ensures records { OnOk result (filled filling.new
-        ≡ filled filling.old ++ records_after at.now.tick at.now.second [] rows.now) }
-    ensures moves { OnOk result (moves_data moves.new
-        ≡ with_pairs (pairs_of [] rows.now) (moves_data moves.old)) }
-{
-    if rows.is_empty() {
-        return Ok(());
-    }
-    filling.reopen(rows.len())?;
-    push_rows(filling, moves, rows, at)
 }
 
 /// Adds the records of these rows. Their names are new.

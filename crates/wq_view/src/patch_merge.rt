@@ -183,6 +183,12 @@ fn replace<'a>(
         rows = replace_stretch(filling, moves, stretch, rows, patches, at)?;
         more -= stretch.len();
     }
+    if rows.is_empty() {
+        return Ok(left);
+    }
+    if left.is_empty() {
+        filling.reopen(rows.len())?;
+    }
     push_rows(filling, moves, rows, at)?;
     Ok(left)
 }
@@ -206,10 +212,12 @@ fn replace_stretch<'a>(
     ensures moves { IfOk result (λ _. moves_data moves.new
         ≡ with_pairs (run_pairs (stretch_records stretch.entry) rows.now) (moves_data moves.old)) }
 {
-    let left = look(stretch.records(), rows).left;
-    if let Stretch::Start(slot, _) = stretch {
-        begin(filling, slot, patches)?;
+    match stretch {
+        Stretch::Chunk(slot) => return push_after(filling, moves, slot, rows, at),
+        Stretch::Start(slot, _) => begin(filling, slot, patches)?,
+        Stretch::Rest(_) => {}
     }
+    let left = look(stretch.records(), rows).left;
     push_run_after(filling, moves, stretch.records(), rows, at)?;
     Ok(left)
 }

@@ -37,6 +37,11 @@ impl<'a> Records<'a> {
         }
     }
 
+    /// Whether there is none.
+    pub(crate) fn is_empty(self) -> bool {
+        self.records.is_empty() && self.slots.is_empty()
+    }
+
     /// The records after the first `count` of these.
     pub fn after(self, count: usize) -> Records<'a>
         ensures { records_left result ≡ drop count (records_left self.entry) }

@@ -1,18 +1,18 @@
 //! The search for records by suffix. Each chunk numbers the suffixes of its records and keeps one byte for each record,
 //! the number of its suffix. So the search compares each suffix of a chunk once, and reads no other name.
-ghost use Rattle.std.specs.Prelude.{◌≡◌, ◌≤◌, ◌<◌, ◌+◌, ◌++◌, false, [], length, IfOk, IfSome, OnOk, get_or};
+ghost use Rattle.std.specs.Prelude.{◌≡◌, ◌≤◌, ◌<◌, [], length, IfOk, IfSome, get_or};
 ghost use Rattle.std.specs.Str.{str_to_ascii_lowercase};
-ghost use Rattle.wq_view.specs.Limit.{max_chunk, max_records};
-ghost use Rattle.wq_view.specs.Position.{positions_from};
-ghost use Rattle.wq_view.specs.Suffix.{ArePlaces, IsNumberFor, IsNumbered, first_places, folded_suffixes, has_suffix_of, sought_places};
+ghost use Rattle.wq_view.specs.Limit.{max_chunk};
+ghost use Rattle.wq_view.specs.Sought.{texts_of};
+ghost use Rattle.wq_view.specs.Suffix.{AreFlagged, AreFlags, ArePlaces, IsNumberFor, IsNumbered, first_places, folded_suffixes};
 
-use crate::suffixes::Suffixes;
+use crate::sought::Sought;
 use std::alloc::{AllocError, Global};
 use wq_base::Case;
 use wq_record::Record;
 
 /// The greatest number of suffixes in a chunk that have a number of their own. It is itself the number of all others.
-const OTHER: usize = 255;
+pub(crate) const OTHER: usize = 255;
 
 /// The first record with a suffix.
 #[derive(Clone, Copy)]
@@ -58,30 +58,14 @@ impl SuffixTable {
         })
     }
 
-    /// Adds the positions of the records whose suffix is sought. This is the table of the records, and the first of them
-    /// has this position. The flags are for any use.
-    pub(crate) fn push_sought(
-        &self,
-        records: &[Record],
-        start: usize,
-        sought: &Suffixes<'_>,
-        flags: &mut Vec<bool>,
-        found: &mut Vec<u32>,
-    ) -> Result<(), AllocError>
-        requires table { IsNumbered (folded_suffixes records.now)
-            (first_places self.now.firsts.items)
+    /// Says for each number whether suffixes with it are sought. This is the table of the records. The number of all
+    /// other suffixes is flagged, since such a suffix has to be looked at.
+    pub(crate) fn flags(&self, records: &[Record], sought: Sought<'_>) -> [bool; 256]
+        requires { IsNumbered (folded_suffixes records.now) (first_places self.now.firsts.items)
             self.now.numbers.items }
-        requires few { start + length records.now ≤ max_records }
-        ensures { OnOk result (found.new.items ≡ found.old.items
-            ++ positions_from start (has_suffix_of sought.now) records.now) }
+        ensures { AreFlagged (texts_of sought.entry) result self.now.numbers.items records.now }
     {
-        flag_sought(&self.firsts, records, sought, flags)?;
-        for (i, number) in self.numbers.iter().enumerate() {
-            if is_sought(flags, *number, &records[i], sought) {
-                found.push((start + i) as u32)?;
-            }
-        }
-        Ok(())
+        flags_of(&self.firsts, records, sought)
     }
 }
 
@@ -135,31 +119,15 @@ fn mark_of(suffix: &[u8]) -> u8 {
 }
 
 /// Says for each suffix with a number whether it is sought.
-fn flag_sought(
-    firsts: &[First],
-    records: &[Record],
-    sought: &Suffixes<'_>,
-    flags: &mut Vec<bool>,
-) -> Result<(), AllocError>
+fn flags_of(firsts: &[First], records: &[Record], sought: Sought<'_>) -> [bool; 256]
     requires { ArePlaces (length records.now) (first_places firsts.now) }
-    ensures { OnOk result (flags.new.items
-        ≡ sought_places sought.now (folded_suffixes records.now) (first_places firsts.now)) }
+    ensures { AreFlags (texts_of sought.entry) (folded_suffixes records.now) (first_places firsts.now)
+        result }
 {
-    flags.clear();
-    for first in firsts {
-        flags.push(sought.has(records[first.at as usize].suffix()))?;
+    let mut flags = [false; 256];
+    flags[OTHER] = true;
+    for (number, first) in firsts.iter().enumerate() {
+        flags[number] = sought.has(records[first.at as usize].suffix());
     }
-    Ok(())
-}
-
-/// Whether the suffix of a record is sought. If its number has no flag, the suffix itself is looked at.
-fn is_sought(flags: &[bool], number: u8, file: &Record, sought: &Suffixes<'_>) -> bool
-    requires { number < length flags.now
-        → get_or flags.now number false ≡ has_suffix_of sought.now file.now }
-    ensures { result ≡ has_suffix_of sought.now file.now }
-{
-    match flags.get(number as usize) {
-        Some(flag) => *flag,
-        None => sought.has(file.suffix()),
-    }
+    flags
 }

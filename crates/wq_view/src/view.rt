@@ -4,33 +4,30 @@
 //! that moves the view writes that list anew.
 //! Lookups take no memory. Only a pass that moves the view, and a copy of the view, take memory.
 ghost use Rattle.std.specs.Prelude.{MatchBool, MatchOption, ℕ, nat_le, nat_lt, ◌==◌, ◌&&◌, ◌≡◌, ◌≢◌, ◌+◌, ◌≤◌, ◌<◌, ◌↔◌, List, [], ◌∷◌, ◌++◌, Ok, Err, Some, None, true, false, drop, length, IfOk, IfErr, IfNone, IfSome, IsTrue, slice_get};
-ghost use Rattle.std.specs.List.{list_all};
 ghost use Rattle.wq_record.specs.RecordData.{record_named};
-ghost use Rattle.wq_record.specs.Seen.{is_count, is_lawful_row};
 ghost use Rattle.wq_view.specs.History.{History, last_stats};
 ghost use Rattle.wq_view.specs.Below.{is_below};
-ghost use Rattle.wq_view.specs.Change.{IsChangeBy};
 ghost use Rattle.wq_record.specs.Limit.{max_tick};
 ghost use Rattle.wq_view.specs.Limit.{max_records};
-ghost use Rattle.wq_view.specs.Listing.{listing_of};
 ghost use Rattle.wq_view.specs.Order.{Known};
-ghost use Rattle.wq_view.specs.Patch.{patched};
-ghost use Rattle.wq_view.specs.Patching.{ArePatches, patched_stats};
+ghost use Rattle.wq_view.specs.Patching.{ArePatches};
 ghost use Rattle.wq_view.specs.Position.{has_name, passes_at, positions_of};
 ghost use Rattle.wq_view.specs.Records.{records_left};
-ghost use Rattle.wq_view.specs.Suffix.{has_suffix_of};
+ghost use Rattle.wq_view.specs.Suffix.{has_suffix, has_suffix_of};
 ghost use Rattle.wq_view.specs.View.{IsViewOf, NamesRise, newest_of};
 
 use crate::below::order_below;
+use crate::change::Change;
 use crate::chunks::Chunks;
 use crate::listing::Pass;
 use crate::order::Order;
 use crate::pair::Moment;
-use crate::pass_merge::{Change, chunks_after, first_change};
 use crate::patch::Patch;
 use crate::patch_merge::{all_shown, are_fit, chunks_patched};
 use crate::reader::Reader;
 use crate::records::Records;
+use crate::sought::Sought;
+use crate::suffix_search::SuffixSearch;
 use crate::suffixes::Suffixes;
 use std::alloc::{AllocError, Global};
 use std::marker::Model;
@@ -60,11 +57,21 @@ impl From<AllocError> for ViewFault {
 }
 
 /// The files of one root, as the passes over the root saw them.
-#[derive(Drop)]
 pub struct View {
     tick: u64,
     chunks: Chunks,
     order: Order,
+}
+
+// A view is let go by one call, wherever a function gives up.
+impl Drop for View {
+    fn drop(self) {
+        let View {
+            tick: _,
+            chunks: _,
+            order: _,
+        } = self;
+    }
 }
 
 impl Model for View {
@@ -113,7 +120,7 @@ impl View {
         ensures room { result ≡ Ok true → self.old.tick < max_tick }
         ensures kept { result ≢ Ok true → self.new ≡ self.old }
     {
-        match self.after(pass) {
+        match self.after(&pass.over(self)) {
             Ok(Some(next)) => {
                 *self = next;
                 Ok(true)
@@ -123,63 +130,56 @@ impl View {
         }
     }
 
-    /// The view after a pass, or none if the pass saw just the same as the pass before it. The two views share the
-    /// chunks that the pass leaves as they are, and the names of the other records.
+    /// The view after a pass over its root, or none if the pass saw just the same as the pass before it. The two views
+    /// share the chunks that the pass leaves as they are, and the names of the other records.
     ///
-    /// The call runs in O(n + m) for n records and m rows. Only a pass that saw something else takes memory.
-    pub fn after(&self, pass: &Pass) -> Result<Option<View>, ViewFault>
+    /// The call looks at no record of a chunk that no patch touches. It runs in O(c + n + m) for c chunks, n records in
+    /// chunks that patches touch, and m rows of patches. Only a pass that saw something else takes memory.
+    pub fn after(&self, change: &Change<'_>) -> Result<Option<View>, ViewFault>
+        requires { (change.now).base ≡ self.now }
         // For every history of which this is the view:
-        ensures moved { (history : History) → IsViewOf history self.now
-            → IfOk result (λ next. IfSome next (IsViewOf (history ++ pass.now ∷ []))) }
+        ensures moved { (history : History) → IsViewOf history self.now → IfOk result (λ next.
+            IfSome next (IsViewOf (history ++ (change.now).pass ∷ []))) }
         ensures still { (history : History) → IsViewOf history self.now
-            → ((result ≡ Ok None) ↔ (last_stats history ≡ pass.now.stats)) }
+            → ((result ≡ Ok None) ↔ (last_stats history ≡ ((change.now).pass).stats)) }
         ensures spent { (history : History) → IsViewOf history self.now
             → ((result ≡ Err ViewFault.TicksSpent)
-            ↔ ((self.now.tick ≡ max_tick) × (last_stats history ≢ pass.now.stats))) }
+            ↔ ((self.now.tick ≡ max_tick) × (last_stats history ≢ ((change.now).pass).stats))) }
         // And for any view:
         ensures room { IfOk result (λ next. IfSome next (λ _. self.now.tick < max_tick)) }
     {
-        let Some(change) = self.change_by(pass) else {
+        if self.shows(change) {
             return Ok(None);
-        };
+        }
         if self.tick == MAX_TICK {
             return Err(ViewFault::TicksSpent);
         }
-        Ok(Some(self.moved_by(pass, &change)?))
+        Ok(Some(self.moved_by(change)?))
     }
 
-    /// Whether the pass saw just the same as the last one, so that taking it in would move nothing. The call takes no
-    /// memory.
-    pub fn shows(&self, pass: &Pass) -> bool
-        ensures { (history : History) → IsViewOf history self.now
-            → (IsTrue result ↔ (last_stats history ≡ pass.now.stats)) }
+    /// Whether a pass saw just the same as the last one. The call takes no memory.
+    fn shows(&self, change: &Change<'_>) -> bool
+        requires { (change.now).base ≡ self.now }
+        ensures { (history : History) → IsViewOf history self.now → MatchBool result
+            (last_stats history ≡ ((change.now).pass).stats)
+            (last_stats history ≢ ((change.now).pass).stats) }
     {
-        self.change_by(pass).is_none()
+        all_shown(self.chunks.slots(), change.patches())
     }
 
-    /// The change that the pass makes. There is none if the pass saw just the same as the last one.
-    fn change_by<'a>(&'a self, pass: &'a Pass) -> Option<Change<'a>>
-        ensures same { (history : History) → IsViewOf history self.now
-            → MatchOption result (last_stats history ≡ pass.now.stats)
-            (λ _. last_stats history ≢ pass.now.stats) }
-        ensures change { IfSome result (IsChangeBy self.now.records pass.now) }
-    {
-        first_change(self.chunks.slots(), pass.rows())
-    }
-
-    /// The view after a pass that saw something else than the one before it, and makes this change.
-    fn moved_by(&self, pass: &Pass, change: &Change<'_>) -> Result<View, AllocError>
+    /// The view after a pass that saw something else than the one before it.
+    fn moved_by(&self, change: &Change<'_>) -> Result<View, AllocError>
         requires tick { self.now.tick < max_tick }
-        requires change { IsChangeBy self.now.records pass.now change.now }
+        requires base { (change.now).base ≡ self.now }
         ensures { (history : History) → IsViewOf history self.now
-            → IfOk result (IsViewOf (history ++ pass.now ∷ [])) }
+            → IfOk result (IsViewOf (history ++ (change.now).pass ∷ [])) }
     {
         let at = Moment {
             tick: self.tick + 1,
-            second: pass.second(),
+            second: change.second(),
         };
         let alloc = self.chunks.allocator();
-        let (chunks, moves) = chunks_after(alloc, change, &at)?;
+        let (chunks, moves) = chunks_patched(alloc, self.chunks.slots(), change.patches(), &at)?;
         let order = self.order.after(alloc, &moves, self.tick == 0)?;
         Ok(View {
             tick: at.tick,
@@ -194,73 +194,6 @@ impl View {
         ensures { IsTrue result → ArePatches self.now.records patches.now }
     {
         are_fit(&self.chunks, patches)
-    }
-
-    /// The view after a pass at this second whose rows differ by these patches from the view, or none if the pass saw
-    /// just the same as the pass before it.
-    ///
-    /// The call shares the chunks that no patch touches, and looks at no record of them. It runs in O(c + n + m) for c
-    /// chunks, n records in chunks that patches touch, and m rows of patches.
-    pub fn after_patches(&self, patches: &[Patch], second: i64) -> Result<Option<View>, ViewFault>
-        requires fit { ArePatches self.now.records patches.now }
-        requires second { IsTrue (is_count second) }
-        requires lawful { IsTrue (list_all is_lawful_row (patched self.now.records patches.now)) }
-        // For every history of which this is the view:
-        ensures moved { (history : History) → IsViewOf history self.now
-            → IfOk result (λ next. IfSome next (IsViewOf
-            (history ++ listing_of (patched self.now.records patches.now) second ∷ []))) }
-        ensures still { (history : History) → IsViewOf history self.now
-            → ((result ≡ Ok None) ↔ (last_stats history
-            ≡ (listing_of (patched self.now.records patches.now) second).stats)) }
-        ensures spent { (history : History) → IsViewOf history self.now
-            → ((result ≡ Err ViewFault.TicksSpent)
-            ↔ ((self.now.tick ≡ max_tick) × (last_stats history
-            ≢ (listing_of (patched self.now.records patches.now) second).stats))) }
-        // And for any view:
-        ensures room { IfOk result (λ next. IfSome next (λ _. self.now.tick < max_tick)) }
-    {
-        if self.shows_patches(patches) {
-            return Ok(None);
-        }
-        if self.tick == MAX_TICK {
-            return Err(ViewFault::TicksSpent);
-        }
-        Ok(Some(self.patched_by(patches, second)?))
-    }
-
-    /// Whether a pass whose rows differ by these patches saw just the same as the last one.
-    fn shows_patches(&self, patches: &[Patch]) -> bool
-        requires { ArePatches self.now.records patches.now }
-        ensures { (history : History) → IsViewOf history self.now → MatchBool result
-            (last_stats history ≡ patched_stats self.now.records patches.now)
-            (last_stats history ≢ patched_stats self.now.records patches.now) }
-    {
-        all_shown(self.chunks.slots(), patches)
-    }
-
-    /// The view after a pass at this second, whose rows differ by these patches, and which saw something else than the
-    /// one before it.
-    fn patched_by(&self, patches: &[Patch], second: i64) -> Result<View, AllocError>
-        requires tick { self.now.tick < max_tick }
-        requires fit { ArePatches self.now.records patches.now }
-        requires second { IsTrue (is_count second) }
-        requires lawful { IsTrue (list_all is_lawful_row (patched self.now.records patches.now)) }
-        ensures { (history : History) → IsViewOf history self.now
-            → IfOk result (IsViewOf
-            (history ++ listing_of (patched self.now.records patches.now) second ∷ [])) }
-    {
-        let at = Moment {
-            tick: self.tick + 1,
-            second,
-        };
-        let alloc = self.chunks.allocator();
-        let (chunks, moves) = chunks_patched(alloc, self.chunks.slots(), patches, &at)?;
-        let order = self.order.after(alloc, &moves, self.tick == 0)?;
-        Ok(View {
-            tick: at.tick,
-            chunks,
-            order,
-        })
     }
 
     /// The allocator of the view's records.
@@ -381,19 +314,28 @@ impl View {
         self.order.get(k)
     }
 
-    /// The positions of the records whose suffix is one of these, ascending. A to Z count as a to z, and no record has an
-    /// empty suffix.
+    /// The position of a record with this suffix: the one with so many such records before it. A to Z count as a to z, and
+    /// no record has an empty suffix.
     ///
-    /// The call compares each suffix of a chunk once, and then reads a byte for each record. It takes memory for the
-    /// positions.
-    ///
-    /// # Errors
-    /// Memory ran out.
-    pub fn with_suffix(&self, alloc: Global, sought: &Suffixes<'_>) -> Result<Vec<u32>, AllocError>
-        ensures { IfOk result (λ found. found.items
-            ≡ positions_of (has_suffix_of sought.now) self.now.records) }
+    /// The call compares each suffix of a chunk once, and then reads a byte for each record up to that one.
+    pub fn suffix_at(&self, text: &[u8], k: usize) -> Option<usize>
+        ensures value { result
+            ≡ slice_get (positions_of (has_suffix text.now) self.now.records) k }
+        ensures bound { IfSome result (λ i. i < length self.now.records) }
     {
-        self.chunks.with_suffix(alloc, sought)
+        let mut search = SuffixSearch::over(self.chunks.slots(), Sought::One(text));
+        for _ in 0..k {
+            search.next()?;
+        }
+        search.next()
+    }
+
+    /// A search for the records whose suffix is one of these. A to Z count as a to z, and no record has an empty suffix.
+    /// The search gives their positions, ascending.
+    pub fn search<'a, 's>(&'a self, sought: &'s Suffixes<'s>) -> SuffixSearch<'a, 's>
+        ensures { result ≡ positions_of (has_suffix_of sought.now) self.now.records }
+    {
+        SuffixSearch::over(self.chunks.slots(), Sought::Any(sought))
     }
 
     /// An equal view. It shares its records with this view.

@@ -13,7 +13,7 @@ use Rattle.std.proofs.lemmas.Option.{same_Some}
 use Rattle.std.proofs.lemmas.Slice.Eq.{bytes_eq-Decides}
 use Rattle.wq_view.specs.SeenRows.{seen_row, seen_rows}
 use Rattle.wq_view.specs.Below.{is_below}
-use Rattle.wq_crawl.specs.Recent.{is_one_of_names}
+use Rattle.wq_patch.specs.Recent.{is_one_of_names}
 use Rattle.wq_view.specs.Position.{has_name, passes_at}
 use Rattle.wq_record.specs.RecordData.{RecordData, record_named}
 use Rattle.wq_record.specs.Seen.{SeenData, Stat}

@@ -6,7 +6,7 @@ use Rattle.std.specs.List.{All}
 use Rattle.std.specs.Str.{byte}
 use Rattle.wq_view.specs.SeenRows.{seen_row, seen_rows}
 use Rattle.wq_view.specs.Below.{is_below}
-use Rattle.wq_crawl.specs.Recent.{is_one_of_names}
+use Rattle.wq_patch.specs.Recent.{is_one_of_names}
 use Rattle.wq_record.specs.RecordData.{RecordData, record_named}
 use Rattle.wq_record.specs.Seen.{SeenData, Stat}
 use Rattle.wq_record.specs.declared.kind.Kind.TheVariants.{Dir}

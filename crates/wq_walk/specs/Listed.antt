@@ -1,11 +1,12 @@
 -- A listing of a tree, which joins the walks of its parts. No public document defines it.
 use Rattle.std.specs.Prelude.{◌≡◌, ◌⊎◌, ℕ, List, [], ◌∷◌, ◌++◌, Some, map, slice_get}
-use Rattle.std.specs.Prelude.{Result, Vec, IfOk, IfErr}
+use Rattle.std.specs.Prelude.{Result, Vec, IfOk, IfErr, IsTrue}
 use Rattle.std.specs.List.{All, flat_map}
 use Rattle.std.specs.Str.{byte}
 use Rattle.std.specs.declared.alloc.Global.{Global}
-use Rattle.wq_crawl.specs.declared.tree.TreeFault.{TreeFault}
-use Rattle.wq_crawl.specs.declared.tree.TreeFault.TheVariants.{Unreadable}
+use Rattle.wq_patch.specs.Tree.{is_of_device}
+use Rattle.wq_patch.specs.declared.tree.TreeFault.{TreeFault}
+use Rattle.wq_patch.specs.declared.tree.TreeFault.TheVariants.{Unreadable}
 use Rattle.wq_view.specs.SeenRows.{seen_rows}
 use Rattle.wq_record.specs.RecordData.{RecordData}
 use Rattle.wq_record.specs.Seen.{SeenData}
@@ -16,7 +17,7 @@ use Rattle.wq_walk.specs.declared.walks.Walked.{Walked}
 use Rattle.wq_walk.specs.Found.{found_rows}
 use Rattle.wq_walk.specs.Pieces.{IsSharedOut}
 use Rattle.wq_walk.specs.Tiles.{piece_records}
-use Rattle.wq_disk.specs.Told.{GivesStat, Has, HasStat, IsHandleFault, IsRootFault, IsUnreadable}
+use Rattle.wq_disk.specs.Told.{Fails, GivesStat, Has, HasStat, IsRootFault, IsUnreadable}
 use Rattle.wq_walk.specs.Walk.{IsWalk}
 
 -- the parts of pieces
@@ -60,7 +61,7 @@ AreOfPieces says has root pieces list =
     All (λ walked. IsWalkOfPiece says has root pieces walked.place walked.rows) list
 
 -- pieces that a thread drew were each walked, or a walk failed
-unfoldable pub IsDrawn : GivesStat → Has → (List ℕ → Type 0) → List ℕ → List Piece
+unfoldable pub IsDrawn : GivesStat → Has → Fails → List ℕ → List Piece
     → Result (Vec Walked Global) TreeFault → Type 0
 IsDrawn says has fails root pieces result =
     IfOk result (λ list. AreOfPieces says has root pieces list.items)
@@ -86,9 +87,10 @@ IsListed says has root rows =
 abbrev pub IsRooted : GivesStat → List ℕ → Type 0
 IsRooted says root = (path : List ℕ) × IsPathOf root path × HasStat says path
 
--- a fault of a listing: it says that the root cannot be read only if the root could not be read,
--- and that no file handle is left only if a call of the system failed so
-abbrev pub IsUnread : GivesStat → Has → (List ℕ → Type 0) → List ℕ → TreeFault → Type 0
+-- a fault of a listing: it is one of the device only if the root could not be read, or a call of
+-- the system failed so at some path
+abbrev pub IsUnread : GivesStat → Has → Fails → List ℕ → TreeFault → Type 0
 IsUnread says has fails root fault =
-    (fault ≡ Unreadable → (path : List ℕ) × IsPathOf root path × IsUnreadable says has path)
-    × IsHandleFault fails fault
+    IsTrue (is_of_device fault)
+    → ((fault ≡ Unreadable) × (path : List ℕ) × IsPathOf root path × IsUnreadable says has path)
+    ⊎ ((path : List ℕ) × fails fault path)

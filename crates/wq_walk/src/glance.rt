@@ -4,12 +4,12 @@
 ghost use Rattle.std.specs.Prelude.{◌≡◌, ◌-◌, ◌≤◌, ◌++◌, [], false, ℕ, drop, length, nat_le, nat_lt, take, ◌&&◌};
 ghost use Rattle.std.specs.Prelude.{IfErr, IfOk, IfSome, IsTrue, OnOk};
 ghost use Rattle.std.specs.List.{list_all};
-ghost use Rattle.wq_crawl.specs.Tree.{IsFit, is_of_device, rows_listed};
+ghost use Rattle.wq_patch.specs.Tree.{IsFit, is_of_device, rows_listed};
 ghost use Rattle.wq_view.specs.SeenRows.{seen_rows};
 ghost use Rattle.wq_view.specs.Below.{is_below};
 ghost use Rattle.wq_view.specs.Limit.{max_listing_rows};
 ghost use Rattle.wq_view.specs.Position.{passes_at};
-ghost use Rattle.wq_crawl.specs.Recent.{is_one_of_names};
+ghost use Rattle.wq_patch.specs.Recent.{is_one_of_names};
 ghost use Rattle.wq_record.specs.Seen.{is_lawful_row};
 ghost use Rattle.wq_record.specs.declared.kind.Kind.TheVariants.{Dir};
 ghost use Rattle.wq_disk.specs.Directory.{IsDone, data_of};
@@ -35,9 +35,8 @@ use std::alloc::{AllocError, Global};
 use std::str;
 use std::thread::Threads;
 use std::time::CpuClock;
-use wq_crawl::{Listing, Reach, Recent, TreeFault};
 use wq_disk::{Directory, Disk, Stat, Step, with_slash};
-use wq_patch::existing_rows;
+use wq_patch::{Listing, Reach, Recent, TreeFault, existing_rows};
 use wq_view::{Kind, Record, View};
 
 /// A glance that has not ended yet.

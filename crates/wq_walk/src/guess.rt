@@ -5,8 +5,8 @@ ghost use Rattle.wq_disk.specs.Told.{IsRootFault};
 use crate::piece::MOST_PIECES;
 use crate::progress::Progress;
 use std::alloc::{AllocError, Global};
-use wq_crawl::TreeFault;
 use wq_disk::{Block, Disk, Names, TreePath};
+use wq_patch::TreeFault;
 
 /// If the root has fewer names than this, some of the names below them are taken too.
 const FEW: usize = 256;

@@ -1,8 +1,8 @@
 //! A listing of a tree, from pieces of it. Another module has threads walk the pieces.
 ghost use Rattle.std.specs.Prelude.{◌≡◌, false, ◌+◌, ◌≤◌, ◌<◌, ◌++◌, length, take, IfErr, IfOk, IsTrue};
 ghost use Rattle.std.specs.List.{list_all};
-ghost use Rattle.wq_crawl.specs.declared.tree.TreeFault.TheVariants.{TooManyRows};
-ghost use Rattle.wq_crawl.specs.Tree.{IsFit, is_of_device, rows_listed};
+ghost use Rattle.wq_patch.specs.declared.tree.TreeFault.TheVariants.{TooManyRows};
+ghost use Rattle.wq_patch.specs.Tree.{IsFit, is_of_device, rows_listed};
 ghost use Rattle.wq_view.specs.Limit.{max_listing_rows};
 ghost use Rattle.wq_view.specs.Patch.{patched};
 ghost use Rattle.wq_record.specs.Seen.{is_lawful_row};
@@ -20,9 +20,8 @@ use crate::walks::Walks;
 use std::alloc::{AllocError, Global};
 use std::thread::Threads;
 use std::time::CpuClock;
-use wq_crawl::{Listing, TreeFault};
 use wq_disk::{Disk, with_slash};
-use wq_patch::{patched_rows, simplified};
+use wq_patch::{Listing, TreeFault, patched_rows, simplified};
 use wq_view::{MAX_LISTING_ROWS, Patch, Seen, View};
 
 /// The rows of the files below a root that was not listed before.
@@ -168,7 +167,7 @@ pub(crate) fn patched_listing(
     if last.fits(&patches) {
         return Ok(Listing::Patches(patches));
     }
-    let rows = patched_rows(alloc, last.records(), &patches)?;
+    let rows = patched_rows(alloc, last.records(), patches)?;
     Ok(Listing::Rows(rows))
 }
 

@@ -1,13 +1,13 @@
 //! The progress of the threads that walk one tree. Another module walks the pieces.
 ghost use Rattle.std.specs.Prelude.{◌≡◌, IfErr};
-ghost use Rattle.wq_crawl.specs.declared.tree.TreeFault.TheVariants.{GaveWay, TooManyRows};
+ghost use Rattle.wq_patch.specs.declared.tree.TreeFault.TheVariants.{GaveWay, TooManyRows};
 
 use crate::piece::MOST_PIECES;
 use std::io;
 use std::sync::atomic::{AtomicU64, AtomicUsize, Ordering};
 use std::time::Duration;
-use wq_crawl::{LeftOut, TreeFault};
 use wq_disk::Way;
+use wq_patch::{LeftOut, TreeFault};
 use wq_view::MAX_LISTING_ROWS;
 
 /// The progress of the threads that walk one tree.

@@ -1,8 +1,8 @@
 //! The files of a piece that a listing found so far. Other modules find them.
 ghost use Rattle.std.specs.Prelude.{◌≡◌, false, ◌+◌, ◌-◌, ◌≤◌, ◌<◌, ◌++◌, ◌∷◌, [], drop, length, take, IfErr, IfOk, IfSome, OnOk, IsTrue};
 ghost use Rattle.std.specs.List.{list_all};
-ghost use Rattle.wq_crawl.specs.declared.tree.TreeFault.TheVariants.{TooManyRows};
-ghost use Rattle.wq_crawl.specs.Tree.{is_of_device};
+ghost use Rattle.wq_patch.specs.declared.tree.TreeFault.TheVariants.{TooManyRows};
+ghost use Rattle.wq_patch.specs.Tree.{is_of_device};
 ghost use Rattle.wq_record.specs.Name.{is_valid_name};
 ghost use Rattle.wq_view.specs.SeenRows.{seen_rows};
 ghost use Rattle.wq_view.specs.Limit.{max_listing_rows};
@@ -16,9 +16,8 @@ ghost use Rattle.wq_walk.specs.Walk.{row_with_stat};
 
 use crate::piece::Piece;
 use std::alloc::{AllocError, Global};
-use wq_crawl::TreeFault;
 use wq_disk::{Part, Stat};
-use wq_patch::Again;
+use wq_patch::{Again, TreeFault};
 use wq_view::{MAX_LISTING_ROWS, Patch, Seen, SharedBytes};
 
 /// At most 1,000,000 files of a piece that were found so far. A pass takes each of them. Rows are made only for those

@@ -14,8 +14,8 @@ use crate::walkers::Walkers;
 use std::alloc::{AllocError, Global};
 use std::thread::{Threads, join};
 use std::time::CpuClock;
-use wq_crawl::TreeFault;
 use wq_disk::{Disk, Stat, TreePath};
+use wq_patch::TreeFault;
 use wq_view::{MAX_NAME, Record, View};
 
 /// The least number of records for which a thread looks.

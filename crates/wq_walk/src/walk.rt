@@ -2,7 +2,7 @@
 ghost use Rattle.std.specs.Prelude.{◌≡◌, ◌⊎◌, ◌++◌, ◌∷◌, [], ℕ, Bool, false, length, List, MatchOption};
 ghost use Rattle.std.specs.Prelude.{IfErr, IfOk, IfSome, IsTrue, None, OnOk, Some, is_some};
 ghost use Rattle.std.specs.Str.{IsUtf8, byte};
-ghost use Rattle.wq_crawl.specs.Tree.{is_of_device};
+ghost use Rattle.wq_patch.specs.Tree.{is_of_device};
 ghost use Rattle.wq_record.specs.Name.{is_valid_name};
 ghost use Rattle.wq_record.specs.Seen.{SeenData, is_lawful_row};
 ghost use Rattle.wq_disk.specs.Directory.{IsDone, data_of, entry_at, fresh, text_of_entries};
@@ -19,8 +19,8 @@ use crate::progress::Progress;
 use crate::rows::Rows;
 use std::alloc::{AllocError, Global};
 use std::mem;
-use wq_crawl::TreeFault;
 use wq_disk::{Block, Directory, Disk, Names, Place, Stat, Step, TreePath};
+use wq_patch::TreeFault;
 use wq_view::{Seen, SharedBytes, is_valid_name};
 
 /// A walk that has not ended yet. A glance is a walk that need not enter each directory.
@@ -42,7 +42,7 @@ pub(crate) struct Walk<'a, 'p> {
 /// The walk reads each directory whole, and then looks at its entries. It follows no links, except one that is the
 /// root. It leaves out an entry at which it cannot look, such as one that is deleted meanwhile, and an entry whose name
 /// no pass takes. If a directory below the root cannot be read, the walk lists its own row alone. If no more files can
-/// be opened, the error says nothing of the directory, and the walk fails. The walk does not read directories below
+/// be opened, or a file system fails, the error says nothing of the directory, and the walk fails. The walk does not read directories below
 /// which no name is in the part.
 ///
 /// The walk also fails as soon as the whole tree has more rows, and names that were read and not looked at, than a pass

@@ -1,7 +1,8 @@
 //! The tree on disk, for a server that lists roots again and again. The walker keeps nothing of the listings.
-ghost use Rattle.std.specs.Prelude.{◌≡◌, true, false, ◌≤◌, length, IfErr, IfOk, IsTrue, OnOk};
+ghost use Rattle.std.specs.Prelude.{◌≡◌, ◌⊎◌, true, false, ◌≤◌, length, Err, IfErr, IfOk, IsTrue, Ok, OnOk, Some};
 ghost use Rattle.std.specs.List.{list_all};
-ghost use Rattle.wq_crawl.specs.Tree.{IsCounted, IsFit, rows_listed};
+ghost use Rattle.wq_patch.specs.Tree.{IsCounted, IsFit, rows_listed};
+ghost use Rattle.wq_patch.specs.declared.tree.TreeFault.TheVariants.{Unreadable};
 ghost use Rattle.wq_view.specs.Limit.{max_listing_rows};
 ghost use Rattle.wq_record.specs.Seen.{is_lawful_row};
 ghost use Rattle.wq_walk.specs.Glance.{IsGlancedAt};
@@ -18,9 +19,9 @@ use std::sync::Arc;
 use std::sync::atomic::{AtomicU64, Ordering};
 use std::thread::Threads;
 use std::time::{Clock, CpuClock, Instant};
-use wq_base::Workers;
-use wq_crawl::{LeftOut, Listing, Recent, Tree, TreeFault};
+use wq_base::{Text, Workers};
 use wq_disk::{Block, Disk, FileDisk, Way, with_slash};
+use wq_patch::{LeftOut, Listing, Recent, Tree, TreeFault};
 use wq_view::{Seen, View};
 
 /// Walks the trees of a disk, and counts how often a root could not be read or no file handle was
@@ -44,6 +45,8 @@ pub struct Walker<T: Threads + Drop, D: Disk + Drop> {
     left_out: LeftOut,
     /// Whether the last listing was of a whole root. That of a glance is not.
     is_whole: bool,
+    /// The root that was last listed for the first time, if it had a device of its own then: a file system is mounted there.
+    mounted: Option<Text>,
 }
 
 impl<T: Threads + Drop, D: Disk + Drop> Walker<T, D> {
@@ -74,6 +77,7 @@ impl<T: Threads + Drop, D: Disk + Drop> Walker<T, D> {
             failures: 0,
             left_out: LeftOut::nothing(),
             is_whole: true,
+            mounted: None,
         }
     }
 
@@ -246,6 +250,52 @@ impl<T: Threads + CpuClock + Drop, D: Disk + Sync + Drop> Walker<T, D> {
     }
 }
 
+impl<T: Threads + Drop> Walker<T, FileDisk> {
+    /// Keeps whether a file system is mounted at a root that was listed for the first time.
+    fn keep_mount(&mut self, root: &str)
+        ensures failures { self.new.failures ≡ self.old.failures }
+        ensures whole { self.new.is_whole ≡ self.old.is_whole }
+    {
+        self.mounted = match self.disk.has_own_device(root) {
+            Some(true) => Text::copied(self.alloc, root).ok(),
+            _ => None,
+        };
+    }
+
+    /// Whether the file system that was mounted at a root when it was listed for the first time is gone. What is there
+    /// now is the directory below it, and says nothing of the files.
+    fn has_gone(&self, root: &str) -> bool
+        ensures { IsTrue result → self.now.mounted ≡ Some root.now }
+    {
+        match &self.mounted {
+            Some(mounted) if mounted.as_str() == root => {
+                self.disk.has_own_device(root) == Some(false)
+            }
+            _ => false,
+        }
+    }
+
+    /// This listing of a root, unless the file system of the root is gone.
+    fn unless_gone<X: Drop>(
+        &mut self,
+        root: &str,
+        listed: Result<X, TreeFault>,
+    ) -> Result<X, TreeFault>
+        ensures ok { IfOk result (λ listing. listed ≡ Ok listing) }
+        ensures err { IfErr result (λ fault. ((listed ≡ Err fault)
+            × (self.new.failures ≡ self.old.failures))
+            ⊎ ((fault ≡ Unreadable) × (self.old.mounted ≡ Some root.now)
+            × IsCounted self.old.failures self.new.failures fault)) }
+        ensures whole { self.new.is_whole ≡ self.old.is_whole }
+    {
+        if listed.is_ok() && self.has_gone(root) {
+            self.failures = self.failures.saturating_add(1);
+            return Err(TreeFault::Unreadable);
+        }
+        listed
+    }
+}
+
 /// During a listing the root is the working directory of the process, unless that is the root of another walker, and `/`
 /// is it after that. So nothing else may use a relative path.
 impl<T: Threads + Clock + CpuClock + Drop> Tree for Walker<T, FileDisk> {
@@ -256,7 +306,7 @@ impl<T: Threads + Clock + CpuClock + Drop> Tree for Walker<T, FileDisk> {
     /// The rows of the files below a root on this machine, as [`Walker::walk`] gives them.
     fn list(&mut self, root: &str) -> Result<Vec<Seen>, TreeFault>
         ensures counted { IfErr result (IsCounted self.old.failures self.new.failures) }
-        ensures unread { IfErr result (IsUnreadHere root.now) }
+        ensures unread { IfErr result (IsUnreadHere self.old.mounted root.now) }
         ensures lawful { IfOk result (λ rows. IsTrue (list_all is_lawful_row rows.items)) }
         ensures few { IfOk result (λ rows. length rows.items ≤ max_listing_rows) }
         ensures walked { IfOk result (λ rows. IsListedHere root.now rows.items) }
@@ -265,13 +315,15 @@ impl<T: Threads + Clock + CpuClock + Drop> Tree for Walker<T, FileDisk> {
         self.disk.enter(root);
         let listed = self.walk(root);
         self.disk.leave();
+        self.keep_mount(root);
         listed
     }
 
-    /// The listing of the files below a root on this machine, as [`Walker::walk_again`] gives them.
+    /// The listing of the files below a root on this machine, as [`Walker::walk_again`] gives them. The root is unreadable
+    /// too if the file system that was mounted there is gone.
     fn list_again(&mut self, root: &str, last: &View) -> Result<Listing, TreeFault>
         ensures counted { IfErr result (IsCounted self.old.failures self.new.failures) }
-        ensures unread { IfErr result (IsUnreadHere root.now) }
+        ensures unread { IfErr result (IsUnreadHere self.old.mounted root.now) }
         ensures lawful { IfOk result (λ listing.
             IsTrue (list_all is_lawful_row (rows_listed last.now.records listing))) }
         ensures few { IfOk result (λ listing.
@@ -284,13 +336,14 @@ impl<T: Threads + Clock + CpuClock + Drop> Tree for Walker<T, FileDisk> {
         self.disk.enter(root);
         let listed = self.walk_again(root, last);
         self.disk.leave();
-        listed
+        self.unless_gone(root, listed)
     }
 
-    /// The listing of a glance at the files below a root on this machine, as [`Walker::glance_at`] gives it.
+    /// The listing of a glance at the files below a root on this machine, as [`Walker::glance_at`] gives it. The root is
+    /// unreadable too if the file system that was mounted there is gone.
     fn glance(&mut self, root: &str, last: &View, recent: &Recent<'_>) -> Result<Listing, TreeFault>
         ensures counted { IfErr result (IsCounted self.old.failures self.new.failures) }
-        ensures unread { IfErr result (IsUnreadHere root.now) }
+        ensures unread { IfErr result (IsUnreadHere self.old.mounted root.now) }
         ensures lawful { IfOk result (λ listing.
             IsTrue (list_all is_lawful_row (rows_listed last.now.records listing))) }
         ensures few { IfOk result (λ listing.
@@ -303,7 +356,7 @@ impl<T: Threads + Clock + CpuClock + Drop> Tree for Walker<T, FileDisk> {
         self.disk.enter(root);
         let listed = self.glance_at(root, last, recent);
         self.disk.leave();
-        listed
+        self.unless_gone(root, listed)
     }
 
     fn failures(&self) -> u64 {

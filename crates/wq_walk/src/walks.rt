@@ -13,8 +13,8 @@ use crate::walkers::Walkers;
 use std::alloc::{AllocError, Global};
 use std::thread::{Threads, join};
 use std::time::CpuClock;
-use wq_crawl::TreeFault;
 use wq_disk::Disk;
+use wq_patch::TreeFault;
 
 /// Pieces of a tree that threads walk.
 #[derive(Clone, Copy)]

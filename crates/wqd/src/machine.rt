@@ -6,10 +6,11 @@ use std::marker::Brand;
 use std::process::ExitCode;
 use std::time::Duration;
 use wq_command_line::Settings;
-use wq_crawl::{LaneParts, Seconds, Tree};
+use wq_crawl::{LaneParts, Seconds};
 use wq_daemon::{Parts, SEATS, serve_clients};
 use wq_launch::{Notices, Spawn};
 use wq_live::Blank;
+use wq_patch::Tree;
 use wq_server::{Listening, Pace, Runtime, listen, remove};
 
 /// Lines on standard error.

@@ -1,7 +1,6 @@
 //! `clock`, the last pass over a root: its ask and its reply.
 ghost use Rattle.std.specs.Prelude.{◌≡◌, IfOk};
 ghost use Rattle.serde_json.specs.View.{view as data_of, items_view};
-ghost use Rattle.wq_clock.specs.Instance.{instance_data};
 ghost use Rattle.wq_ask.specs.Argument.{behind};
 ghost use Rattle.wq_ask.specs.Clock.{asks_crawl, clock_arguments, clock_data, clock_request};
 ghost use Rattle.wq_ask.specs.Reading.{Requests};
@@ -14,9 +13,8 @@ use crate::words::{one_behind, text, two_behind};
 use serde_json::{Value, json};
 use std::alloc::{AllocError, Global};
 use wq_base::{Text, VERSION};
-use wq_clock::{Instance, print};
+use wq_clock::ClockText;
 use wq_term::whole_number;
-use wq_view::View;
 
 /// The ask of `clock` with these words.
 pub(super) fn ask_clock(alloc: Global, words: Vec<Value>) -> Result<Ask, Refusal>
@@ -61,10 +59,9 @@ fn asks_crawl(options: &Value) -> bool
     }
 }
 
-/// The clock id of a view.
-pub fn clock_reply(alloc: Global, instance: &Instance, view: &View) -> Result<Value, AllocError>
-    ensures { IfOk result (IsReply (clock_data (instance_data instance.now) view.now)) }
+/// The reply with a clock id.
+pub fn clock_reply(alloc: Global, clock: &ClockText) -> Result<Value, AllocError>
+    ensures { IfOk result (IsReply (clock_data clock.now)) }
 {
-    let clock = print(instance, view.tick());
     json!(in alloc; { "clock": clock.as_str(), "version": VERSION })
 }

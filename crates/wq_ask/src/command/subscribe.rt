@@ -2,7 +2,6 @@
 //! their replies.
 ghost use Rattle.std.specs.Prelude.{◌≡◌, Some, option_map, IfOk};
 ghost use Rattle.serde_json.specs.View.{view as data_of, items_view};
-ghost use Rattle.wq_clock.specs.Instance.{instance_data};
 ghost use Rattle.wq_ask.specs.Argument.{behind};
 ghost use Rattle.wq_ask.specs.Reading.{Requests};
 ghost use Rattle.wq_ask.specs.Reply.{IsReply};
@@ -16,8 +15,7 @@ use crate::words::{text, three_behind, two_texts};
 use serde_json::{Value, json};
 use std::alloc::{AllocError, Global};
 use wq_base::{Text, VERSION};
-use wq_clock::{Instance, print};
-use wq_view::View;
+use wq_clock::ClockText;
 
 /// The ask of `subscribe` with these words.
 pub(super) fn ask_subscribe(alloc: Global, words: Vec<Value>) -> Result<Ask, Refusal>
@@ -63,17 +61,10 @@ pub(super) fn ask_unsubscribe(alloc: Global, words: Vec<Value>) -> Result<Ask, R
     })
 }
 
-/// The reply that the subscription has begun.
-pub fn subscribe_reply(
-    alloc: Global,
-    instance: &Instance,
-    view: &View,
-    name: &str,
-) -> Result<Value, AllocError>
-    ensures { IfOk result (IsReply
-        (subscribe_data (instance_data instance.now) view.now name.now)) }
+/// The reply that the subscription has begun, at this clock id.
+pub fn subscribe_reply(alloc: Global, clock: &ClockText, name: &str) -> Result<Value, AllocError>
+    ensures { IfOk result (IsReply (subscribe_data clock.now name.now)) }
 {
-    let clock = print(instance, view.tick());
     json!(in alloc; { "clock": clock.as_str(), "subscribe": name, "version": VERSION })
 }
 

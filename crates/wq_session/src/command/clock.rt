@@ -8,6 +8,7 @@ use crate::plain::Plain;
 use crate::work::Rest;
 use std::alloc::Global;
 use wq_ask::{Refusal, clock_reply};
+use wq_clock::print;
 use wq_crawl::At;
 
 /// `clock`, of the root that is looked at.
@@ -18,6 +19,7 @@ pub(super) fn clock_at(alloc: Global, at: At<'_>) -> Result<Rest, Refusal>
     let Some(view) = at.view else {
         return Err(Refusal::NotWatched);
     };
-    let value = clock_reply(alloc, &at.instance, view)?;
+    let clock = print(&at.instance, view.tick());
+    let value = clock_reply(alloc, &clock)?;
     Ok(Rest::Prints(Plain { value }))
 }

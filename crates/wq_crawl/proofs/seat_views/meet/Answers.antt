@@ -24,7 +24,7 @@ pub returns-in-Crawl : goal.returns-in-Crawl
 returns-in-Crawl g c =
     let basis = basis_of c.args.run (g.N.Witness.published g.N.Named.book) (g.N.Witness.refused g.N.Named.book) in
     let given = g.R.Roots.crawler c.args.roots.now in
-    let later = g.R.Roots.crawler c.crawl-told.new.self in
+    let later = g.R.Roots.crawler c.crawl-told.new.roots in
     let it = c.learn_and_look.result in
     subst (λ n. IsMet basis n (known given c.args.seat) it.1 (known later it.0)) (sym (ap need_data c.in-Crawl.is))
     (met_by_crawl basis c.in-Crawl.root.now c.args.seat it.0 it.1 c.crawl-told.result given later c.crawl-told.ensures c.learn_and_look.ensures)

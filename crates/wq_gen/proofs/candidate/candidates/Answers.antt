@@ -6,4 +6,4 @@ use Rattle.wq_gen.specs.Counted.{CountedData}
 use Rattle.wq_gen.proofs.candidate.candidates.Goals as goal
 
 pub returns : goal.returns
-returns g c = subst (λ (d : CountedData). IfOk c.candidates_counted.result (λ found. found.items ≡ positions_of (is_candidate c.args.generators.now) d.view.records)) c.of-counted.ensures c.candidates_counted.ensures.found
+returns c = subst (λ (d : CountedData). IfOk c.candidates_counted.result (λ found. found.items ≡ positions_of (is_candidate c.args.generators.now) d.view.records)) c.of-counted.ensures c.candidates_counted.ensures.found

@@ -12,10 +12,10 @@ returns-then-is_empty-clause-found c =
 
 pub returns-clause-found : goal.returns-clause-found
 returns-clause-found c =
-    IfOk-weaker c.with_suffix-2.result _ _ (λ found is. is ∙ moved_alike c.args.texts.now c.in_ok-of.field-0 c.args.counted.now.view.records c.in_ok-of.ensures) c.with_suffix-2.ensures.found
+    IfOk-weaker c.found_by_suffix.result _ _ (λ found is. is ∙ moved_alike c.args.texts.now c.in_ok-sought.sought c.args.counted.now.view.records c.in_ok-sought.ensures) c.found_by_suffix.ensures.found
 
 pub returns-clause-few : goal.returns-clause-few
 returns-clause-few c =
     let rs = c.args.counted.now.view.records in
     let some = some_texts c.args.texts.now (sym c.is_empty.ensures ∙ c.if-is_empty.false) in
-    omega (arith, c.with_suffix-2.ensures.few, moved_count c.args.texts.now c.in_ok-of.field-0 rs c.in_ok-of.ensures, any_few c.args.texts.now rs some)
+    omega (arith, c.found_by_suffix.ensures.few, moved_count c.args.texts.now c.in_ok-sought.sought rs c.in_ok-sought.ensures, any_few c.args.texts.now rs some)

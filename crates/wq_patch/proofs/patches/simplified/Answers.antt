@@ -1,7 +1,7 @@
 -- A patch that changes nothing, and one that does; at the end no patch is left.
 use Rattle.std.proofs.Common.{rules, ◌≡◌, ◌+◌, ◌++◌, ◌∷◌, [], ap, refl, sym, ◌∙◌}
 use Rattle.std.specs.Vec.Iter.{into_iter_items}
-use Rattle.wq_patch.specs.PatchMaker.{records_after, rows_before}
+use Rattle.wq_patch.specs.PatchMaker.{records_behind, rows_before}
 use Rattle.wq_view.specs.Patch.{patched}
 use Rattle.wq_view.specs.declared.patch.Patch.{Patch}
 use Rattle.wq_patch.proofs.Carried.{carried, changed_carried, ended, plain_carried}
@@ -18,7 +18,7 @@ loop-patch-preserved-then-changes_nothing c =
     let sum : c.in_ok-sum.sum ≡ kept + p.kept = search rules in
     record {
       rows = λ records.
-          let left = records_after records fewer in
+          let left = records_behind records fewer in
           ap (λ rs. rows_before records fewer ++ rs)
           ((λ j. carried (sum j) left rest)
           ∙ plain_carried left kept p rest (c.changes_nothing.ensures.replaced c.if-changes_nothing.true) (c.changes_nothing.ensures.rows c.if-changes_nothing.true)
@@ -39,9 +39,9 @@ loop-patch-preserved c =
     let pushed : c.push.new.self.items ≡ fewer ++ (q ∷ []) = search rules in
     record {
       rows = λ records.
-          (λ j. rows_before records (pushed j) ++ carried 0 (records_after records (pushed j)) rest)
+          (λ j. rows_before records (pushed j) ++ carried 0 (records_behind records (pushed j)) rest)
           ∙ changed_carried records fewer kept p q rest sum refl refl
-          ∙ (λ j. rows_before records fewer ++ carried kept (records_after records fewer) (sym is j))
+          ∙ (λ j. rows_before records fewer ++ carried kept (records_behind records fewer) (sym is j))
           ∙ c.loop-patch.invariant.rows records;
       len = search rules;
     }
@@ -53,6 +53,6 @@ returns c records =
     let none : into_iter_items c.loop-patch.patch-iterator ≡ [] = none_of (into_iter_items c.loop-patch.patch-iterator) (sym c.loop-patch.invariant.len ∙ c.in-None.ensures.steps.0) in
     let all : into_iter_items c.into_iter-patch-iterator.result ≡ c.args.patches.items = search rules in
     ended records fewer kept
-    ∙ (λ j. rows_before records fewer ++ carried kept (records_after records fewer) (sym none j))
+    ∙ (λ j. rows_before records fewer ++ carried kept (records_behind records fewer) (sym none j))
     ∙ c.loop-patch.invariant.rows records
     ∙ ap (patched records) all

@@ -1,7 +1,7 @@
 -- The client was heard.
 use Rattle.std.proofs.Common.{◌≡◌, ℤ, List, ◌++◌, ◌∷◌, [], map, subst}
 use mir.Facts.{to_z-of_z}
-use Rattle.wq_ask.specs.Need.{need_of}
+use Rattle.wq_session.specs.Need.{need_of}
 use Rattle.wq_replay.specs.Replay.{needed}
 use Rattle.wq_replay.specs.Sending.{Sends}
 use Rattle.wq_replay.specs.declared.sent.Sent.{Sent}

@@ -1,6 +1,6 @@
 -- the listing of a glance at the root's path
 use Rattle.std.proofs.Common.{◌≡◌, rules, string_bytes, subst, sym}
-use Rattle.wq_crawl.specs.Tree.{rows_listed}
+use Rattle.wq_patch.specs.Tree.{rows_listed}
 use Rattle.wq_walk.specs.Found.{found_rows}
 use Rattle.wq_walk.specs.Listed.{IsPathOf}
 use Rattle.wq_disk.specs.Told.{HasStat}

@@ -4,7 +4,7 @@ use Rattle.std.proofs.lemmas.Result.{err_from_is_err_and}
 use Rattle.std.specs.Vec.Iter.{into_iter_items}
 use Rattle.wq_walk.specs.declared.rows.Rows.{Rows}
 use Rattle.wq_walk.specs.Found.{found_rows}
-use Rattle.wq_crawl.specs.declared.tree.TreeFault.TheVariants.{TooManyRows}
+use Rattle.wq_patch.specs.declared.tree.TreeFault.TheVariants.{TooManyRows}
 use Rattle.wq_view.specs.Limit.{max_listing_rows}
 use Rattle.wq_walk.specs.Listed.{walked_rows}
 use Rattle.wq_walk.proofs.Joins.{one_more}

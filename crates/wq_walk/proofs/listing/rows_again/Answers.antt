@@ -1,6 +1,6 @@
 -- the listing of pieces that share out all names, and all records
 use Rattle.std.proofs.Common.{◌≡◌, rules, string_bytes, subst, sym, ◌∙◌}
-use Rattle.wq_crawl.specs.Tree.{rows_listed}
+use Rattle.wq_patch.specs.Tree.{rows_listed}
 use Rattle.wq_walk.specs.Listed.{IsPathOf}
 use Rattle.wq_walk.specs.Pieces.{IsSharedOut}
 use Rattle.wq_walk.specs.Tiles.{AreTiles}

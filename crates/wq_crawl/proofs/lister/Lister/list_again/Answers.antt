@@ -6,7 +6,7 @@ use Rattle.wq_record.specs.Seen.{is_count}
 use Rattle.wq_view.specs.SeenRows.{seen_rows}
 use Rattle.wq_view.specs.Listing.{is_of_whole, listing_fault, listing_of}
 use Rattle.wq_view.specs.Patch.{patched}
-use Rattle.wq_crawl.specs.declared.tree.Listing.TheVariants.{Patches, Rows, Same}
+use Rattle.wq_patch.specs.declared.tree.Listing.TheVariants.{Patches, Rows, Same}
 use Rattle.wq_crawl.specs.declared.relisted.Relisted.TheVariants.{Patched}
 use Rattle.wq_crawl.specs.Crawl.{CrawlerData, IsNoPassOver, IsRelisted, ListerData, ListsAgain, crawler_at}
 use Rattle.wq_crawl.proofs.Crawling.{patches_fault, patches_over, rows_fault, rows_over, still_fault, still_over}

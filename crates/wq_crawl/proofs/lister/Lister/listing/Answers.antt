@@ -2,7 +2,7 @@
 use Rattle.std.proofs.Common.{◌≡◌, Some, Err, MatchResult, subst}
 use Rattle.wq_live.specs.Table.{number_by_text}
 use Rattle.wq_crawl.specs.Crawl.{ListerData, ListsAgain, crawler_at}
-use Rattle.wq_crawl.specs.Tree.{Lists}
+use Rattle.wq_patch.specs.Tree.{Lists}
 use Rattle.wq_crawl.proofs.Crawling.{lawful_rows, lists_again, view_at}
 use Rattle.wq_crawl.proofs.lister.Lister.listing.Goals as goal
 

@@ -6,10 +6,10 @@ use Rattle.wq_live.proofs.publisher.Publisher.start.Goals as goal
 pub with_start-requires : goal.with_start-requires
 with_start-requires g c = record { new = not_there c.args.self.now c.table.result.now c.table.ensures.table c.args.text.now c.requires.new }
 
-pub returns-in_err-events-clause-full : goal.returns-in_err-events-clause-full
-returns-in_err-events-clause-full g c =
-    let p = err_from_is_err_and c.from_residual-in_err-events.result c.from_residual-in_err-events.ensures.1 in
-    no_memory c.from_residual-in_err-events.result c.with_start.result c.in_ok-next.next p.0 p.1 p.2 c.in_ok-next.was (full c.args.self.now c.table.result.now c.table.ensures.table c.with_start.ensures.full)
+pub returns-in_err-news-clause-full : goal.returns-in_err-news-clause-full
+returns-in_err-news-clause-full g c =
+    let p = err_from_is_err_and c.from_residual-in_err-news.result c.from_residual-in_err-news.ensures.1 in
+    no_memory c.from_residual-in_err-news.result c.with_start.result c.in_ok-next.next p.0 p.1 p.2 c.in_ok-next.was (full c.args.self.now c.table.result.now c.table.ensures.table c.with_start.ensures.full)
 
 pub returns-in_err-told-clause-full : goal.returns-in_err-told-clause-full
 returns-in_err-told-clause-full g c =

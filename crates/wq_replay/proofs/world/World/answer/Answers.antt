@@ -3,7 +3,7 @@ use Rattle.std.proofs.Common.{ℤ, Some, ap, option_map, refl, subst, sym, ◌�
 use mir.Facts.{to_z-of_z}
 use Rattle.wq_clock.specs.Run.{run_data}
 use Rattle.wq_live.specs.Table.{IsTableOf}
-use Rattle.wq_ask.specs.Need.{need_of}
+use Rattle.wq_session.specs.Need.{need_of}
 use Rattle.wq_session.specs.Desk.{stand}
 use Rattle.wq_session.specs.Shelved.{shelf_data}
 use Rattle.wq_session.specs.Desk.{Replies}

@@ -1,5 +1,5 @@
 -- The rows are lawful here, and sorted. The remaining question is whether a name comes twice.
-use Rattle.std.proofs.Common.{◌≡◌, ℤ, ◌≤◌, Bool, true, false, List, length, sym, ap, ◌∙◌, arith, w64, IsPermutation, Vec}
+use Rattle.std.proofs.Common.{◌≡◌, ℤ, ◌≤◌, Bool, true, false, List, length, refl, sym, ap, ◌∙◌, arith, w64, IsPermutation, Vec}
 use mir.Val.{to_z, of_z, SFits}
 use Rattle.std.proofs.lemmas.Int.{to_z-of_z}
 use Rattle.std.specs.List.{list_all}
@@ -42,7 +42,7 @@ invariant_of-result c =
     let lawful : list_all is_lawful_row c.args.rows.items ≡ true = c.requires.lawful in
     let second = is_second c.args.second _ c.ranges.second c.is_count.ensures c.if-not-is_count.false in
     let moved : IsPermutation c.args.rows.items c.sort_by_name.new.rows = rw c.deref_mut.ensures.value at c.sort_by_name.ensures.same in
-    rw (to_z-of_z w64 c.args.second c.ranges.second, written c.args.rows c.sort_by_name.new.rows moved) (is_pass c.args.rows.items c.sort_by_name.new.rows c.args.second moved short lawful second (c.sort_by_name.ensures.rise c.if-not-sort_by_name.false))
+    rw (to_z-of_z w64 c.args.second c.ranges.second, written c.args.rows c.sort_by_name.new.rows moved) (is_pass c.args.rows.items c.sort_by_name.new.rows c.args.second moved short lawful second (c.sort_by_name.ensures.rise c.if-not-sort_by_name.false), record { none = refl; all = omega arith })
 
 pub returns-clause-pass : goal.returns-clause-pass
 returns-clause-pass c =

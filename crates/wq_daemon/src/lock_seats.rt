@@ -1,0 +1,119 @@
+//! The seats that the threads of the server share: those of sessions, as long as no session has them, and one for looks at
+//! the roots that are shown.
+
+use std::alloc::{AllocError, Global};
+use std::sync::{Mutex, Wait};
+use wq_live::{Named, Publisher, Seat};
+use wq_server::{MAX_SESSIONS, RootNumbers};
+
+/// Seats, each taken and given back under a lock.
+pub(crate) struct LockSeats<N: Named, R: Wait + Copy + Drop> {
+    rt: R,
+    alloc: Global,
+    free: Mutex<Vec<Seat<N>>>,
+    /// The seat for looks at the roots that are shown. It is there whenever it is not locked.
+    idle: Mutex<Option<Seat<N>>>,
+}
+
+impl<N: Named, R: Wait + Copy + Drop> LockSeats<N, R> {
+    /// Seats of this publisher: one for each session that may be, and one for looks.
+    pub(crate) fn new(
+        rt: R,
+        alloc: Global,
+        publisher: &mut Publisher<N, R>,
+    ) -> Result<LockSeats<N, R>, AllocError> {
+        let idle = publisher.seat()?;
+        let free = session_seats(alloc, publisher)?;
+        Ok(LockSeats {
+            rt,
+            alloc,
+            free: Mutex::new(free),
+            idle: Mutex::new(Some(idle)),
+        })
+    }
+
+    /// A free seat.
+    pub(crate) fn take(&self) -> Option<Seat<N>> {
+        self.free.lock(&self.rt).pop()
+    }
+
+    /// Gives a seat back.
+    pub(crate) fn give(&self, seat: Seat<N>) {
+        // There is room for all seats, so this takes no memory.
+        let _ = self.free.lock(&self.rt).push(seat);
+    }
+
+    /// The text of the root of this number, if it is shown. There is none if memory runs out for
+    /// it.
+    pub(crate) fn text(&self, number: u64) -> Option<String> {
+        let mut place = self.idle.lock(&self.rt);
+        let (seat, text) = look_at_text(place.take()?, self.alloc, number);
+        *place = Some(seat);
+        text
+    }
+
+    /// The roots that are shown now; none if memory runs out for them.
+    pub(crate) fn numbers(&self) -> Option<RootNumbers> {
+        let mut place = self.idle.lock(&self.rt);
+        let (seat, numbers) = look_at_numbers(place.take()?);
+        *place = Some(seat);
+        numbers
+    }
+}
+
+// A value with a destructor of its own is freed by one call, wherever a function gives up.
+impl<N: Named, R: Wait + Copy + Drop> Drop for LockSeats<N, R> {
+    fn drop(self) {
+        let LockSeats {
+            rt: _,
+            alloc: _,
+            free: _,
+            idle: _,
+        } = self;
+    }
+}
+
+/// A seat of this publisher for each session that may be.
+fn session_seats<N: Named, R: Wait + Drop>(
+    alloc: Global,
+    publisher: &mut Publisher<N, R>,
+) -> Result<Vec<Seat<N>>, AllocError> {
+    let mut seats = Vec::with_capacity(alloc, MAX_SESSIONS)?;
+    for _ in 0..MAX_SESSIONS {
+        seats.push(publisher.seat()?).map_err(AllocError::from)?;
+    }
+    Ok(seats)
+}
+
+/// The text of the root of this number, if a seat sees it, and the seat. There is none if memory
+/// runs out for it, or if the look is refused.
+fn look_at_text<N: Named>(seat: Seat<N>, alloc: Global, number: u64) -> (Seat<N>, Option<String>) {
+    match seat.look() {
+        Ok(look) => {
+            let text = match look.table().text(number) {
+                Some(text) => String::from_str(alloc, text).ok(),
+                None => None,
+            };
+            (look.leave(), text)
+        }
+        Err(blind) => (blind.seat(), None),
+    }
+}
+
+/// The roots that a seat sees, and the seat. There are none if memory runs out for them, or if the look is refused.
+fn look_at_numbers<N: Named>(seat: Seat<N>) -> (Seat<N>, Option<RootNumbers>) {
+    match seat.look() {
+        Ok(look) => {
+            let table = look.table();
+            let numbers = match table.numbers() {
+                Ok(shown) => Some(RootNumbers {
+                    shown,
+                    given: table.given(),
+                }),
+                Err(_) => None,
+            };
+            (look.leave(), numbers)
+        }
+        Err(blind) => (blind.seat(), None),
+    }
+}
