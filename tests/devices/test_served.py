@@ -34,8 +34,8 @@ def make_tree(root: Path) -> None:
 
 class Served(Case):
     def test_trees_that_fail(self) -> None:
-        """The disk fails at one call after the other, for each client. A root is refused or listed, a directory without
-        what cannot be read of it. Once the disk is well, the next answer tells a follower all that it does not know."""
+        """The disk fails at one call after the other, for each client. A root is refused or listed whole, wherever below it
+        the disk failed. Once the disk is well, the next answer tells a follower all that it does not know."""
         self.check_installed("strace")
         for call in ("openat", "getdents64", "statx"):
             number = 1
@@ -79,12 +79,12 @@ class Served(Case):
         return failed
 
     def test_a_directory_that_is_read_in_part(self) -> None:
-        """A call that gives names of a large directory fails after others gave some. The directory is listed without
-        its names."""
+        """A call that gives names of a large directory is refused to the server after others gave some. The directory is
+        listed without its names."""
         self.check_installed("strace")
         failures = 0
         for number in range(1, MOST_OF_A_WALK):
-            found, failed = names_below(self.room, Fault("getdents64", "EIO", str(number)))
+            found, failed = names_below(self.room, Fault("getdents64", "EACCES", str(number)))
             self.check(
                 f"all names of a directory or none, getdents64 {number} fails",
                 found == (0 if failed else MANY),
@@ -171,14 +171,14 @@ def watch(client: Client, root: Path) -> bool:
 
 
 def follow(client: Client, root: Path, known: Set[str], truth: Set[str]) -> bool:
-    """Takes the changes since the last answer. Whether the answer is a list of files, or that the root cannot be
+    """Takes the changes since the last answer. Whether the answer is a list of all of them, or that the root cannot be
     read."""
     reply = client.ask("query", str(root), {"since": "n:follower", "fields": ["name", "exists"]})
     if reply == {**VERSION, "error": READING}:
         return True
     for file in reply["files"]:
         known.add(file["name"]) if file["exists"] else known.discard(file["name"])
-    return known <= truth
+    return known == truth
 
 
 def names_below(room: Path, fault: Fault) -> Tuple[int, bool]:
