@@ -1,5 +1,5 @@
 //! The tree on disk, for a server that lists roots again and again. The walker keeps nothing of the listings.
-ghost use Rattle.std.specs.Prelude.{◌≡◌, ◌⊎◌, true, false, ◌≤◌, length, Err, IfErr, IfOk, IsTrue, Ok, OnOk, Some};
+ghost use Rattle.std.specs.Prelude.{◌≡◌, true, false, ◌≤◌, length, IfErr, IfOk, IsTrue, OnOk, Some};
 ghost use Rattle.std.specs.List.{list_all};
 ghost use Rattle.wq_patch.specs.Tree.{IsCounted, IsFit, rows_listed};
 ghost use Rattle.wq_patch.specs.declared.tree.TreeFault.TheVariants.{Unreadable};
@@ -95,7 +95,8 @@ impl<T: Threads + Drop, D: Disk + Drop> Walker<T, D> {
 /// How many listings failed because their root cannot be read or no file handle was left, after this one, if there
 /// were so many before.
 fn failures_after<X>(before: u64, listed: &Result<X, TreeFault>) -> u64
-    ensures { IfErr listed.now (IsCounted before result) }
+    ensures counted { IfErr listed.now (IsCounted before result) }
+    ensures kept { OnOk listed.now (result ≡ before) }
 {
     match listed {
         Err(TreeFault::Unreadable | TreeFault::NoHandle) => before.saturating_add(1),
@@ -108,6 +109,7 @@ impl<T: Threads + Clock + Drop, D: Disk + Drop> Walker<T, D> {
     fn learn(&mut self, root: &str, walkers: Walkers, files: usize, began: io::Result<Instant>)
         ensures disk { self.new.disk ≡ self.old.disk }
         ensures failures { self.new.failures ≡ self.old.failures }
+        ensures mounted { self.new.mounted ≡ self.old.mounted }
     {
         let Ok(began) = began else {
             return;
@@ -187,6 +189,8 @@ impl<T: Threads + Clock + CpuClock + Drop, D: Disk + Sync + Drop> Walker<T, D> {
             (rows_listed last.now.records listing)) }
         ensures rooted { IfOk result (λ _. IsRooted (D.says self.old.disk) root.now) }
         ensures whole { self.new.is_whole ≡ true }
+        ensures kept { OnOk result (self.new.failures ≡ self.old.failures) }
+        ensures mounted { self.new.mounted ≡ self.old.mounted }
     {
         let began = Instant::now(&self.threads);
         let (walkers, way) = self.walkers_now(root);
@@ -233,6 +237,8 @@ impl<T: Threads + CpuClock + Drop, D: Disk + Sync + Drop> Walker<T, D> {
             root.now (rows_listed last.now.records listing)) }
         ensures rooted { IfOk result (λ _. IsRooted (D.says self.old.disk) root.now) }
         ensures part { self.new.is_whole ≡ false }
+        ensures kept { OnOk result (self.new.failures ≡ self.old.failures) }
+        ensures mounted { self.new.mounted ≡ self.old.mounted }
     {
         let walkers = self.slow.walkers(root, 1);
         let listed = {
@@ -275,24 +281,14 @@ impl<T: Threads + Drop> Walker<T, FileDisk> {
         }
     }
 
-    /// This listing of a root, unless the file system of the root is gone.
-    fn unless_gone<X: Drop>(
-        &mut self,
-        root: &str,
-        listed: Result<X, TreeFault>,
-    ) -> Result<X, TreeFault>
-        ensures ok { IfOk result (λ listing. listed ≡ Ok listing) }
-        ensures err { IfErr result (λ fault. ((listed ≡ Err fault)
-            × (self.new.failures ≡ self.old.failures))
-            ⊎ ((fault ≡ Unreadable) × (self.old.mounted ≡ Some root.now)
-            × IsCounted self.old.failures self.new.failures fault)) }
+    /// Counts that a root cannot be read because its file system is gone.
+    fn lose(&mut self) -> TreeFault
+        ensures fault { result ≡ Unreadable }
+        ensures counted { IsCounted self.old.failures self.new.failures Unreadable }
         ensures whole { self.new.is_whole ≡ self.old.is_whole }
     {
-        if listed.is_ok() && self.has_gone(root) {
-            self.failures = self.failures.saturating_add(1);
-            return Err(TreeFault::Unreadable);
-        }
-        listed
+        self.failures = self.failures.saturating_add(1);
+        TreeFault::Unreadable
     }
 }
 
@@ -336,7 +332,14 @@ impl<T: Threads + Clock + CpuClock + Drop> Tree for Walker<T, FileDisk> {
         self.disk.enter(root);
         let listed = self.walk_again(root, last);
         self.disk.leave();
-        self.unless_gone(root, listed)
+        let listing = match listed {
+            Ok(listing) => listing,
+            Err(fault) => return Err(fault),
+        };
+        if self.has_gone(root) {
+            return Err(self.lose());
+        }
+        Ok(listing)
     }
 
     /// The listing of a glance at the files below a root on this machine, as [`Walker::glance_at`] gives it. The root is
@@ -356,7 +359,14 @@ impl<T: Threads + Clock + CpuClock + Drop> Tree for Walker<T, FileDisk> {
         self.disk.enter(root);
         let listed = self.glance_at(root, last, recent);
         self.disk.leave();
-        self.unless_gone(root, listed)
+        let listing = match listed {
+            Ok(listing) => listing,
+            Err(fault) => return Err(fault),
+        };
+        if self.has_gone(root) {
+            return Err(self.lose());
+        }
+        Ok(listing)
     }
 
     fn failures(&self) -> u64 {
