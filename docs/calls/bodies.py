@@ -1,17 +1,14 @@
 """What a function calls and makes, by a reading of its body with the types of what it names."""
 
-from typing import Callable, Dict, FrozenSet, List, NamedTuple, Optional, Tuple
+from typing import Callable, Dict, FrozenSet, List, Optional, Tuple
 
+from found import FAULT, Call, Guard, Made
 from items import Function, Items, Kind
 from standard import given_by
 from tokens import Reader, Unread, is_name
 from types_of import BOOL, UNIT, UNKNOWN, Type
 from types_of import any_of, bind, element, inside, is_open, put, read_given, read_type, traits_of
 
-# A variant of an enum, or a struct with the empty name.
-Made = Tuple[str, str]
-# A pattern holds if of one of these sets all variants are made.
-Guard = Tuple[FrozenSet[Made], ...]
 Bound = Dict[str, Type]
 BINARY = set("+ - * / % ^ & | < > && || == != <= >= += -= *= /= %= ^= &= |= = .. ..= as".split())
 COMPARING = {"<", ">", "&&", "||", "==", "!=", "<=", ">="}
@@ -19,16 +16,6 @@ BLOCKS = {"if", "match", "loop", "while", "for", "unsafe", "{"}
 ENDS = {")", "]", "}", ",", ";", "=>", ""}
 # These take a closure or a function for the case that something failed.
 OF_FAULTS = {"map_err", "ok_or", "ok_or_else", "or_else", "unwrap_or_else"}
-FAULT: Guard = (frozenset([("Result", "Err")]),)
-
-
-class Call(NamedTuple):
-    """A call of a function with what its parameters are bound to, or of whatever is a trait's method of this name."""
-
-    guards: Tuple[Guard, ...]
-    function: Optional[Function]
-    bound: Tuple[Tuple[str, Type], ...]
-    virtual: Tuple[str, str]
 
 
 class Body:

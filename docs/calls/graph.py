@@ -2,7 +2,8 @@
 
 from typing import AbstractSet, Dict, FrozenSet, Iterable, Iterator, List, NamedTuple, Set, Tuple
 
-from bodies import Body, Call, Guard, Made
+from bodies import Body
+from found import Call, Guard, Made
 from items import Function, Items
 from types_of import Type
 

@@ -2,7 +2,6 @@
 back."""
 
 import sys
-from pathlib import Path
 from typing import Dict, List, Set
 
 import built
