@@ -10,7 +10,7 @@ use std::sync::atomic::{AtomicU64, Ordering};
 use std::thread::Threads;
 use wq_base::{Asker, Stays};
 use wq_compile::compile;
-use wq_eval::{Gate, OpenGate, Pieces, collect, filter_workers};
+use wq_eval::{Gate, OpenGate, Pieces, collect, filter_workers_for};
 use wq_gen::candidates;
 use wq_term::{Expr, Generators};
 use wq_verify::Program;
@@ -119,8 +119,8 @@ fn kept<R: Threads + Sync, G: Gate + Sync, A: Asker>(
     // Only the proof uses the contracts of these calls: each position is one of a record.
     view.len();
     positions_are_there();
-    let positions = candidates(alloc, &Stays {}, &view, &no_generators()).ok()?;
-    filter_workers(
+    let positions = candidates(alloc, &view, &no_generators()).ok()?;
+    filter_workers_for(
         rt, alloc, gate, asker, workers, piece, &program, &view, &positions,
     )
     .ok()
@@ -131,7 +131,7 @@ fn collected(alloc: Global) -> Option<Vec<u32>> {
     let Search { view, program } = made(alloc, FIVE)?;
     view.len();
     positions_are_there();
-    let positions = candidates(alloc, &Stays {}, &view, &no_generators()).ok()?;
+    let positions = candidates(alloc, &view, &no_generators()).ok()?;
     let pieces = Pieces {
         program: &program,
         view: &view,
