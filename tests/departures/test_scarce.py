@@ -54,9 +54,11 @@ class Scarce(Case):
 
     def check_others(self, name: str, client: Client, tree: Path) -> None:
         """A query of another sees a change, and so does the crawler."""
-        for made, query in (("asked", {}), ("crawled", {"sync_timeout": 0})):
+        for made, synchronises in (("asked", True), ("crawled", False)):
             (tree / made).touch()
-            query = {"expression": ["name", made], **query, **query_of_names()}
+            query = {**query_of_names(), "expression": ["name", made]}
+            if not synchronises:
+                query["sync_timeout"] = 0
             reply = client.ask_until("query", str(tree), query, lambda reply: reply.get("files"))
             self.same(f"a file that is {made} {name}", reply.get("files"), [made])
             (tree / made).unlink()

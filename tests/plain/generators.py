@@ -51,9 +51,7 @@ def read_paths(value: Any) -> List[Path]:
 
 
 def read_path(value: Any) -> Path:
-    text, depth = value, ANY_DEPTH
-    if isinstance(value, dict):
-        text, depth = value.get("path"), value.get("depth")
+    text, depth = (value.get("path"), value.get("depth")) if isinstance(value, dict) else (value, ANY_DEPTH)
     require(is_short_text(text) and is_whole_number(depth) and depth >= ANY_DEPTH)
     return Path(text.encode().rstrip(b"/"), depth)
 
@@ -76,8 +74,9 @@ def candidate_test(bound: Bound, generators: Generators) -> Test:
     if generators.suffixes is not None:
         folded = {suffix.lower() for suffix in generators.suffixes} - {b""}
         tests.append(lambda record: record.suffix is not None and record.suffix.lower() in folded)
-    if generators.paths is not None:
-        tests.append(lambda record: any(is_at(record, path) for path in generators.paths))
+    paths = generators.paths
+    if paths is not None:
+        tests.append(lambda record: any(is_at(record, path) for path in paths or ()))
     if generators.globs is not None:
         flags = Flags(wholename=True, dotfiles=generators.takes_dots)
         rows = [atoms_of(pattern, flags) for pattern in generators.globs]

@@ -2,6 +2,7 @@
 
 import subprocess
 from pathlib import Path
+from typing import Callable, Dict, List, Tuple
 
 from case import Case
 from client import A_HOUR, VERSION, Server, query_of_names
@@ -28,7 +29,8 @@ class Large(Case):
             root = Path(shelf) / "half"
             fill(root)
             client.ask("watch", str(root))
-            for what, step, act in (("change", 2, lambda path: path.write_text("changed")), ("go", 3, Path.unlink)):
+            acts: List[Tuple[str, int, Callable[[Path], object]]] = [("change", 2, written), ("go", 3, Path.unlink)]
+            for what, step, act in acts:
                 clock = client.ask("clock", str(root))["clock"]
                 paths = [path for directory in root.iterdir() for path in sorted(directory.iterdir())[::step]]
                 for path in paths:
@@ -40,7 +42,7 @@ class Large(Case):
                 )
 
     def check_most_files(self, room: Path, root: Path) -> None:
-        named = {"path": [{"path": "", "depth": 0}], **query_of_names()}
+        named: Dict[str, object] = {"path": [{"path": "", "depth": 0}], **query_of_names()}
         directories = [f"directory{number:02}" for number in range(DIRECTORIES)]
         too_many = {"error": "E12: too many files", **VERSION}
         with Server(room, interval=A_HOUR) as server, server.client(root) as client:
@@ -52,3 +54,7 @@ class Large(Case):
             self.same("the view of a root of one more", again, reply)
             client.ask("watch-del", str(root))
             self.same("a watch of too many files", client.ask("watch", str(root)), too_many)
+
+
+def written(path: Path) -> None:
+    path.write_text("changed")
