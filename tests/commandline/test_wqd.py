@@ -62,7 +62,7 @@ class CommandLine(Case):
             ended = replay_from([], output=full)
             self.same("an output that is full, and nothing to write", ended, built.Ended(b"", b"", 0))
         directory = os.open("/", os.O_RDONLY)
-        command = [built.program_path(), "replay"]
+        command = [str(built.program_path()), "replay"]
         ended = built.call(command, stdin=directory)
         os.close(directory)
         self.same("an input that is a directory", ended, failed)

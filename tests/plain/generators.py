@@ -51,7 +51,10 @@ def read_paths(value: Any) -> List[Path]:
 
 
 def read_path(value: Any) -> Path:
-    text, depth = (value.get("path"), value.get("depth")) if isinstance(value, dict) else (value, ANY_DEPTH)
+    text: Any = value
+    depth: Any = ANY_DEPTH
+    if isinstance(value, dict):
+        text, depth = value.get("path"), value.get("depth")
     require(is_short_text(text) and is_whole_number(depth) and depth >= ANY_DEPTH)
     return Path(text.encode().rstrip(b"/"), depth)
 

@@ -46,11 +46,11 @@ class Large(Case):
         directories = [f"directory{number:02}" for number in range(DIRECTORIES)]
         too_many = {"error": "E12: too many files", **VERSION}
         with Server(room, interval=A_HOUR) as server, server.client(root) as client:
-            reply = client.ask("query", str(root), {"sync_timeout": 0, **named})
+            reply = client.ask("query", str(root), {**named, "sync_timeout": 0})
             self.same("a root of 1,000,000 files", (reply.get("files"), reply.get("clock")), (directories, "c:7:9:1:1"))
             (root / "more").touch()
             self.same("a root of one more", client.ask("query", str(root), named), too_many)
-            again = client.ask("query", str(root), {"sync_timeout": 0, **named})
+            again = client.ask("query", str(root), {**named, "sync_timeout": 0})
             self.same("the view of a root of one more", again, reply)
             client.ask("watch-del", str(root))
             self.same("a watch of too many files", client.ask("watch", str(root)), too_many)

@@ -4,7 +4,7 @@ import json
 import os
 import threading
 from pathlib import Path
-from typing import Dict, List, Tuple
+from typing import Any, Dict, List, Tuple
 
 from case import Case
 from client import ENVIRONMENT, VERSION, Client, query_of_names
@@ -121,7 +121,7 @@ class Starts(Case):
         """Triggers are listed as they were given, replaced at their place, and deleted."""
         with Scene(self.room) as scene:
             root = str(scene.root)
-            given = {"name": "t", "command": ["true"], "append_files": True, "frob": 7, **OF_C_FILES}
+            given: Dict[str, Any] = {"name": "t", "command": ["true"], "append_files": True, "frob": 7, **OF_C_FILES}
             scene.client.ask("trigger", root, given)
             scene.register("u", ["true"])
             kept = {name: value for name, value in given.items() if name != "frob"}
