@@ -14,7 +14,7 @@ import sys
 import unittest
 from concurrent.futures import ThreadPoolExecutor
 from pathlib import Path
-from typing import Any, Iterator, List
+from typing import Any, Iterator, List, Sequence
 
 TESTS = Path(__file__).resolve().parent
 # A part uses modules of these parts too.
@@ -61,7 +61,7 @@ class Result(unittest.TextTestResult):
 
     def addSkip(self, test: unittest.TestCase, reason: str) -> None:
         super().addSkip(test, reason)
-        self.stream.writeln(f"left out: {test.id()}: {reason}")
+        self.stream.write(f"left out: {test.id()}: {reason}\n")
 
     def add_output(self, name: str, output: str) -> None:
         """Counts what a test counted that ran in a process of its own, and prints what it said."""
@@ -74,7 +74,7 @@ class Result(unittest.TextTestResult):
 class AtOnce(unittest.TestSuite):
     """Tests that run in processes of their own, beside those of another suite."""
 
-    def __init__(self, tests: List[unittest.TestCase], others: unittest.TestSuite) -> None:
+    def __init__(self, tests: Sequence[unittest.TestCase], others: unittest.TestSuite) -> None:
         super().__init__([*others, *tests])
         self.names = [test.id() for test in tests]
         self.others = others
@@ -116,6 +116,8 @@ class Runner(unittest.TextTestRunner):
 class Program(unittest.TestProgram):
     """The program of unittest, which finds the tests of the part."""
 
+    test: unittest.TestSuite
+
     def createTests(self, from_discovery: bool = False, Loader: Any = None) -> None:
         self.start = sys.path[0]
         super().createTests(from_discovery, Loader)
@@ -140,7 +142,7 @@ def main() -> None:
     end(Program(None, argv=take_row(sys.argv[1:]), testRunner=Runner, exit=False, warnings="ignore").result)
 
 
-def end(result: Result) -> None:
+def end(result: Any) -> None:
     """Prints the last line, and ends with the status that it says."""
     if not result.passed and not result.failed and not result.skipped:
         print("no test and no row has such a name")

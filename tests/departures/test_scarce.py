@@ -5,7 +5,7 @@ import os
 import resource
 import sys
 from pathlib import Path
-from typing import Iterator, Optional
+from typing import Any, Dict, Iterator, Optional
 
 from case import Case
 from client import VERSION, Client, Server, query_of_names
@@ -56,9 +56,8 @@ class Scarce(Case):
         """A query of another sees a change, and so does the crawler."""
         for made, synchronises in (("asked", True), ("crawled", False)):
             (tree / made).touch()
-            query = {**query_of_names(), "expression": ["name", made]}
-            if not synchronises:
-                query["sync_timeout"] = 0
+            more = {} if synchronises else {"sync_timeout": 0}
+            query: Dict[str, Any] = {**query_of_names(), "expression": ["name", made], **more}
             reply = client.ask_until("query", str(tree), query, lambda reply: reply.get("files"))
             self.same(f"a file that is {made} {name}", reply.get("files"), [made])
             (tree / made).unlink()

@@ -2,7 +2,7 @@
 
 import time
 from pathlib import Path
-from typing import Dict, List, Optional, Set
+from typing import Any, Dict, List, Optional, Set
 
 from client import PATIENCE, VERSION, Client, Server
 
@@ -92,7 +92,7 @@ class Caller(Picture):
 
     def replies(self, lines: List[dict]) -> List[dict]:
         """What comes of a session to which these queries are sent at once."""
-        since: Dict[str, object] = {"since": self.clock} if self.clock else {}
+        since: Dict[str, Any] = {"since": self.clock} if self.clock else {}
         found = []
         with self.server.client() as client:
             client.send_bytes(
@@ -131,7 +131,7 @@ class Subscriber(Picture):
         self.begin()
 
     def begin(self) -> None:
-        since: Dict[str, object] = {"since": self.clock} if self.clock else {}
+        since: Dict[str, Any] = {"since": self.clock} if self.clock else {}
         self.client = self.server.client()
         self.client.send("subscribe", str(self.root), "s", {**since, "fields": FIELDS})
 

@@ -50,7 +50,7 @@ def ran(tool: str, words: Sequence[Union[str, Path]], **variables: str) -> built
 def faults_of_types(words: Sequence[Union[str, Path]], path: Sequence[Path]) -> List[str]:
     """The lines in which mypy says what is wrong. What it read is kept for the next time."""
     kept = Path(os.environ.get("XDG_CACHE_HOME") or Path.home() / ".cache") / "wqd" / "mypy"
-    options = ["--no-error-summary", "--hide-error-context", "--cache-dir", kept]
+    options: List[Union[str, Path]] = ["--no-error-summary", "--hide-error-context", "--cache-dir", kept]
     ended = ran("mypy", [*options, *words], MYPYPATH=":".join(map(str, path)))
     lines = (ended.output + ended.errors).decode().splitlines()
     return [line for line in lines if ": note: " not in line]

@@ -2,7 +2,7 @@
 
 import subprocess
 from pathlib import Path
-from typing import Callable, Dict, List, Tuple
+from typing import Any, Callable, Dict, List, Tuple
 
 from case import Case
 from client import A_HOUR, VERSION, Server, query_of_names
@@ -42,7 +42,7 @@ class Large(Case):
                 )
 
     def check_most_files(self, room: Path, root: Path) -> None:
-        named: Dict[str, object] = {"path": [{"path": "", "depth": 0}], **query_of_names()}
+        named: Dict[str, Any] = {"path": [{"path": "", "depth": 0}], **query_of_names()}
         directories = [f"directory{number:02}" for number in range(DIRECTORIES)]
         too_many = {"error": "E12: too many files", **VERSION}
         with Server(room, interval=A_HOUR) as server, server.client(root) as client:

@@ -2,7 +2,7 @@
 
 import select
 from pathlib import Path
-from typing import List
+from typing import Any, Dict, List
 
 from case import Case
 from client import VERSION, Client, Server, query_of_names
@@ -24,7 +24,7 @@ class Slow(Case):
     def goes_on(self, name: str, client: Client, root: Path) -> None:
         """A query sees a new file, and so does the crawler."""
         (root / f"asked, {name}").touch()
-        query = {**query_of_names(), "expression": ["name", f"asked, {name}"]}
+        query: Dict[str, Any] = {**query_of_names(), "expression": ["name", f"asked, {name}"]}
         reply = client.ask("query", str(root), query)
         self.same(f"a query {name}", reply["files"], [f"asked, {name}"])
         (root / f"crawled, {name}").touch()
