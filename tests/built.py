@@ -28,9 +28,9 @@ def program_path() -> Path:
     return path
 
 
-def call(command: Sequence[object], **options: Any) -> Ended:
+def call(command: Sequence[Union[str, bytes, Path]], **options: Any) -> Ended:
     """Runs a command to its end. The options are those of `subprocess.run`."""
-    ended = subprocess.run(command, capture_output=True, **options)
+    ended: "subprocess.CompletedProcess[bytes]" = subprocess.run(command, capture_output=True, **options)
     return Ended(ended.stdout, ended.stderr, ended.returncode)
 
 

@@ -1,14 +1,22 @@
 """What the tests of all parts begin with."""
 
+import os
 import shutil
 import tempfile
 import traceback
 import unittest
 from pathlib import Path
-from typing import Any, Callable, Iterable
+from typing import Any, Callable, Iterable, List
 
 # Traces of failures leave out the lines of this module.
 __unittest = True
+# A value that is written in more columns is shown by its differences too.
+MOST_COLUMNS = 100
+
+
+def is_chosen(row: str) -> bool:
+    """Whether a row of a table is to be looked at: all are, or those with the word of `--row` in their names."""
+    return os.environ.get("ROW", "") in row
 
 
 def place() -> str:
@@ -38,14 +46,29 @@ class Case(unittest.TestCase):
         return made
 
     def check(self, name: str, is_right: object, details: Iterable[str] = ()) -> None:
+        if not is_chosen(name):
+            return
         with self.subTest(name):
             if not is_right:
                 self.fail("\n".join([place(), *details]))
 
     def same(self, name: str, found: object, expected: object) -> None:
+        if not is_chosen(name):
+            return
         with self.subTest(name):
             if found != expected:
-                self.assertEqual(found, expected, place())
+                self.fail("\n".join([place(), *self.differences(found, expected)]))
+
+    def differences(self, found: object, expected: object) -> List[str]:
+        """What was found and what was expected, a line each. Long ones have their differences below."""
+        lines = [f"found:    {found!r}", f"expected: {expected!r}"]
+        if max(map(len, lines)) <= MOST_COLUMNS:
+            return lines
+        try:
+            self.assertEqual(found, expected)
+        except AssertionError as error:
+            return [*lines, "differences, - found, + expected:", str(error)]
+        return lines
 
     def check_installed(self, command: str) -> None:
         self.check(f"{command} is there", shutil.which(command))

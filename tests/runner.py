@@ -1,10 +1,11 @@
 """Runs the tests of a part of the gate, for the part's script `run`:
 
-    tests/PART/run [-k WORD] [-v] [-f] [NAME..]
+    tests/PART/run [-k WORD] [--row WORD] [-v] [-f] [NAME..]
 
 runs all tests of the part, or those with WORD in their names, or the modules, classes and tests of these names, such as
-`test_asking.Asking.test_ask`. The words are those of `python3 -m unittest`. What failed is printed with its name and
-trace. The last line, `N passed, M failed`, counts sub-tests, and tests without one."""
+`test_answers.Answers.test_ask`. The words are those of `python3 -m unittest`. With `--row` only the rows of tables count
+that have its word in their names. What failed is printed with its name and trace. The last line, `N passed, M failed`,
+counts sub-tests, and tests without one."""
 
 import os
 import re
@@ -13,7 +14,7 @@ import sys
 import unittest
 from concurrent.futures import ThreadPoolExecutor
 from pathlib import Path
-from typing import Any, Iterator, List
+from typing import Any, Iterator, List, Sequence
 
 TESTS = Path(__file__).resolve().parent
 # A part uses modules of these parts too.
@@ -43,7 +44,7 @@ class Result(unittest.TextTestResult):
         return len(self.failures) + len(self.errors) + len(self.unexpectedSuccesses) + self.failed_beside
 
     def wasSuccessful(self) -> bool:
-        return self.failed == 0
+        return self.failed == 0 and self.testsRun > 0
 
     def startTest(self, test: unittest.TestCase) -> None:
         super().startTest(test)
@@ -56,11 +57,11 @@ class Result(unittest.TextTestResult):
 
     def addSuccess(self, test: unittest.TestCase) -> None:
         super().addSuccess(test)
-        self.passed += not self.has_parts
+        self.passed += not self.has_parts and "ROW" not in os.environ
 
     def addSkip(self, test: unittest.TestCase, reason: str) -> None:
         super().addSkip(test, reason)
-        self.stream.writeln(f"left out: {test.id()}: {reason}")
+        self.stream.write(f"left out: {test.id()}: {reason}\n")
 
     def add_output(self, name: str, output: str) -> None:
         """Counts what a test counted that ran in a process of its own, and prints what it said."""
@@ -73,7 +74,7 @@ class Result(unittest.TextTestResult):
 class AtOnce(unittest.TestSuite):
     """Tests that run in processes of their own, beside those of another suite."""
 
-    def __init__(self, tests: List[unittest.TestCase], others: unittest.TestSuite) -> None:
+    def __init__(self, tests: Sequence[unittest.TestCase], others: unittest.TestSuite) -> None:
         super().__init__([*others, *tests])
         self.names = [test.id() for test in tests]
         self.others = others
@@ -115,6 +116,8 @@ class Runner(unittest.TextTestRunner):
 class Program(unittest.TestProgram):
     """The program of unittest, which finds the tests of the part."""
 
+    test: unittest.TestSuite
+
     def createTests(self, from_discovery: bool = False, Loader: Any = None) -> None:
         self.start = sys.path[0]
         super().createTests(from_discovery, Loader)
@@ -124,14 +127,25 @@ class Program(unittest.TestProgram):
             self.test = AtOnce(beside, unittest.TestSuite(test for test in tests if test not in beside))
 
 
+def take_row(words: List[str]) -> List[str]:
+    """The words without `--row WORD`, which the tests here and those beside them find in the environment."""
+    if "--row" not in words[:-1]:
+        return words
+    place = words.index("--row")
+    os.environ["ROW"] = words[place + 1]
+    return words[:place] + words[place + 2 :]
+
+
 def main() -> None:
     os.environ["PYTHONDONTWRITEBYTECODE"] = "1"
     sys.path.insert(0, str(Path(sys.argv[1]).resolve().parent))
-    end(Program(None, argv=sys.argv[1:], testRunner=Runner, exit=False, warnings="ignore").result)
+    end(Program(None, argv=take_row(sys.argv[1:]), testRunner=Runner, exit=False, warnings="ignore").result)
 
 
-def end(result: Result) -> None:
+def end(result: Any) -> None:
     """Prints the last line, and ends with the status that it says."""
+    if not result.passed and not result.failed and not result.skipped:
+        print("no test and no row has such a name")
     print(f"{result.passed} passed, {result.failed} failed")
     sys.exit(1 if result.failed or not result.passed else 0)
 

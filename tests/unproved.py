@@ -15,12 +15,12 @@ ENDS = 600
 class Unproved(Case):
     """A part whose directory has such tests."""
 
-    directory: Path
+    tests: Path
 
     def check_all(self) -> None:
-        said = what_is_said(self.directory)
+        said = what_is_said(self.tests)
         passes = {name: how == "ok" for name, how in re.findall(r"^test (\S+) \.\.\. (.*)$", said, re.M)}
-        names = names_of_tests(self.directory)
+        names = names_of_tests(self.tests)
         for name in names:
             self.check(name, passes.get(name, False), [said[-2000:]])
         self.check("no other test is run", not passes.keys() - set(names), sorted(passes))

@@ -6,7 +6,7 @@ import unproved
 
 
 class Calls(unproved.Unproved):
-    directory = Path(__file__).resolve().parent
+    tests = Path(__file__).resolve().parent
 
     def test_all(self) -> None:
         self.check_all()

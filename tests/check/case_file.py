@@ -55,7 +55,8 @@ def data_of(group: Dict[str, str], version: int) -> bytes:
     if "hex" in group:
         data = bytes.fromhex(group["hex"])
     else:
-        data = file_of(group["code"], *[group.get(table, "") for table in TABLES], version)
+        tables = {table: group[table] for table in TABLES if table in group}
+        data = file_of(group["code"], **tables, version=version)
     data += bytes.fromhex(group.get("then", ""))
     return data[: len(data) - int(group.get("cut", "0"))]
 

@@ -53,10 +53,10 @@ class Width(NamedTuple):
 
     version: int
     tables: int
-    count: int
+    width: int
 
     def bytes_of(self, number: int) -> bytes:
-        return number.to_bytes(self.count, "big")
+        return number.to_bytes(self.width, "big")
 
 
 WIDTHS = {1: Width(1, 4, 2), 2: Width(2, 5, 4)}

@@ -108,8 +108,8 @@ def long_program(length: int, version: int) -> bytes:
     entry = b"\x10\x00" + b"a" * 4_096
     wide = WIDTHS[version]
     program = file_of("flag 1; ret", lists="[]", version=version)
-    start = 5 + (wide.tables + 1) * wide.count
-    head, code = program[:start], program[start + wide.count :]
+    start = 5 + (wide.tables + 1) * wide.width
+    head, code = program[:start], program[start + wide.width :]
     full, rest = divmod(length - len(program), len(entry))
     entries = entry * full + (rest - 2).to_bytes(2, "big") + b"a" * (rest - 2)
     return head + wide.bytes_of(full + 1) + entries + code

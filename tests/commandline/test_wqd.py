@@ -62,7 +62,7 @@ class CommandLine(Case):
             ended = replay_from([], output=full)
             self.same("an output that is full, and nothing to write", ended, built.Ended(b"", b"", 0))
         directory = os.open("/", os.O_RDONLY)
-        command = [built.program_path(), "replay"]
+        command = [str(built.program_path()), "replay"]
         ended = built.call(command, stdin=directory)
         os.close(directory)
         self.same("an input that is a directory", ended, failed)
@@ -97,7 +97,7 @@ class CommandLine(Case):
         with tempfile.NamedTemporaryFile() as file, open("/dev/full", "wb") as full:
             file.write(PROGRAM)
             file.flush()
-            command = [built.program_path(), "check", file.name]
+            command = [str(built.program_path()), "check", file.name]
             process = subprocess.run(command, stdout=full, stderr=subprocess.PIPE)
         ended = built.Ended(b"", process.stderr, process.returncode)
         self.same("a program file, and an output that is full", ended, built.Ended(b"", b"", 1))
@@ -131,6 +131,7 @@ def replay_from(
             preexec_fn=limit_memory,
         )
         try:
+            assert process.stdin is not None
             for piece in pieces:
                 process.stdin.write(piece)
             process.stdin.close()

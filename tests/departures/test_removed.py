@@ -2,6 +2,7 @@
 
 import os
 import shutil
+from typing import Callable, List, Tuple
 
 from case import Case
 from client import ENDED, VERSION, Client, Server, query_of_names
@@ -10,7 +11,11 @@ from client import ENDED, VERSION, Client, Server, query_of_names
 class Removed(Case):
     def test_a_socket_that_goes(self) -> None:
         """Clients that are there go on, nobody else can connect, and the server ends as ever."""
-        for name, remove in (("its socket", os.unlink), ("the directory of its socket", remove_above)):
+        removers: List[Tuple[str, Callable[[str], None]]] = [
+            ("its socket", os.unlink),
+            ("the directory of its socket", remove_above),
+        ]
+        for name, remove in removers:
             inside = self.directory("in")
             tree = self.directory("tree")
             with Server(inside) as server, server.client(tree) as client:

@@ -5,7 +5,7 @@ import os
 import resource
 import sys
 from pathlib import Path
-from typing import Iterator, Optional
+from typing import Any, Dict, Iterator, Optional
 
 from case import Case
 from client import VERSION, Client, Server, query_of_names
@@ -54,9 +54,10 @@ class Scarce(Case):
 
     def check_others(self, name: str, client: Client, tree: Path) -> None:
         """A query of another sees a change, and so does the crawler."""
-        for made, query in (("asked", {}), ("crawled", {"sync_timeout": 0})):
+        for made, synchronises in (("asked", True), ("crawled", False)):
             (tree / made).touch()
-            query = {"expression": ["name", made], **query, **query_of_names()}
+            more = {} if synchronises else {"sync_timeout": 0}
+            query: Dict[str, Any] = {**query_of_names(), "expression": ["name", made], **more}
             reply = client.ask_until("query", str(tree), query, lambda reply: reply.get("files"))
             self.same(f"a file that is {made} {name}", reply.get("files"), [made])
             (tree / made).unlink()

@@ -2,7 +2,7 @@
 
 import time
 from pathlib import Path
-from typing import List, Optional, Set
+from typing import Any, Dict, List, Optional, Set
 
 from client import PATIENCE, VERSION, Client, Server
 
@@ -83,7 +83,8 @@ class Caller(Picture):
         """Asks until it knows all. Of a session that crawls three times replies may be cut; the next one does not
         crawl."""
         for _ in range(TURNS):
-            for lines in ([{}] * CRAWLS, [{"sync_timeout": 0}]):
+            crawling: List[dict] = [{}] * CRAWLS
+            for lines in (crawling, [{"sync_timeout": 0}]):
                 self.take_last(self.replies(lines), truth)
                 if self.known == truth:
                     return
@@ -91,12 +92,12 @@ class Caller(Picture):
 
     def replies(self, lines: List[dict]) -> List[dict]:
         """What comes of a session to which these queries are sent at once."""
-        since = {"since": self.clock} if self.clock else {}
+        since: Dict[str, Any] = {"since": self.clock} if self.clock else {}
         found = []
         with self.server.client() as client:
             client.send_bytes(
                 b"".join(
-                    client.text(["query", str(self.root), {"fields": FIELDS, **since, **more}]) + b"\n"
+                    client.text(["query", str(self.root), {**since, "fields": FIELDS, **more}]) + b"\n"
                     for more in lines
                 )
             )
@@ -130,9 +131,9 @@ class Subscriber(Picture):
         self.begin()
 
     def begin(self) -> None:
-        since = {"since": self.clock} if self.clock else {}
+        since: Dict[str, Any] = {"since": self.clock} if self.clock else {}
         self.client = self.server.client()
-        self.client.send("subscribe", str(self.root), "s", {"fields": FIELDS, **since})
+        self.client.send("subscribe", str(self.root), "s", {**since, "fields": FIELDS})
 
     def hear(self, truth: Set[str]) -> None:
         """Hears lists until it knows all. Lists of walks from before may come first: what it knows may still be

@@ -21,7 +21,9 @@ FILES = 4_000
 
 
 def scripts() -> List[bytes]:
-    return [*[example.find(SCRIPTS, name).script for name in NAMES], long_script()]
+    found = [example.find(SCRIPTS, name) for name in NAMES]
+    assert None not in found, "a script is not there"
+    return [*[one.script for one in found if one is not None], long_script()]
 
 
 def long_script() -> bytes:

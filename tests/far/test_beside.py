@@ -20,11 +20,10 @@ class Watchman:
     """A server of Watchman, if it is installed."""
 
     def __init__(self, home: Path) -> None:
-        self.process = None
         sockname = home / "socket"
-        program = shutil.which("watchman", path="/usr/bin:/usr/local/bin")
+        program = shutil.which("watchman", path="/usr/bin:/usr/local/bin") or "watchman"
         words = [f"--sockname={sockname}", f"--logfile={home}/log", f"--pidfile={home}/pid", "--no-save-state"]
-        self.process = subprocess.Popen(
+        self.process: "subprocess.Popen[bytes]" = subprocess.Popen(
             [program, "--foreground", *words],
             stdin=subprocess.DEVNULL,
             stdout=subprocess.DEVNULL,

@@ -86,8 +86,8 @@ class Mounted(Case):
         follower.client.ask("query", str(follower.root), query)
         (source / "d0" / "f1").write_text("behind it again")
         began = time.monotonic()
-        found = follower.client.ask_until("query", str(follower.root), query, lambda reply: reply["files"])
-        self.same("a change behind what the kernel keeps", found["files"], ["d0/f1"])
+        reply = follower.client.ask_until("query", str(follower.root), query, lambda reply: reply["files"])
+        self.same("a change behind what the kernel keeps", reply["files"], ["d0/f1"])
         self.check("how long it is kept", time.monotonic() - began < cached + PATIENCE / 10)
 
 

@@ -5,7 +5,7 @@ crates."""
 
 import itertools
 from pathlib import Path
-from typing import Iterator, List, NamedTuple
+from typing import Any, Dict, Iterator, List, NamedTuple
 
 from case import Case
 from drawn import drawn_of
@@ -27,7 +27,7 @@ FILES = [
     Record(b"src/a.c", "f", 5, 5_000, True, ctick=1, csec=100, otick=1, osec=100),
 ]
 
-CONSTANTS = {
+CONSTANTS: Dict[str, Any] = {
     "numbers": "5, -1, 100",
     "texts": '"src", "a", "SRC/A.C"',
     "lists": '["A","b","c"], []',
@@ -196,8 +196,8 @@ class Programs(Case):
             drawn += found
         self.check("how many small programs may run", len(small) >= FEWEST_SMALL, [str(len(small))])
         cases = list(cases_of(small, drawn))
-        found = answers(HERE, [case.file.hex() for case in cases])
-        self.assertEqual(len(found), len(cases))
-        for case, written in zip(cases, found):
+        answered = answers(HERE, [case.file.hex() for case in cases])
+        self.assertEqual(len(answered), len(cases))
+        for case, written in zip(cases, answered):
             self.same(case.name, written, case.answers)
         print(f"{len(small)} programs of up to four instructions, {len(EACH)} others, {len(drawn)} drawn ones")

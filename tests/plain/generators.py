@@ -51,7 +51,8 @@ def read_paths(value: Any) -> List[Path]:
 
 
 def read_path(value: Any) -> Path:
-    text, depth = value, ANY_DEPTH
+    text: Any = value
+    depth: Any = ANY_DEPTH
     if isinstance(value, dict):
         text, depth = value.get("path"), value.get("depth")
     require(is_short_text(text) and is_whole_number(depth) and depth >= ANY_DEPTH)
@@ -76,8 +77,9 @@ def candidate_test(bound: Bound, generators: Generators) -> Test:
     if generators.suffixes is not None:
         folded = {suffix.lower() for suffix in generators.suffixes} - {b""}
         tests.append(lambda record: record.suffix is not None and record.suffix.lower() in folded)
-    if generators.paths is not None:
-        tests.append(lambda record: any(is_at(record, path) for path in generators.paths))
+    paths = generators.paths
+    if paths is not None:
+        tests.append(lambda record: any(is_at(record, path) for path in paths or ()))
     if generators.globs is not None:
         flags = Flags(wholename=True, dotfiles=generators.takes_dots)
         rows = [atoms_of(pattern, flags) for pattern in generators.globs]

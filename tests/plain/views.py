@@ -90,9 +90,13 @@ class History:
         last_sight = self.sighting(self.greatest(is_seen), name)
         created = self.greatest(has_come)
         changed = self.greatest(has_changed)
+        assert last_sight is not None
+        kind, size, mtime_ms = last_sight
         return Record(
             name,
-            *last_sight,
+            kind,
+            size,
+            mtime_ms,
             exists=is_seen(len(self.passes)),
             ctick=created,
             csec=self.second_of(created),

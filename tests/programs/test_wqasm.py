@@ -73,14 +73,16 @@ def tool(room: Path, *words: str, entered: bytes = b"") -> built.Ended:
 
 def called(*words: str) -> built.Ended:
     """The outcome of a call of the tool in this process."""
-    output, errors = io.TextIOWrapper(io.BytesIO()), io.StringIO()
+    written, errors = io.BytesIO(), io.StringIO()
+    output = io.TextIOWrapper(written)
     with contextlib.redirect_stdout(output), contextlib.redirect_stderr(errors):
         try:
             status = main(list(words))
         except SystemExit as ended:
+            assert isinstance(ended.code, int)
             status = ended.code
     output.flush()
-    return built.Ended(output.buffer.getvalue(), errors.getvalue().encode(), status)
+    return built.Ended(written.getvalue(), errors.getvalue().encode(), status)
 
 
 class CommandLine(Case):

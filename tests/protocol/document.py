@@ -108,7 +108,9 @@ def end_of_element(lines: List[str], place: int) -> int:
 
 def comment_in(lines: List[str], page: Page) -> Optional[str]:
     """The mark that a comment makes, or none where it names a script."""
-    said = COMMENT.search("\n".join(lines)).group(1).strip()
+    comment = COMMENT.search("\n".join(lines))
+    assert comment is not None
+    said = comment.group(1).strip()
     named = re.match(r"script ([a-z-]+):\n", said)
     if named is None:
         return said

@@ -76,7 +76,13 @@ class Room:
 
     def run(self, line: str) -> str:
         """The output of a command, standard output and standard error."""
-        streams = {"stdin": subprocess.DEVNULL, "stdout": subprocess.PIPE, "stderr": subprocess.STDOUT}
-        environment = self.environment(line)
-        ended = subprocess.run(["sh", "-c", line], cwd=self.path, env=environment, timeout=PATIENCE, **streams)
+        ended = subprocess.run(
+            ["sh", "-c", line],
+            cwd=self.path,
+            env=self.environment(line),
+            timeout=PATIENCE,
+            stdin=subprocess.DEVNULL,
+            stdout=subprocess.PIPE,
+            stderr=subprocess.STDOUT,
+        )
         return ended.stdout.decode("utf-8", "backslashreplace")

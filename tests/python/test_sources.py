@@ -1,18 +1,20 @@
 """The modules and scripts, as pyproject.toml says that they have to be."""
 
 import ast
+import os
 import re
-import subprocess
 import sys
 import unittest
+from collections import Counter
 from pathlib import Path
-from typing import Iterator, Optional
+from typing import Any, Callable, Iterator, List, Sequence, Union
 
 import built
 from case import Case
 
 SETTINGS = (built.TOP / "pyproject.toml").read_text(encoding="utf-8")
 MOST_COLUMNS = int(re.findall(r"^line-length = (\d+)$", SETTINGS, re.M)[0])
+CLIENTS, TESTS = built.TOP / "clients", built.TOP / "tests"
 OLDEST = (3, int(re.findall(r'^target-version = "py3(\d+)"$', SETTINGS, re.M)[0]))
 # A file and a function have at most so many lines.
 MOST_LINES, MOST_OF_FUNCTION = 500, 40
@@ -25,10 +27,38 @@ def sources() -> Iterator[Path]:
                 yield path
 
 
-def flaker() -> Optional[str]:
-    """A Python that has pyflakes."""
+def words_of(setting: str) -> List[str]:
+    """The texts of a list of the settings."""
+    found = re.search(rf"^{setting} = \[([^]]*)\]", SETTINGS, re.M)
+    return re.findall(r'"([^"]+)"', found[1]) if found else []
+
+
+def python_with(tool: str) -> str:
+    """A Python that has this tool, or nothing."""
     pythons = (sys.executable, "/usr/bin/python3")
-    return next((python for python in pythons if built.call([python, "-c", "import pyflakes"]).status == 0), None)
+    return next((python for python in pythons if built.call([python, "-c", f"import {tool}"]).status == 0), "")
+
+
+def needs(tool: str) -> Callable[[Any], Any]:
+    return unittest.skipUnless(python_with(tool), f"not installed: {tool}")
+
+
+def ran(tool: str, words: Sequence[Union[str, Path]], **variables: str) -> built.Ended:
+    return built.call([python_with(tool), "-m", tool, *words], cwd=built.TOP, env={**os.environ, **variables})
+
+
+def faults_of_types(words: Sequence[Union[str, Path]], path: Sequence[Path]) -> List[str]:
+    """The lines in which mypy says what is wrong. What it read is kept for the next time."""
+    kept = Path(os.environ.get("XDG_CACHE_HOME") or Path.home() / ".cache") / "wqd" / "mypy"
+    options: List[Union[str, Path]] = ["--no-error-summary", "--hide-error-context", "--cache-dir", kept]
+    ended = ran("mypy", [*options, *words], MYPYPATH=":".join(map(str, path)))
+    lines = (ended.output + ended.errors).decode().splitlines()
+    return [line for line in lines if ": note: " not in line]
+
+
+def is_typed(line: str) -> bool:
+    """Whether a line of mypy is about what has to be without a fault."""
+    return not line.startswith(tuple(f"{path}/" for path in words_of("not-yet-typed")))
 
 
 def long_in(text: str) -> Iterator[str]:
@@ -47,7 +77,38 @@ class Sources(Case):
         for path in sources():
             self.same(str(path.relative_to(built.TOP)), list(long_in(path.read_text(encoding="utf-8"))), [])
 
-    @unittest.skipIf(flaker() is None, "not installed: pyflakes")
+    @needs("pyflakes")
     def test_names(self) -> None:
-        ended = subprocess.run([str(flaker()), "-m", "pyflakes", *map(str, sources())], stdout=subprocess.PIPE)
-        self.assertEqual(ended.stdout.decode().splitlines(), [])
+        self.assertEqual(ran("pyflakes", list(sources())).output.decode().splitlines(), [])
+
+    @needs("black")
+    def test_layout(self) -> None:
+        ended = ran("black", ["--check", "--quiet", "-l", str(MOST_COLUMNS), *sources()])
+        wrong = ran("black", ["--check", "-l", str(MOST_COLUMNS), *sources()]).errors if ended.status else b""
+        self.assertEqual([line for line in wrong.decode().splitlines() if line.startswith("would")], [])
+
+    @needs("mypy")
+    def test_types_of_packages(self) -> None:
+        """What is shipped has no fault by `mypy --strict`, but for what the settings name as not yet so."""
+        for package in words_of("strict"):
+            self.same(package, faults_of_types(["--strict", "-p", package], [CLIENTS, CLIENTS / "watchdog"]), [])
+
+    @needs("mypy")
+    def test_types_of_tests(self) -> None:
+        """Tests, and the modules that they use."""
+        files = [path for path in sources() if path.suffix == ".py" and TESTS in path.parents]
+        rooms = sorted({path.parent for path in files})
+        found = faults_of_types(files, [*rooms, CLIENTS, CLIENTS / "watchdog", built.TOP / "contrib"])
+        self.assertEqual(list(filter(is_typed, found)), [])
+
+    def test_modules(self) -> None:
+        """No two modules on the path of the tests have one name."""
+        names = [path.stem for path in sources() if path.suffix == ".py" and TESTS in path.parents]
+        self.assertEqual([name for name, count in Counter(names).items() if count > 1], [])
+
+    def test_helpers(self) -> None:
+        """No module of tests imports from another one, but for the parts that the settings name."""
+        for path in sources():
+            name = str(path.relative_to(built.TOP))
+            if TESTS in path.parents and is_typed(name):
+                self.same(name, re.findall(r"^ *(?:from|import) (test_\w+)", path.read_text("utf-8"), re.M), [])

@@ -40,7 +40,7 @@ def answer(shelf: Shelf, request: Request, tree: Tree) -> Tuple[Shelf, Optional[
 def add(programs: Dict[str, int], asked: Asked) -> Tuple[Dict[str, int], Reply]:
     """A program that takes the place of another is where that was."""
     reply = {"instructions": INSTRUCTIONS, "program-add": asked.name, "replaced": asked.name in programs}
-    return {**programs, asked.name: asked.version}, reply
+    return {**programs, asked.name or "": asked.version}, reply
 
 
 def delete(programs: Dict[str, int], asked: Asked) -> Tuple[Dict[str, int], Reply]:
@@ -58,7 +58,7 @@ PROGRAM_COMMANDS = {"add": add, "delete": delete, "list": list_all}
 def answer_query(shelf: Shelf, request: Request, tree: Tree) -> Tuple[Shelf, Optional[Reply]]:
     """The reply says at which view the server looked. All else follows."""
     asked, tick = request.asked, request.tick()
-    version = dict(shelf.programs).get(asked.name)
+    version = dict(shelf.programs).get(asked.name or "")
     if asked.name is not None and version is None:
         return shelf, {"error": NO_SUCH_PROGRAM, **VERSION}
     if tick is None:

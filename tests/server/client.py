@@ -2,13 +2,14 @@
 
 import json
 import os
+import socket
 import stat
 import subprocess
 import sys
 import tempfile
 import time
 from pathlib import Path
-from typing import Callable, List, Optional, Sequence, Tuple
+from typing import Any, Callable, Dict, List, Optional, Sequence, Tuple
 
 import built
 
@@ -20,7 +21,7 @@ from wqclient.lines import Ended, Lines
 A_HOUR = 3_600_000
 # A server says this when a client ends it.
 ENDED = b"a client ended the server by shutdown-server\n"
-VERSION = {"version": "wq-1"}
+VERSION: Dict[str, Any] = {"version": "wq-1"}
 # What ./wqd adds to it, so that memory which is freed goes back to the system or is used again.
 MALLOC = {
     "MALLOC_ARENA_MAX": "2",
@@ -34,7 +35,7 @@ PLAIN = Path(__file__).resolve().parent / "plain.py"
 LOOKS = 10
 
 
-def query_of_names() -> dict:
+def query_of_names() -> Dict[str, Any]:
     return {"fields": ["name"]}
 
 
@@ -52,7 +53,7 @@ class Client(Lines):
         """Tests start servers as other users too."""
 
     @property
-    def socket(self) -> "socket.socket":
+    def socket(self) -> socket.socket:
         return self.stream
 
     @property

@@ -5,7 +5,7 @@ import shutil
 import statistics
 import time
 from pathlib import Path
-from typing import Dict, Tuple
+from typing import Any, Dict, Tuple
 
 from case import Case
 from client import Client, Server, query_of_names, walked
@@ -63,7 +63,7 @@ class Glancing(Case):
         """A file is written where nothing changed lately: glances pass it over, and a query that synchronises does
         not."""
         (root / "directory400" / "file1").write_text("text")
-        written = {**query_of_names(), "expression": ["allof", ["name", "file1"], ["size", "gt", 0]]}
+        written: Dict[str, Any] = {**query_of_names(), "expression": ["allof", ["name", "file1"], ["size", "gt", 0]]}
         (root / "directory7" / "zlast").touch()
         self.same("a file beside one that is written elsewhere", listed(client, root, "zlast", 1), ["directory7/zlast"])
         early = client.ask("query", str(root), {**written, "sync_timeout": 0})["files"]

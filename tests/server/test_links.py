@@ -12,7 +12,12 @@ class Links(Case):
         outside.mkdir()
         for path in (root / "a" / "x", outside / "y"):
             path.touch()
-        for name, target in (("directory", outside), ("file", "a/x"), ("nothing", "/there/is/nothing"), ("a/up", "..")):
+        for name, target in (
+            ("directory", str(outside)),
+            ("file", "a/x"),
+            ("nothing", "/there/is/nothing"),
+            ("a/up", ".."),
+        ):
             (root / name).symlink_to(target)
         with Server(self.room) as server, server.client(root) as client:
             reply = client.ask("query", str(root), {"fields": ["name", "type"]})

@@ -1,7 +1,7 @@
 """Directories below a root that the server may not read."""
 
 from pathlib import Path
-from typing import List
+from typing import Dict, List
 
 from case import Case
 from client import A_HOUR, VERSION, Client, Server, query_of_names
@@ -58,7 +58,8 @@ class Locked(Case):
 
 
 def changes(client: Client, root: Path, **query: object) -> dict:
-    return client.ask("query", str(root), {"fields": ["name", "exists"], **query})
+    asked: Dict[str, object] = {"fields": ["name", "exists"], **query}
+    return client.ask("query", str(root), asked)
 
 
 def told(reply: dict) -> List[tuple]:

@@ -2,6 +2,7 @@
 
 import subprocess
 from pathlib import Path
+from typing import Any, Callable, Dict, List, Tuple
 
 from case import Case
 from client import A_HOUR, VERSION, Server, query_of_names
@@ -28,7 +29,8 @@ class Large(Case):
             root = Path(shelf) / "half"
             fill(root)
             client.ask("watch", str(root))
-            for what, step, act in (("change", 2, lambda path: path.write_text("changed")), ("go", 3, Path.unlink)):
+            acts: List[Tuple[str, int, Callable[[Path], object]]] = [("change", 2, written), ("go", 3, Path.unlink)]
+            for what, step, act in acts:
                 clock = client.ask("clock", str(root))["clock"]
                 paths = [path for directory in root.iterdir() for path in sorted(directory.iterdir())[::step]]
                 for path in paths:
@@ -40,15 +42,19 @@ class Large(Case):
                 )
 
     def check_most_files(self, room: Path, root: Path) -> None:
-        named = {"path": [{"path": "", "depth": 0}], **query_of_names()}
+        named: Dict[str, Any] = {"path": [{"path": "", "depth": 0}], **query_of_names()}
         directories = [f"directory{number:02}" for number in range(DIRECTORIES)]
         too_many = {"error": "E12: too many files", **VERSION}
         with Server(room, interval=A_HOUR) as server, server.client(root) as client:
-            reply = client.ask("query", str(root), {"sync_timeout": 0, **named})
+            reply = client.ask("query", str(root), {**named, "sync_timeout": 0})
             self.same("a root of 1,000,000 files", (reply.get("files"), reply.get("clock")), (directories, "c:7:9:1:1"))
             (root / "more").touch()
             self.same("a root of one more", client.ask("query", str(root), named), too_many)
-            again = client.ask("query", str(root), {"sync_timeout": 0, **named})
+            again = client.ask("query", str(root), {**named, "sync_timeout": 0})
             self.same("the view of a root of one more", again, reply)
             client.ask("watch-del", str(root))
             self.same("a watch of too many files", client.ask("watch", str(root)), too_many)
+
+
+def written(path: Path) -> None:
+    path.write_text("changed")

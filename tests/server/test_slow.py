@@ -2,7 +2,7 @@
 
 import select
 from pathlib import Path
-from typing import List
+from typing import Any, Dict, List
 
 from case import Case
 from client import VERSION, Client, Server, query_of_names
@@ -24,11 +24,11 @@ class Slow(Case):
     def goes_on(self, name: str, client: Client, root: Path) -> None:
         """A query sees a new file, and so does the crawler."""
         (root / f"asked, {name}").touch()
-        query = {"expression": ["name", f"asked, {name}"], **query_of_names()}
+        query: Dict[str, Any] = {**query_of_names(), "expression": ["name", f"asked, {name}"]}
         reply = client.ask("query", str(root), query)
         self.same(f"a query {name}", reply["files"], [f"asked, {name}"])
         (root / f"crawled, {name}").touch()
-        query = {"expression": ["name", f"crawled, {name}"], "sync_timeout": 0, **query_of_names()}
+        query = {**query_of_names(), "expression": ["name", f"crawled, {name}"], "sync_timeout": 0}
         reply = client.ask_until("query", str(root), query, lambda reply: reply["files"])
         self.same(f"a crawl {name}", reply["files"], [f"crawled, {name}"])
 

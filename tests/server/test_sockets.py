@@ -4,6 +4,7 @@ import os
 import socket
 import subprocess
 from pathlib import Path
+from typing import List
 
 import built
 from case import Case
@@ -58,6 +59,7 @@ class Sockets(Case):
         (root / "a").touch()
         command = [str(built.program_path()), "serve", "--sockname", "socket", "--start", "7", "--pid", "9"]
         with subprocess.Popen(command, cwd=started, stderr=subprocess.PIPE) as server:
+            assert server.stderr is not None
             self.same("a socket by a relative path", server.stderr.readline(), b"listening on socket\n")
             with connected(started) as client:
                 self.same("its name", client.ask("get-sockname"), {"sockname": "socket", **VERSION})
@@ -71,7 +73,7 @@ class Sockets(Case):
 
 def fill(path: str) -> list:
     """Clients that wait at a socket, as many as may."""
-    waiting = []
+    waiting: List[socket.socket] = []
     while True:
         stream = socket.socket(socket.AF_UNIX, socket.SOCK_STREAM)
         stream.setblocking(False)

@@ -5,6 +5,7 @@ import shutil
 import stat
 import subprocess
 from pathlib import Path
+from typing import Dict, List
 
 import built
 from case import Case
@@ -85,7 +86,8 @@ class Started(Case):
         it."""
         plain = {name: value for name, value in os.environ.items() if name not in MALLOC}
         tunables = {"GLIBC_TUNABLES": "glibc.malloc.tcache_count=7"}
-        for given in ({}, {"MALLOC_ARENA_MAX": "5"}, {"MALLOC_MMAP_THRESHOLD_": "4096"}, tunables):
+        changes: List[Dict[str, str]] = [{}, {"MALLOC_ARENA_MAX": "5"}, {"MALLOC_MMAP_THRESHOLD_": "4096"}, tunables]
+        for given in changes:
             environment = {**plain, **given, "WQD": str(shutil.which("printenv"))}
             ended = subprocess.run([str(built.TOP / "wqd"), *MALLOC], stdout=subprocess.PIPE, env=environment)
             self.same(f"./wqd with {given}", ended.stdout.decode().split(), list({**MALLOC, **given}.values()))

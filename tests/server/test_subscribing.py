@@ -4,7 +4,7 @@ deleted."""
 import select
 import time
 from pathlib import Path
-from typing import List
+from typing import Sequence
 
 from case import Case
 from client import VERSION, Client, Server
@@ -97,7 +97,7 @@ class Subscribing(Case):
             self.same("the end of a root that came and went", one.reply(), canceled)
 
 
-def list_of(root: Path, name: str, files: List[object], is_fresh: bool) -> dict:
+def list_of(root: Path, name: str, files: Sequence[object], is_fresh: bool) -> dict:
     """A list without its clock."""
     return {
         "files": files,

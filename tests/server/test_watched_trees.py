@@ -6,7 +6,7 @@ from pathlib import Path
 from typing import List
 
 from case import Case
-from client import VERSION, Row, Server, walked
+from client import VERSION, Client, Row, Server, walked
 from trees import lock
 
 
@@ -43,7 +43,7 @@ class Trees(Case):
                     make_large(root)
                     self.same_tree(f"a large tree, {workers} workers, made again", client, root)
 
-    def same_tree(self, name: str, client: object, root: Path) -> None:
+    def same_tree(self, name: str, client: Client, root: Path) -> None:
         """The files of a root are those that a walk in Python sees, at the first look and at one over the cut of that
         look."""
         fields = ["name", "type", "size", "mtime_ms"]
@@ -84,10 +84,10 @@ def make_tree(root: Path) -> None:
         path = root / name
         path.parent.mkdir(parents=True, exist_ok=True)
         path.write_text(name)
-    for name in (b"no-text\xff/x", b"directory/\xc3"):
-        path = os.path.join(bytes(root), name)
-        os.makedirs(os.path.dirname(path), exist_ok=True)
-        open(path, "wb").close()
+    for odd in (b"no-text\xff/x", b"directory/\xc3"):
+        whole = os.path.join(bytes(root), odd)
+        os.makedirs(os.path.dirname(whole), exist_ok=True)
+        open(whole, "wb").close()
     for number, nanoseconds in enumerate((-1, -1_000_000, -1_000_001, 1_999_999, -(10**18), 10**18)):
         path = root / f"time{number}"
         path.touch()

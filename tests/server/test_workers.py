@@ -5,7 +5,7 @@ import socket
 import subprocess
 import tempfile
 from pathlib import Path
-from typing import List
+from typing import Any, Dict, List
 
 from case import Case
 from client import A_HOUR, Server, query_of_names
@@ -14,7 +14,7 @@ from trees import MEMORY, has_room, make_names
 FILES = 100_000
 DIRECTORIES = 20
 # All files, most of some directories, and few.
-QUERIES = [
+QUERIES: List[Dict[str, Any]] = [
     {"fields": ["name", "type", "size", "mtime_ms"]},
     {
         "path": [f"directory{number:02}" for number in range(3, 8)],

@@ -4,9 +4,10 @@ much."""
 import os
 import time
 from pathlib import Path
+from typing import List
 
 from case import Case
-from client import query_of_names
+from client import Client, query_of_names
 from triggered import Scene
 from waiting import wait_until
 
@@ -33,7 +34,7 @@ class Reading(Case):
                 begun, over = scene.out / "begun", scene.out / "over"
                 scene.trigger("t", f"touch {begun}; sleep 1; touch {over}; exit 3", stdin="NAME_PER_LINE")
                 self.check("it starts", wait_until(begun.exists))
-                times = []
+                times: List[float] = []
                 while not over.exists() and len(times) < 10_000:
                     times.append(self.time_of_a_query(other, small))
                 self.check("it ends", wait_until(over.exists))
@@ -65,7 +66,7 @@ class Reading(Case):
             is_small = scene.server.has_memory_below(before + MORE_MEMORY)
             self.check("memory after it", is_small, [f"{scene.server.memory()} bytes, before {before}"])
 
-    def time_of_a_query(self, client: object, root: Path) -> float:
+    def time_of_a_query(self, client: Client, root: Path) -> float:
         """How many seconds the reply to a query takes that does not crawl."""
         began = time.monotonic()
         reply = client.ask("query", str(root), {"sync_timeout": 0, **query_of_names()})

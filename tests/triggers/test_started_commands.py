@@ -4,6 +4,7 @@ import json
 import os
 import threading
 from pathlib import Path
+from typing import Any, Dict, List, Tuple
 
 from case import Case
 from client import ENVIRONMENT, VERSION, Client, query_of_names
@@ -87,18 +88,17 @@ class Starts(Case):
         """Each form of input, with a limit and without."""
         objects = [{"exists": True, "name": "a.c"}, {"exists": True, "name": "b.c"}]
         text = json.dumps(objects, separators=(",", ":")).encode() + b"\n"
-        for place, (more, data, is_cut) in enumerate(
-            (
-                ({}, b"", False),
-                ({"stdin": "/dev/null"}, b"", False),
-                ({"stdin": "NAME_PER_LINE"}, b"a.c\nb.c\n", False),
-                ({"stdin": "NAME_PER_LINE", "max_files_stdin": 2}, b"a.c\nb.c\n", False),
-                ({"stdin": "NAME_PER_LINE", "max_files_stdin": 1}, b"a.c\n", True),
-                ({"stdin": ["name"], "max_files_stdin": 1}, b'["a.c"]\n', True),
-                ({"stdin": ["name", "exists"]}, text, False),
-                ({"max_files_stdin": 1}, b"", False),
-            )
-        ):
+        forms: List[Tuple[Dict[str, object], bytes, bool]] = [
+            ({}, b"", False),
+            ({"stdin": "/dev/null"}, b"", False),
+            ({"stdin": "NAME_PER_LINE"}, b"a.c\nb.c\n", False),
+            ({"stdin": "NAME_PER_LINE", "max_files_stdin": 2}, b"a.c\nb.c\n", False),
+            ({"stdin": "NAME_PER_LINE", "max_files_stdin": 1}, b"a.c\n", True),
+            ({"stdin": ["name"], "max_files_stdin": 1}, b'["a.c"]\n', True),
+            ({"stdin": ["name", "exists"]}, text, False),
+            ({"max_files_stdin": 1}, b"", False),
+        ]
+        for place, (more, data, is_cut) in enumerate(forms):
             part = self.room / str(place)
             part.mkdir()
             with Scene(part) as scene:
@@ -121,7 +121,7 @@ class Starts(Case):
         """Triggers are listed as they were given, replaced at their place, and deleted."""
         with Scene(self.room) as scene:
             root = str(scene.root)
-            given = {"name": "t", "command": ["true"], "append_files": True, "frob": 7, **OF_C_FILES}
+            given: Dict[str, Any] = {"name": "t", "command": ["true"], "append_files": True, "frob": 7, **OF_C_FILES}
             scene.client.ask("trigger", root, given)
             scene.register("u", ["true"])
             kept = {name: value for name, value in given.items() if name != "frob"}

@@ -59,7 +59,8 @@ class Scene:
     def register(self, name: str, command: List[str], **more: object) -> dict:
         """Registers a trigger at a view that shows all files, so that its first start has all of them."""
         self.client.ask("clock", str(self.root), {"sync_timeout": 1})
-        return self.client.ask("trigger", str(self.root), {"name": name, "command": command, **more})
+        told: Dict[str, object] = {"name": name, "command": command, **more}
+        return self.client.ask("trigger", str(self.root), told)
 
     def recorder(self) -> str:
         """A script that writes what it sees into a directory of its own. That has its last name when it is whole."""

@@ -116,15 +116,13 @@ class Terminal:
         for command in commands_of(lines):
             yield done(command, self.do(command.line))
 
+    def waited_for(self, command: Command) -> str:
+        """What a command writes when it is as shown, or else when the patience ends."""
+        return look_until(lambda: self.do(command.line), lambda written: is_as_shown(written, command.output))
+
     def waits_for(self, _: str, lines: List[str]) -> Iterator[Done]:
         for command in commands_of(lines):
-            yield done(
-                command,
-                look_until(
-                    lambda command=command: self.do(command.line),
-                    lambda written, command=command: is_as_shown(written, command.output),
-                ),
-            )
+            yield done(command, self.waited_for(command))
 
     def begins(self, name: str, lines: List[str]) -> Iterator[Done]:
         command = commands_of(lines)[0]
