@@ -22,8 +22,8 @@ CLOSED = {"(": ")", "<": ">", "[": "]", "{": "}"}
 
 
 class Declared(NamedTuple):
-    """A name with its shape: the public fields of a type, or its variants, or what a call takes and gives. The crate and
-    the shape may be left out."""
+    """A name with its shape: the public fields of a type, or its variants, or what a call takes and gives. The crate
+    and the shape may be left out."""
 
     crate: str
     name: str

@@ -11,6 +11,7 @@ from shapes import CRATES, Declared, declared, shape_of_call, shape_of_type, sha
 
 PLAN = Path(__file__).resolve().parent / "calls"
 DECISIONS = built.TOP / "docs" / "DECISIONS.md"
+LIBRARY = built.TOP / "docs" / "LIBRARY.md"
 SECTION = "## Calls that differ"
 NAMES = [path.name for path in sorted(CRATES.iterdir())]
 
@@ -41,18 +42,18 @@ def plan() -> List[Declared]:
 
 
 def account(names: Set[str]) -> Account:
-    rows = list(rows_of(DECISIONS.read_text(encoding="utf-8")))
+    section = DECISIONS.read_text(encoding="utf-8").split(f"{SECTION}\n")[1].split("\n## ")[0]
+    rows = [Row(*cells[:2]) for cells in cells_of(section)]
     places = {name: row.now for row in rows if row.is_of_crate() for name in row.planned}
     others = [row for row in rows if not row.is_of_crate()]
     words = {row.planned[0]: row.now[0] for row in others if declared(row.planned[0]).name not in names}
     return Account(places, words, [row for row in others if row.planned[0] not in words])
 
 
-def rows_of(page: str) -> Iterator[Row]:
-    section = page.split(f"{SECTION}\n")[1].split("\n## ")[0]
-    for line in re.findall(r"(?m)^\| `.*$", section):
-        cells = line.split(" | ")
-        yield Row(*(re.findall(r"`([^`]+)`", cell) for cell in cells[:2]))
+def cells_of(page: str) -> Iterator[List[List[str]]]:
+    """Of each row that begins with code, the texts in code of each cell."""
+    for line in re.findall(r"(?m)^\| `.*$", page):
+        yield [re.findall(r"`([^`]+)`", cell) for cell in line.split(" | ")]
 
 
 def found(call: Declared, account: Account) -> Optional[str]:
@@ -120,6 +121,11 @@ class Calls(Case):
         for row in self.account.rows:
             for text in row.now:
                 self.check(f"{text} is there", is_there(text))
+
+    def test_calls_of_the_guide_are_there(self) -> None:
+        for cells in cells_of(LIBRARY.read_text(encoding="utf-8")):
+            for text in cells[0]:
+                self.check(f"{text} of {LIBRARY.name} is there", is_there(text))
 
     def test_each_planned_crate_is_there_or_has_a_row(self) -> None:
         crates = {call.crate for call in self.plan} - self.account.places.keys()
