@@ -1,5 +1,5 @@
 """Whether the libraries have the public types, traits and calls that the file `calls` lists, each in its shape; and
-whether docs/DECISIONS.md has a row for each that differs, and no other row."""
+whether docs/DECISIONS.md has a row for each that differs, and no other row. The calls of docs/LIBRARY.md are there."""
 
 import re
 from pathlib import Path
