@@ -61,6 +61,7 @@ SIBLINGS = {
             "docs/CLIENTS.md": "what a client of Watchman says in its place",
             "tests/plain/cases.py": "cases of the forms of arguments",
             "tests/refused_memory/expression.rattle": "each form of arguments that takes memory",
+            "tests/surface/calls": "what was planned",
             "tests/wq/places.cases": "samples of faults",
         },
     ),
