@@ -9,7 +9,7 @@ GENERATED = "<!-- docs/crates/generate writes what follows -->"
 # The most words of each page, or of several together. Shorten before you raise one.
 MOST = {
     "README.md": 1530,
-    "CONTRIBUTING.md": 1400,
+    "CONTRIBUTING.md": 1420,
     "CHANGELOG.md": 1450,
     "docs/ARCHITECTURE.md": 1900,
     "docs/CLIENTS.md": 3465,
@@ -30,7 +30,7 @@ MOST = {
     "docs/WQ.md": 2750,
     "docs/WQASM.md": 1000,
     "docs/crates": 3600,
-    "tests/README.md": 1420,
+    "tests/README.md": 1600,
 }
 # A sentence of more words is long.
 LONG = 30
