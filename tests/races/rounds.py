@@ -109,7 +109,7 @@ def spoken(root: Path, speakers: Sequence[Speaker]) -> Tuple[List[Request], List
     return requests, coming
 
 
-def wait(selector: selectors.BaseSelector) -> List[tuple]:
+def wait(selector: selectors.BaseSelector) -> List[Tuple[selectors.SelectorKey, int]]:
     ready = selector.select(PATIENCE)
     if not ready:
         raise ValueError("the server did not answer")
