@@ -53,7 +53,7 @@ def is_member(wanted: str, found: str) -> bool:
 
 
 def head_of(member: str) -> str:
-    return re.match(r"\w*", member)[0]
+    return re.split(r"\W", member)[0]
 
 
 @lru_cache(maxsize=None)
