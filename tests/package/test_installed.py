@@ -92,7 +92,7 @@ class Installed(Case):
         again = call(self.room, "install", "--remove", str(prefix))
         nothing = f"install: nothing is installed below {prefix}\n".encode()
         self.same("a second one", (again.status, again.errors), (1, nothing))
-        self.same("words that are wrong", call(self.room, "install", "--frob").status, 1)
+        self.same("words that are wrong", call(self.room, "install", "--frob").status, 2)
         bad = call(self.room, "install", str(self.room / "a$b"))
         found = (bad.status, bad.errors.count(b"\n"), (self.room / "a$b").exists())
         self.same("a prefix that no unit can name", found, (1, 1, False))
