@@ -29,7 +29,8 @@ def lies_in(path: str, root: str) -> bool:
 
 def nearest(directory: str, roots: Iterable[str]) -> Optional[str]:
     """The nearest root that a directory lies in."""
-    return max((root for root in roots if lies_in(directory, root)), key=len, default=None)
+    around = [root for root in roots if lies_in(directory, root)]
+    return max(around, key=len) if around else None
 
 
 def outermost(directory: str, roots: Iterable[str]) -> str:
