@@ -1,6 +1,7 @@
 """What is installed: each file with its path below the prefix and its mode. `./install` and `./package` take it from
 here."""
 
+import functools
 import gzip
 import io
 import os
@@ -73,6 +74,7 @@ class File(NamedTuple):
     data: bytes
 
 
+@functools.lru_cache(maxsize=None)
 def version() -> str:
     """The version of the project, as `./wqd --version` says it."""
     return said("--version").split()[1]
@@ -82,6 +84,7 @@ def said(word: str) -> str:
     return subprocess.run([COMMAND, word], stdout=subprocess.PIPE, check=True).stdout.decode()
 
 
+@functools.lru_cache(maxsize=None)
 def built_program() -> bytes:
     """The program that the variable WQD names, or else the proved one, or that of the release of these sources. If there
     is none, it is built."""

@@ -13,13 +13,12 @@ from pathlib import Path
 from typing import List
 
 import notices
-from files import TOP, File, compressed, files, version
+from files import TOP, File, built_program, compressed, files, version
 
 # The prefix that the unit of the archive names, below which a user unpacks it.
 PREFIX = Path.home() / ".local"
 # The note that `./wqd --build` leaves beside the program.
 NOTE = TOP / "crates" / "wqd" / "out" / "wqd.proof"
-PROGRAM = "lib/wqd/wqd"
 ABOUT = """wqd {version}, a file watch server with proved answers, for Linux on x86-64.
 
 Unpack it below ~/.local, so that the commands are in ~/.local/bin:
@@ -68,19 +67,15 @@ def archive() -> File:
     return File(f"{home}-linux-x86_64.tar.gz", 0o644, tar_of(found, seconds(), front=""))
 
 
-def program() -> bytes:
-    return next(file.data for file in files(str(PREFIX)) if file.path == PROGRAM)
-
-
 def about() -> str:
-    needed = [(int(major), int(minor)) for major, minor in GLIBC.findall(program())]
+    needed = [(int(major), int(minor)) for major, minor in GLIBC.findall(built_program())]
     return ABOUT.format(version=version(), glibc="{}.{}".format(*max(needed, default=(2, 0))))
 
 
 def proof() -> File:
     """The note of how the program was proved. A program of which there is none, or another one, is not released, and
     neither is one of other sources than these or of changes that no commit has."""
-    digest = hashlib.sha256(program()).hexdigest()
+    digest = hashlib.sha256(built_program()).hexdigest()
     note = NOTE.read_text("utf-8") if NOTE.is_file() else ""
     said = dict(line.split(" ", 1) for line in note.splitlines() if " " in line)
     if said.get("program") != digest:
@@ -109,7 +104,7 @@ def sources() -> str:
 
 def bill() -> File:
     """The list of the program's parts."""
-    return File(f"wqd-{version()}.cdx.json", 0o644, notices.bill(version(), program()))
+    return File(f"wqd-{version()}.cdx.json", 0o644, notices.bill(version(), built_program()))
 
 
 def checksums(found: List[File]) -> File:
