@@ -86,8 +86,8 @@ def said(word: str) -> str:
 
 @functools.lru_cache(maxsize=None)
 def built_program() -> bytes:
-    """The program that the variable WQD names, or else the proved one, or that of the release of these sources. If there
-    is none, it is built."""
+    """The program that the variable WQD names, or else the proved one, or that of the release of these sources. If
+    there is none, it is built."""
     named = os.environ.get("WQD")
     if subprocess.run([COMMAND, "--is-built"]).returncode != 0 and subprocess.run([COMMAND, "--build"]).returncode != 0:
         sys.exit(1)

@@ -1,5 +1,5 @@
-"""What the server is asked for a client, and the lists and notices that the client gets without asking: which go through
-at once, which are held back, and which are dropped."""
+"""What the server is asked for a client, and the lists and notices that the client gets without asking: which go
+through at once, which are held back, and which are dropped."""
 
 import json
 import re

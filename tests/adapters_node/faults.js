@@ -28,7 +28,9 @@ async function foreignSocket() {
   fs.chmodSync(open, 0o777);
   const listener = net.createServer().listen(path.join(open, 'wqd.sock'));
   await new Promise((resolve) => { listener.on('listening', resolve); });
-  const refused = (name) => { try { throughOwnDirectory(name, () => {})(); return ''; } catch (fault) { return fault.code; } };
+  const refused = (name) => {
+    try { throughOwnDirectory(name, () => {})(); return ''; } catch (fault) { return fault.code; }
+  };
   same('a directory that others may write to', refused(path.join(open, 'wqd.sock')), 'EPERM');
   fs.symlinkSync(path.join(open, 'wqd.sock'), path.join(room, 'link.sock'));
   same('a link to a socket there', refused(path.join(room, 'link.sock')), 'EPERM');

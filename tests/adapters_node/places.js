@@ -20,7 +20,8 @@ async function manyRoots() {
   const ignored = path.join(room, 'late', 'skipped');
   const late = new Watched([tree('late', ['b', 'd/e', 'skipped/f']), tree('later', ['c'])], { ignored }, room);
   await late.ready;
-  await late.sees('no root is left', ['addDir late', 'add late/b', 'addDir late/d', 'add late/d/e', 'addDir later', 'add later/c']);
+  const found = ['addDir late', 'add late/b', 'addDir late/d', 'add late/d/e', 'addDir later', 'add later/c'];
+  await late.sees('no root is left', found);
   same('no error', late.errors, []);
   same('it is said once', warnings.map((text) => text.includes('E13: too many roots')), [true]);
   put(path.join(room, 'late', 'd', 'e'), 'longer');

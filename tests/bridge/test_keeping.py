@@ -173,11 +173,8 @@ class Keeping(Case):
             self.same("an error has status 0", "error" in said(begin("frob")), True)
         finally:
             self.same("shutdown-server", said(begin("--no-spawn", "shutdown-server"))["shutdown-server"], True)
-        self.same(
-            "without a server",
-            "unable to talk to your watchman" in said(begin("--no-spawn", "--no-local", "version")),
-            True,
-        )
+        refused = "unable to talk to your watchman" in said(begin("--no-spawn", "--no-local", "version"))
+        self.same("without a server", refused, True)
 
 
 def begun(command: List[str], script: bytes, environment: Dict[str, str]) -> subprocess.Popen:

@@ -14,8 +14,8 @@ const { giveBack, watch } = require('./watches');
 const FIELDS = ['name', 'exists', 'type', 'size', 'mtime_ms'];
 // How soon a root that went is noticed, in milliseconds: the server keeps the last view of one.
 const LOOK = 500;
-// After so many looks a root that the server refused is tried again. For one with too many files, all of which the server
-// looks at before it refuses, they are doubled each time, to at most so many.
+// After so many looks a root that the server refused is tried again. For one with too many files, all of which the
+// server looks at before it refuses, they are doubled each time, to at most so many.
 const LOOKS = 10;
 const MOST_LOOKS = 120;
 const PATIENCE = 600_000;
@@ -30,8 +30,8 @@ class Feed {
    * @param {string} root an absolute path without links
    * @param {boolean} keeps whether it keeps the process alive
    * @param {object} uses `expression()` is what the places of this feed need; `tell(changes, isThere)` takes changes,
-   *   one call after the other; `fail(fault)` takes the reason if nobody watches the root. While the server has no place
-   *   for it, this process looks each `interval` ms at what is in the directories that `opens(name)` says are needed
+   *   one call after the other; `fail(fault)` takes the reason if nobody watches the root. While the server has no
+   *   place for it, this process looks each `interval` ms at what is in the directories that `opens(name)` names
    */
   constructor(root, keeps, uses) {
     Object.assign(this, { root, keeps }, uses);

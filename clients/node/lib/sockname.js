@@ -46,7 +46,8 @@ function throughOwnDirectory(sockname, use) {
   try {
     const found = fs.fstatSync(directory);
     if (!isOwners(found.uid) || found.mode & WRITABLE_BY_OTHERS) {
-      throw refused(sockname, `others may write to ${path.dirname(target)}, so whose server answers there is not known`);
+      const place = path.dirname(target);
+      throw refused(sockname, `others may write to ${place}, so whose server answers there is not known`);
     }
     const inside = `/proc/self/fd/${directory}/${path.basename(target)}`;
     const socket = fs.lstatSync(inside);
