@@ -2,7 +2,7 @@
 below a prefix for `./install`, and as a package for npm and one for pip, which are the same on every machine."""
 
 import base64
-import gzip
+
 import hashlib
 import io
 import json
@@ -14,7 +14,7 @@ import tarfile
 import zipfile
 from typing import List, Optional
 
-from files import TOP, File, text, version
+from files import TOP, File, compressed, text, version
 
 NODE, PYTHON = "wqd-chokidar", "wqd_watchdog"
 # Below a prefix: the directory of npm's own packages, and one that no other Python looks into by itself.
@@ -43,7 +43,7 @@ Name: wqd-watchdog
 Version: {version}
 Summary: An observer for watchdog that asks wqd, a file watch server
 License: MIT OR Apache-2.0
-Requires-Python: >=3.8
+Requires-Python: >=3.9
 Requires-Dist: watchdog
 """
 WHEEL = """Wheel-Version: 1.0
@@ -68,12 +68,12 @@ def node_files() -> List[File]:
 
 def python_files() -> List[File]:
     """The files of the package for Python, by their paths beside other packages. It has the client of wqd in it."""
-    homes = {PYTHON: TOP / "clients" / "watchdog" / PYTHON, f"{PYTHON}/wqclient": TOP / "clients" / "wqclient"}
-    return [
-        File(f"{name}/{module.relative_to(home)}", 0o644, module.read_bytes())
-        for name, home in homes.items()
-        for module in sorted(home.rglob("*.py"))
-    ]
+    home = TOP / "clients" / "watchdog" / PYTHON
+    modules = {f"{PYTHON}/{module.relative_to(home)}": module for module in sorted(home.rglob("*.py"))}
+    # A link leads there, which is not followed.
+    inside = sorted((TOP / "clients" / "wqclient").glob("*.py"))
+    modules.update({f"{PYTHON}/wqclient/{module.name}": module for module in inside})
+    return [File(name, 0o644, module.read_bytes()) for name, module in modules.items()]
 
 
 def files_of_adapters(prefix: str) -> List[File]:
@@ -107,7 +107,7 @@ def npm_package() -> bytes:
             info = tarfile.TarInfo(f"package/{file.path}")
             info.mode, info.size, info.mtime = file.mode, len(file.data), NPM_TIME
             tar.addfile(info, io.BytesIO(file.data))
-    return gzip.compress(written.getvalue(), mtime=0)
+    return compressed(written.getvalue())
 
 
 def wheel() -> bytes:

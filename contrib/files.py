@@ -1,17 +1,20 @@
 """What is installed: each file with its path below the prefix and its mode. `./install` and `./package` take it from
 here."""
 
+import functools
+import gzip
 import io
 import os
 import subprocess
 import sys
-import tempfile
 import zipfile
 from pathlib import Path
-from typing import Dict, List, NamedTuple
+from typing import List, NamedTuple
 
 import completion
 import manual
+import notices
+import publisher
 
 from wq import examples
 from wq.usage import USAGE as WQ_USAGE
@@ -46,12 +49,6 @@ except KeyboardInterrupt:
 """
 # The places in an archive count from its own start, so a package may put another first line before it.
 FIRST_LINE = b"#!/usr/bin/env -S python3 -I\n"
-COMPILE = """import sys
-from py_compile import PycInvalidationMode, compile
-words = iter(sys.argv[1:])
-for module, made, shown in zip(words, words, words):
-    compile(module, made, shown, doraise=True, invalidation_mode=PycInvalidationMode.UNCHECKED_HASH)
-"""
 # The modules that the command watchman and its bridge are made of.
 BRIDGE_PACKAGES = ["bridge", "wqclient"]
 # The manual pages of section 7: their pages in docs/, and what they are.
@@ -61,7 +58,14 @@ REFERENCE = {
     "wqd-reference": ("REFERENCE.md", "errors, limits and costs of the protocol of wqd"),
     "wqd-scripts": ("SCRIPTS.md", "scripts that wqd replays"),
 }
-LICENCES = "You may use wqd under the MIT license or under the Apache License, Version 2.0, whichever you like.\n\n"
+FORMAT = """Format: https://www.debian.org/doc/packaging-manuals/copyright-format/1.0/
+Upstream-Name: wqd
+"""
+OWN = """Files: *
+Copyright: 2026 the wqd authors
+License: Expat or Apache-2.0
+"""
+EXPAT = "License: Expat\n"
 
 
 class File(NamedTuple):
@@ -70,6 +74,7 @@ class File(NamedTuple):
     data: bytes
 
 
+@functools.lru_cache(maxsize=None)
 def version() -> str:
     """The version of the project, as `./wqd --version` says it."""
     return said("--version").split()[1]
@@ -79,15 +84,19 @@ def said(word: str) -> str:
     return subprocess.run([COMMAND, word], stdout=subprocess.PIPE, check=True).stdout.decode()
 
 
+@functools.lru_cache(maxsize=None)
 def built_program() -> bytes:
-    """The program that the variable WQD names, or else the proved one, which is built if it is not built yet."""
+    """The program that the variable WQD names, or else the proved one, or that of the release of these sources. If
+    there is none, it is built."""
     named = os.environ.get("WQD")
+    if subprocess.run([COMMAND, "--is-built"]).returncode != 0 and subprocess.run([COMMAND, "--build"]).returncode != 0:
+        sys.exit(1)
+    path = Path(named or said("--program").rstrip("\n"))
     if named:
         print(f"The variable WQD names the program {named}: nobody checks whether it is proved.", file=sys.stderr)
-    elif subprocess.run([COMMAND, "--is-built"]).returncode != 0:
-        if subprocess.run([COMMAND, "--build"]).returncode != 0:
-            sys.exit(1)
-    return Path(named or TOP / "crates" / "wqd" / "out" / "wqd").read_bytes()
+    elif path == TOP / "release" / "wqd":
+        print(f"The program is that of the release, {path}.", file=sys.stderr)
+    return path.read_bytes()
 
 
 def files(prefix: str) -> List[File]:
@@ -110,9 +119,7 @@ def files(prefix: str) -> List[File]:
         File("share/bash-completion/completions/wqd", 0o644, text("contrib/wqd.bash").encode()),
         File("share/bash-completion/completions/wqasm", 0o644, text("contrib/wqasm.bash").encode()),
         File("share/doc/wqd/CHANGELOG.md", 0o644, text("CHANGELOG.md").encode()),
-        File(
-            "share/doc/wqd/copyright", 0o644, (LICENCES + text("LICENSE-MIT") + "\n" + text("LICENSE-APACHE")).encode()
-        ),
+        File("share/doc/wqd/copyright", 0o644, copyright_of(True)),
     ]
 
 
@@ -133,30 +140,41 @@ def text(path: str) -> str:
 
 
 def archive(packages: List[str], main: str) -> bytes:
-    """A tool as one file: an archive of its packages, of which Python runs this text. Beside each module is what this
-    Python compiled from it, and a Python of another version takes the module itself."""
+    """A tool as one file: an archive of the sources of its packages, of which Python runs this text. So it is the same
+    whichever Python made it."""
     written = io.BytesIO()
-    modules = {
-        f"{module.parent.name}/{module.name}": module
-        for package in packages
-        for module in sorted((TOP / "clients" / package).glob("*.py"))
-    }
     with zipfile.ZipFile(written, "w") as found:
-        for path, data in compiled(modules).items():
-            found.writestr(zipfile.ZipInfo(path), modules[path].read_bytes())
-            found.writestr(zipfile.ZipInfo(f"{path}c"), data)
+        for package in packages:
+            for module in sorted((TOP / "clients" / package).glob("*.py")):
+                found.writestr(zipfile.ZipInfo(f"{package}/{module.name}"), module.read_bytes())
         found.writestr(zipfile.ZipInfo("__main__.py"), main)
     return FIRST_LINE + written.getvalue()
 
 
-def compiled(modules: Dict[str, Path]) -> Dict[str, bytes]:
-    """What Python compiles from each module. Errors name it by its key. A Python that has done nothing else does so,
-    since the bytes depend on the texts that it has read before."""
-    with tempfile.TemporaryDirectory() as room:
-        made = {shown: os.path.join(room, str(number)) for number, shown in enumerate(modules)}
-        words = [word for shown, module in modules.items() for word in (str(module), made[shown], shown)]
-        subprocess.run([sys.executable, "-I", "-S", "-c", COMPILE, *words], check=True)
-        return {shown: Path(path).read_bytes() for shown, path in made.items()}
+def compressed(data: bytes, second: int = 0) -> bytes:
+    """Compressed as by each Python: their own short form for this differs in the head."""
+    written = io.BytesIO()
+    with gzip.GzipFile(fileobj=written, mode="wb", mtime=second) as file:
+        file.write(data)
+    return written.getvalue()
+
+
+def copyright_of(has_program: bool) -> bytes:
+    """The licence of wqd, and the notices of the libraries inside the program, as Debian has such files."""
+    home = publisher.fields()["home"]
+    front = FORMAT + (f"Source: {home}\n" if home else "")
+    parts = [front, OWN, *([notices.paragraphs()] if has_program else []), EXPAT + indented(text("LICENSE-MIT"))]
+    return "\n".join([*parts, "License: Apache-2.0\n" + apache()]).encode()
+
+
+def apache() -> str:
+    """The text of a licence that Debian has elsewhere."""
+    return indented(text("LICENSE-APACHE"))
+
+
+def indented(lines: str) -> str:
+    """A text in a field of such a file."""
+    return "".join(f" {line}\n" if line.strip() else " .\n" for line in lines.rstrip().splitlines())
 
 
 def server_manual() -> str:

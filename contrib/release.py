@@ -1,23 +1,24 @@
 """The parts of a release beside its packages: an archive of the files that ./install puts below a prefix, a note of how
 the program was proved, and the checksums of all of it. Each is the same on every machine, if its files are."""
 
-import gzip
 import hashlib
 import io
 import os
+import re
 import subprocess
 import tarfile
+import tempfile
 import time
 from pathlib import Path
 from typing import List
 
-from files import TOP, File, files, version
+import notices
+from files import TOP, File, built_program, compressed, files, version
 
 # The prefix that the unit of the archive names, below which a user unpacks it.
 PREFIX = Path.home() / ".local"
 # The note that `./wqd --build` leaves beside the program.
 NOTE = TOP / "crates" / "wqd" / "out" / "wqd.proof"
-PROGRAM = "lib/wqd/wqd"
 ABOUT = """wqd {version}, a file watch server with proved answers, for Linux on x86-64.
 
 Unpack it below ~/.local, so that the commands are in ~/.local/bin:
@@ -26,8 +27,10 @@ Unpack it below ~/.local, so that the commands are in ~/.local/bin:
     tar -xzf wqd-{version}-linux-x86_64.tar.gz -C ~/.local --strip-components=1
 
 Then `wq find .` lists files, `man wq` and `man wqd` say the rest, and share/doc/wqd has the changes and the licences.
-wq and wqasm need Python 3.8 or later; wqd needs the C library alone.
+wq and wqasm need Python 3.9 or later. wqd needs glibc {glibc} or later and libgcc_s.
 """
+# What the program says of the versions that it needs of the C library.
+GLIBC = re.compile(rb"\0GLIBC_(\d+)\.(\d+)(?:\.\d+)?(?=\0)")
 
 
 def seconds() -> int:
@@ -41,10 +44,10 @@ def seconds() -> int:
 
 
 def tar_of(found: List[File], second: int, front: str = "./") -> bytes:
-    """The files and the directories that they are in, all of root, compressed. Each name begins with this front. Debian
-    has `./` there and an entry for the directory itself; tar counts that as a component of each name."""
+    """The files, all of root, compressed. Each name begins with this front. Debian has `./` there, and entries for the
+    directories. Without a front there are none, so that a user's own directories keep their modes."""
     written = io.BytesIO()
-    above = {str(path) for file in found for path in Path(file.path).parents if front or str(path) != "."}
+    above = {str(path) for file in found for path in Path(file.path).parents} if front else set()
     entries = [File(path, 0o755, b"") for path in above] + found
     with tarfile.open(fileobj=written, mode="w", format=tarfile.GNU_FORMAT) as tar:
         for entry in sorted(entries):
@@ -53,27 +56,55 @@ def tar_of(found: List[File], second: int, front: str = "./") -> bytes:
             info.mode, info.size, info.mtime = entry.mode, len(entry.data), second
             info.uname = info.gname = "root"
             tar.addfile(info, io.BytesIO(entry.data))
-    return gzip.compress(written.getvalue(), mtime=second)
+    return compressed(written.getvalue(), second)
 
 
-def archive(second: int) -> File:
+def archive() -> File:
     """The files below one directory with the version, for those who have no package manager or do not want one."""
     home = f"wqd-{version()}"
     found = [File(f"{home}/{file.path}", file.mode, file.data) for file in files(str(PREFIX))]
-    found.append(File(f"{home}/share/doc/wqd/README", 0o644, ABOUT.format(version=version()).encode()))
-    return File(f"{home}-linux-x86_64.tar.gz", 0o644, tar_of(found, second, front=""))
+    found.append(File(f"{home}/share/doc/wqd/README", 0o644, about().encode()))
+    return File(f"{home}-linux-x86_64.tar.gz", 0o644, tar_of(found, seconds(), front=""))
+
+
+def about() -> str:
+    needed = [(int(major), int(minor)) for major, minor in GLIBC.findall(built_program())]
+    return ABOUT.format(version=version(), glibc="{}.{}".format(*max(needed, default=(2, 0))))
 
 
 def proof() -> File:
-    """The note of how the program was proved. A program of which there is none, or another one, is not released."""
-    program = next(file.data for file in files(str(PREFIX)) if file.path == PROGRAM)
-    digest = hashlib.sha256(program).hexdigest()
+    """The note of how the program was proved. A program of which there is none, or another one, is not released, and
+    neither is one of other sources than these or of changes that no commit has."""
+    digest = hashlib.sha256(built_program()).hexdigest()
     note = NOTE.read_text("utf-8") if NOTE.is_file() else ""
-    if f"program {digest}\n" not in note:
+    said = dict(line.split(" ", 1) for line in note.splitlines() if " " in line)
+    if said.get("program") != digest:
         raise ValueError(
-            f"the program with the SHA-256 {digest} is not the one that ./wqd --build proved and built " f"here"
+            f"the program with the SHA-256 {digest} is not the one that ./wqd --build proved and built here"
         )
+    if said.get("sources") != sources():
+        raise ValueError(
+            "the sources are not those that the program was proved and built from; ./wqd --build does it anew"
+        )
+    if said.get("commit", "").endswith("-dirty"):
+        raise ValueError("the program was proved and built from changes that no commit has")
     return File(f"wqd-{version()}.proof", 0o644, note.encode())
+
+
+def sources() -> str:
+    """The checksum of the sources, as the note of a proof has it."""
+    script = '. "$top/contrib/prove.sh"; copy_crates "$1" && sources "$1"'
+    with tempfile.TemporaryDirectory() as room:
+        words = ["sh", "-c", script, "sh", room]
+        ended = subprocess.run(words, env={**os.environ, "top": str(TOP)}, stdout=subprocess.PIPE)
+    if ended.returncode != 0:
+        raise ValueError("the sources of the program are not all here")
+    return ended.stdout.decode().strip()
+
+
+def bill() -> File:
+    """The list of the program's parts."""
+    return File(f"wqd-{version()}.cdx.json", 0o644, notices.bill(version(), built_program()))
 
 
 def checksums(found: List[File]) -> File:

@@ -1,6 +1,6 @@
 """Clock specs of clients, said in the server's terms."""
 
-from typing import Optional
+from typing import Dict, Optional
 
 from bridge.faults import Refused
 
@@ -28,7 +28,7 @@ def said_clock(spec: object) -> object:
     return spec if second is None else max(second, 0)
 
 
-def clock_in(spec: dict) -> str:
+def clock_in(spec: Dict[str, object]) -> str:
     """The clock in an object. One that has none is a clock of no run, as in Watchman."""
     if "scm" in spec:
         raise Refused("failed to parse query: wqd has no clocks that follow source control")

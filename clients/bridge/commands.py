@@ -10,8 +10,9 @@ from bridge.faults import Refused
 from bridge.listing import Listed, Listing
 from bridge.places import resolved
 from bridge.queries import asking_of, directory_of, is_plain
-from bridge.session import Reply, Session
+from bridge.session import Session
 from bridge.settling import settle
+from bridge.telling import Reply
 from wqclient import names
 
 Command = List[object]
@@ -61,7 +62,7 @@ def clock(session: Session, command: Command) -> Reply:
     timeout = wishes.get("sync_timeout", 0) if isinstance(wishes, dict) else None
     if isinstance(timeout, bool) or not isinstance(timeout, int):
         raise Refused("malformated argument list for 'clock'")
-    return session.ask(["clock", resolved(command[1]), {"sync_timeout": timeout}])
+    return session.ask(["clock", resolved(command[1]), {"sync_timeout": timeout}], patience=timeout)
 
 
 def query(session: Session, command: Command) -> Reply:
@@ -74,7 +75,9 @@ def listed(session: Session, root: str, wishes: object) -> Listed:
     assert isinstance(wishes, dict)
     check_directory(session, root, wishes)
     settle(wishes, lambda: str(session.ask(["clock", root, {"sync_timeout": 1}])["clock"]))
-    found = session.ask_for_list(["query", root, asking.query], asking.lister)
+    patience = wishes.get("sync_timeout", 0)
+    assert isinstance(patience, int)
+    found = session.ask_for_list(["query", root, asking.query], asking.lister, patience)
     found.more.update(bridge.recrawls.keys(root))
     return found
 

@@ -112,7 +112,7 @@ class Writer:
         """A message in parts: an object with these keys, and with these files, of which there are so many."""
         if encoding == JSON:
             return [json_of(value).encode()[:-1], b',"files":[', b",".join(files), b"]}\n"]
-        begin = self.bytes_of({**value, "files": []}, encoding)
+        begin = self.bytes_of(dict(value, files=[]), encoding)
         head = begin[: LENGTH_AT[encoding.version]]
         begin = begin[head_length(begin) :]
         if count:

@@ -16,7 +16,7 @@ NO_PLACE = "E17:"
 
 class Keeper:
     """Looks now and then whether the watched directories are there. One that is gone for the whole grace time is
-    watched no longer."""
+    watched no longer. A look may take as long as the file system likes, so each root has a thread of its own."""
 
     def __init__(self, server: str, grace: float, say: Callable[[str], None], forget: Callable[[str], None]) -> None:
         self.server = server
@@ -24,38 +24,36 @@ class Keeper:
         self.say = say
         self.forget = forget
         self.lock = threading.Lock()
-        # When each root was first seen to be gone; 0 if it is there.
-        self.gone_since: Dict[str, float] = {}
+        # Of each root what its thread was begun with.
+        self.turns: Dict[str, object] = {}
 
     def add(self, root: str) -> None:
+        turn = object()
         with self.lock:
-            self.gone_since.setdefault(root, 0)
+            if self.turns.setdefault(root, turn) is not turn:
+                return
+        try:
+            threading.Thread(target=self.keep, args=(root, turn), daemon=True).start()
+        except RuntimeError as error:
+            self.say(f"{json.dumps(root)} is not looked at: {error}")
+            self.remove(root)
 
     def remove(self, root: str) -> None:
         with self.lock:
-            self.gone_since.pop(root, None)
+            self.turns.pop(root, None)
 
-    def run(self) -> None:
+    def keep(self, root: str, turn: object) -> None:
+        """Looks at a root, until it is kept no longer."""
+        gone_since = 0.0
         while True:
             time.sleep(self.grace / LOOKS)
-            with self.lock:
-                known = list(self.gone_since)
-            for root in known:
-                if self.is_over(root, time.monotonic()):
-                    self.end(root)
-
-    def is_over(self, root: str, now: float) -> bool:
-        """Whether the root is gone for the grace time by now."""
-        is_there = os.path.isdir(root)
-        with self.lock:
-            if root not in self.gone_since:
-                return False
-            if is_there:
-                self.gone_since[root] = 0
-                return False
-            since = self.gone_since[root] or now
-            self.gone_since[root] = since
-        return now - since >= self.grace
+            is_there = os.path.isdir(root)
+            if self.turns.get(root) is not turn:
+                return
+            now = time.monotonic()
+            gone_since = 0.0 if is_there else gone_since or now
+            if gone_since and now - gone_since >= self.grace:
+                self.end(root)
 
     def end(self, root: str) -> None:
         """Ends the watch of a root. If the server does not answer, or has no place for a client, the next look tries

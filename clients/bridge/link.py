@@ -1,6 +1,6 @@
 """The bridge's own connections to wqd, of which each client has one or more."""
 
-from typing import List
+from typing import List, Optional
 
 from bridge.encodings import json_of
 from bridge.faults import Ended, Refused
@@ -21,6 +21,8 @@ class Link(lines.Lines):
             super().__init__(sockname)
         except OSError as error:
             raise Ended(f"wqd does not answer at {sockname}: {error.strerror}")
+        # So many replies are still to come for which nobody waits any longer.
+        self.late = 0
 
     def server_process(self) -> int:
         """The number of the server's process."""
@@ -37,6 +39,18 @@ class Link(lines.Lines):
             self.send_bytes(line + b"\n")
         except OSError:
             pass  # what the server said before it went can still be read
+
+    def comes_within(self, seconds: float) -> bool:
+        """Whether the server says anything within so many seconds, or has begun to."""
+        return bool(self.held) or self.has_line(seconds)
+
+    def take(self) -> Optional[bytes]:
+        """The next line, without replies that are too late."""
+        line = super().take()
+        while line is not None and self.late and not comes_by_itself(line):
+            self.late -= 1
+            line = super().take()
+        return line
 
     def receive(self) -> None:
         """Reads what the server sends next."""

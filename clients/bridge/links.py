@@ -22,7 +22,14 @@ class Links:
         self.subscriptions: Dict[Link, Set[Key]] = {}
 
     def first(self) -> Link:
-        return self.all[0] if self.all else self.make()
+        """The connection for commands."""
+        in_time = [link for link in self.all if not link.late]
+        return in_time[0] if in_time else self.make()
+
+    def set_aside(self, link: Link) -> None:
+        """The reply to the last command is not waited for any longer: the next ones go through another connection."""
+        link.late += 1
+        self.give_back(link)
 
     def make(self) -> Link:
         link = Link(self.server)
@@ -53,7 +60,7 @@ class Links:
             self.give_back(link)
 
     def give_back(self, link: Link) -> None:
-        if link is self.all[0] or self.subscriptions[link]:
+        if self.subscriptions[link] or not link.late and link is self.first():
             return
         self.ready.unregister(link)
         self.all.remove(link)

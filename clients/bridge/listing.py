@@ -81,7 +81,8 @@ class Listing:
     def add(self, piece: bytes) -> None:
         """Takes the next part of the line."""
         self.held += piece
-        if not self.has_begun():
+        self.take_begin()
+        if not self.begin:
             return
         end = self.cutter.last_end(self.held)
         if end > 0:
@@ -91,19 +92,18 @@ class Listing:
     def end(self, rest: bytes) -> None:
         """Takes the last part of the line."""
         self.held += rest
-        assert self.has_begun()
+        self.take_begin()
         end = self.held.rfind(FILES_END)
         self.write(self.held[:end])
         self.value = json.loads((self.begin + self.held[end:]).decode())
         del self.value["files"]
 
-    def has_begun(self) -> bool:
-        """Whether the line has come up to its files."""
-        if not self.begin:
-            length = self.held.find(FILES_BEGIN) + len(FILES_BEGIN)
-            if length >= len(FILES_BEGIN):
-                self.begin, self.held = self.held[:length], self.held[length:]
-        return bool(self.begin)
+    def take_begin(self) -> None:
+        """Takes the line up to its files, if so much of it has come."""
+        length = -1 if self.begin else self.held.find(FILES_BEGIN)
+        if length >= 0:
+            length += len(FILES_BEGIN)
+            self.begin, self.held = self.held[:length], self.held[length:]
 
     def write(self, text: bytes) -> None:
         """Writes the files of this part."""

@@ -6,7 +6,8 @@ from bridge.faults import Refused
 from bridge.logs import level_of, line_of
 from bridge.notices import ENTERS, LEAVES, Notice
 from bridge.places import resolved
-from bridge.session import Reply, Session
+from bridge.session import Session
+from bridge.telling import Reply
 from bridge.states import Wish, wish_of
 from bridge.watching import watch_if_needed
 
@@ -32,7 +33,7 @@ def state_leave(session: Session, command: Command) -> Reply:
 
 def clock_of(session: Session, root: str, wish: Wish) -> str:
     """The clock of the root, which is crawled first unless the client does not want it."""
-    return str(session.ask(["clock", root, {"sync_timeout": wish.timeout}])["clock"])
+    return str(session.ask(["clock", root, {"sync_timeout": wish.timeout}], patience=wish.timeout)["clock"])
 
 
 def told(session: Session, root: str, key: str, wish: Wish, clock: str) -> Reply:

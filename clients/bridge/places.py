@@ -91,7 +91,8 @@ def project_of(path: object, watched: List[str], root_files: List[str], enforces
 
 def enclosing(path: str, roots: List[str]) -> Optional[str]:
     """The nearest root that a path lies in."""
-    return max((root for root in roots if lies_in(path, root)), key=len, default=None)
+    around = [root for root in roots if lies_in(path, root)]
+    return max(around, key=len) if around else None
 
 
 def lies_in(path: str, root: str) -> bool:

@@ -34,8 +34,8 @@ class Recrawls:
             return {}
         return {
             "warning": (
-                f"Recrawled this watch {count} times, most recently because:\ndebug-recrawlTo resolve, please review the "
-                f"information on\n{ADVICE}\nTo clear this warning, run:\n"
+                f"Recrawled this watch {count} times, most recently because:\ndebug-recrawl"
+                f"To resolve, please review the information on\n{ADVICE}\nTo clear this warning, run:\n"
                 f"`watchman watch-del {root} ; watchman watch-project {root}`\n"
             )
         }

@@ -1,8 +1,10 @@
 """The bridge as a program: its words, its socket and its sessions."""
 
 import argparse
+import contextlib
 import errno
 import fcntl
+import json
 import os
 import select
 import signal
@@ -11,19 +13,15 @@ import stat
 import sys
 import threading
 import time
-from typing import IO, List, Optional
+from typing import IO, Dict, List, Optional
 
 from bridge.commands import answer
-from bridge.configuration import Configurations
 from bridge.encodings import MISSING, find_codec
-from bridge.held import MOST_CLIENTS, Held
-from bridge.keeper import Keeper
-from bridge.notices import Mailboxes
-from bridge.recrawls import Recrawls
+from bridge.held import MOST_CLIENTS
 from bridge.running import Running, opened_lock
 from bridge.session import Session
-from bridge.states import States
-from bridge.symlinks import Follower
+from bridge.shared import Shared
+from bridge.version import VERSION
 from wqclient.harmless import harmless
 from wqclient.lines import SUPERUSER, peer_of
 from wqclient.sockets import is_listened_on
@@ -31,6 +29,8 @@ from wqclient.sockets import is_listened_on
 GRACE = 1.0
 PAUSE = 0.2
 WAITING = 128
+# A client that has sent nothing for so many seconds is ended if its place is needed.
+SILENCE = 1.0
 
 
 def main(words: List[str]) -> None:
@@ -66,51 +66,32 @@ def say(text: str) -> None:
 
 
 class Serving:
-    """The things that sessions share, and the socket that clients connect to."""
+    """The socket that clients connect to, and their sessions."""
 
     def __init__(self, sockname: str, server: str, grace: float) -> None:
-        self.sockname = sockname
-        self.server = server
-        self.configurations = Configurations(say)
-        self.recrawls = Recrawls(self.configurations)
-        self.states = States()
-        self.mailboxes = Mailboxes()
-        self.messages = Held()
+        self.lock = locked(sockname)
+        self.shared = Shared(sockname, grace, Running(self.lock, server), say)
         self.places = threading.Semaphore(MOST_CLIENTS)
-        self.keeper = Keeper(server, grace, say, self.forget)
-        self.follower = Follower(server, self.configurations, self.keeper, say)
-        # A byte in this pipe ends the bridge.
-        self.end_seen, self.end_told = os.pipe()
+        # The sessions that there are, and when they began.
+        self.sessions: Dict[Session, float] = {}
         self.codec = find_codec()
         if self.codec is None:
             say(MISSING + "; JSON alone is served")
 
     def run(self) -> None:
+        shared = self.shared
         for number in (signal.SIGTERM, signal.SIGINT, signal.SIGHUP):
-            signal.signal(number, lambda *_: self.end())
-        lock = locked(self.sockname)
-        self.running = Running(lock, self.server)
-        listener = listening(self.sockname)
-        own = os.stat(self.sockname)
-        say(f"listening on {self.sockname}")
-        threading.Thread(target=self.keeper.run, daemon=True).start()
-        while self.end_seen not in select.select([listener, self.end_seen], [], [])[0]:
+            signal.signal(number, lambda *_: shared.end())
+        listener = listening(shared.sockname)
+        own = os.stat(shared.sockname)
+        say(f"listening on {shared.sockname}")
+        while shared.end_seen not in select.select([listener, shared.end_seen], [], [])[0]:
             self.begin(listener)
         listener.close()
-        if is_same(self.sockname, own):
-            os.unlink(self.sockname)
-        lock.close()
+        if is_same(shared.sockname, own):
+            os.unlink(shared.sockname)
+        self.lock.close()
         os._exit(0)  # a session may wait for its client
-
-    def end(self) -> None:
-        os.write(self.end_told, b".")
-
-    def forget(self, root: str) -> None:
-        """The root is watched no longer: nothing that was set for it stays."""
-        self.keeper.remove(root)
-        self.configurations.forget(root)
-        self.recrawls.forget(root)
-        self.states.forget(root)
 
     def begin(self, listener: socket.socket) -> None:
         """Begins the session of the client that waits, if it is one of the same user and there is a place."""
@@ -121,22 +102,53 @@ class Serving:
                 say(f"a client waits: {error.strerror}")
                 time.sleep(PAUSE)
             return
-        if peer_of(client).user not in (os.getuid(), SUPERUSER) or not self.places.acquire(blocking=False):
+        if peer_of(client).user not in (os.getuid(), SUPERUSER):
             client.close()
-            return
-        session = Session(self, client, self.codec, answer)
+        elif self.has_place():
+            self.begin_session(client)
+        else:
+            refuse(client)
+
+    def has_place(self) -> bool:
+        """Whether there is a place for one more client. If there is none, a client that never sent anything is ended:
+        whoever has something to ask goes before it."""
+        if self.places.acquire(blocking=False):
+            return True
+        now = time.monotonic()
+        silent = {each: began for each, began in list(self.sessions.items()) if not each.has_spoken}
+        oldest = min(silent, key=lambda each: silent[each], default=None)
+        if oldest is None or now - silent[oldest] < SILENCE:
+            return False
+        with contextlib.suppress(OSError):
+            oldest.client.shutdown(socket.SHUT_RDWR)
+        return self.places.acquire(timeout=GRACE)
+
+    def begin_session(self, client: socket.socket) -> None:
+        session = Session(self.shared, client, self.codec, answer)
+        self.sessions[session] = time.monotonic()
         try:
             threading.Thread(target=self.serve, args=(session,), daemon=True).start()
         except RuntimeError as error:
             say(f"a client is not served: {error}")
             session.close()
-            self.places.release()
+            self.end_session(session)
 
     def serve(self, session: Session) -> None:
         try:
             session.run()
         finally:
-            self.places.release()
+            self.end_session(session)
+
+    def end_session(self, session: Session) -> None:
+        del self.sessions[session]
+        self.places.release()
+
+
+def refuse(client: socket.socket) -> None:
+    """Says why a client is not served, in JSON, since it has not said which encoding it speaks."""
+    with client, contextlib.suppress(OSError):
+        value = {"version": VERSION, "error": f"the bridge serves {MOST_CLIENTS} clients, and no more"}
+        client.send(json.dumps(value).encode() + b"\n", socket.MSG_DONTWAIT)
 
 
 def locked(sockname: str) -> IO[str]:

@@ -1,109 +1,41 @@
 """A client: its messages are answered one after the other, and lists that come by themselves go through as they
 come."""
 
-import json
 import select
 import socket
 import struct
 from types import ModuleType
-from typing import Callable, Dict, Optional, Protocol, Tuple, Union
+from typing import Callable, Dict, Optional
 
-from bridge.configuration import Configurations
-from bridge.encodings import JSON, Broken, Inbox, Message, Unreadable, Writer
-from bridge.faults import Ended, Refused, of_server
-from bridge.fields import Lister
-from bridge.held import Held
-from bridge.link import Link, comes_by_itself
-from bridge.links import Links
-from bridge.listing import Listed, Listing, Passing, list_for
-from bridge.notices import LEAVES, Mailbox, Mailboxes, Notice
-from bridge.recrawls import Recrawls
-from bridge.running import Running
-from bridge.states import States
-from bridge.subscriptions import Subscription
-from bridge.telling import Teller
-from bridge.version import VERSION
+from bridge.encodings import Broken, Inbox, Message, Unreadable
+from bridge.faults import Ended, Refused
+from bridge.notices import LEAVES, Mailbox, Notice
+from bridge.shared import Shared
+from bridge.telling import Reply, Teller
 
 PIECE = 65_536
 # A client that takes nothing of a reply for so many seconds is cut off.
 PATIENCE = 120
-# How a reply with files begins.
-LIST_BEGIN = b'{"clock":'
 
 
-class Keeps(Protocol):
-    """It gives back the place of a root whose directory has gone."""
-
-    def add(self, root: str) -> None:
-        ...
-
-    def remove(self, root: str) -> None:
-        ...
-
-
-class Follows(Protocol):
-    """It watches where the links of a root lead."""
-
-    def add(self, root: str) -> None:
-        ...
-
-
-class Bridge(Protocol):
-    """The things that the sessions of a bridge share."""
-
-    sockname: str
-    server: str
-    keeper: Keeps
-    follower: Follows
-    configurations: Configurations
-    mailboxes: Mailboxes
-    messages: Held
-    recrawls: Recrawls
-    running: Running
-    states: States
-
-    def end(self) -> None:
-        """Ends the bridge, since its server has ended."""
-
-    def forget(self, root: str) -> None:
-        """The root is watched no longer: nothing that was set for it stays."""
-
-
-# Nothing is the reply of a command that has told its client everything.
-Reply = Union[Dict[str, object], Listed, None]
-
-
-class Session:
+class Session(Teller):
     """One client, and its own connections to the server, of which the first is made for its first message."""
 
     def __init__(
         self,
-        bridge: Bridge,
+        bridge: Shared,
         client: socket.socket,
         codec: Optional[ModuleType],
-        answer: Callable[["Session", object], "Reply"],
+        answer: Callable[["Session", object], Reply],
     ) -> None:
-        self.bridge = bridge
+        super().__init__(bridge, client, codec)
         self.answer_command = answer
-        self.client = client
         client.setsockopt(socket.SOL_SOCKET, socket.SO_SNDTIMEO, struct.pack("ll", PATIENCE, 0))
         self.has_bser = codec is not None
         self.inbox = Inbox(codec, bridge.messages)
-        self.writer = Writer(codec)
-        self.encoding = JSON
-        self.ready = select.poll()
-        self.ready.register(client, select.POLLIN)
-        self.links = Links(bridge.server, self.ready, bridge.running.sees)
-        # By root and name.
-        self.subscriptions: Dict[Tuple[str, str], Subscription] = {}
-        self.teller = Teller(self)
         self.mailbox: Optional[Mailbox] = None
-        self.log_level = "off"
-        # Whether this client has ended the server.
-        self.ends_server = False
-
-    def server(self) -> Link:
-        return self.links.first()
+        # Whether this client has sent anything, and whether it has ended the server.
+        self.has_spoken = self.ends_server = False
 
     def close(self) -> None:
         self.client.close()
@@ -135,7 +67,7 @@ class Session:
     def wait(self) -> None:
         """Waits for the client, and tells it lists and notices meanwhile."""
         self.tell_all()
-        numbers = [number for number, _ in self.ready.poll(self.teller.patience())]
+        numbers = [number for number, _ in self.ready.poll(self.patience())]
         for link in list(self.links.all):
             if link.fileno() in numbers:
                 link.receive()
@@ -148,15 +80,16 @@ class Session:
         for link in list(self.links.all):
             line = link.take()
             while line is not None:
-                self.teller.take(line)
+                self.take(line)
                 line = link.take()
         self.tell_notices()
-        self.teller.tell_held_back()
+        self.tell_held_back()
 
     def read(self) -> None:
         piece = self.client.recv(PIECE)
         if not piece:
             raise Ended("")
+        self.has_spoken = True
         self.inbox.add(piece)
 
     def answer_all(self) -> None:
@@ -174,47 +107,11 @@ class Session:
             self.tell_notices()
             self.tell(self.answer(message))
 
-    def answer(self, message: Message) -> "Reply":
+    def answer(self, message: Message) -> Reply:
         try:
             return self.answer_command(self, message.value)
         except Refused as fault:
             return {"error": str(fault)}
-
-    def ask(self, command: list, link: Optional[Link] = None) -> Dict[str, object]:
-        """The server's reply to a command."""
-        reply: Dict[str, object] = json.loads(self.ask_for_line(command, link=link).decode())
-        return reply
-
-    def ask_for_list(self, command: list, lister: Lister) -> Listed:
-        """The server's reply with files. It is taken as it comes, if no list of a subscription can come before it."""
-        found = list_for(lister, self.writer, self.encoding, self.client)
-        found.end(self.ask_for_line(command, None if self.subscriptions else found))
-        return found
-
-    def line_after(self, server: Link, found: Listed) -> bytes:
-        """The next line, or the last part of a list that takes what is before it."""
-        line, is_list = server.take(), False
-        while line is None:
-            is_list = is_list or server.begins_with(LIST_BEGIN)
-            if is_list:
-                found.add(server.cut())
-            server.receive()
-            line = server.take()
-        return line
-
-    def ask_for_line(self, command: list, found: Optional[Listed] = None, link: Optional[Link] = None) -> bytes:
-        """The line of the server's reply, or its last part, if a list takes those before it. An error has Watchman's
-        words."""
-        server = link or self.server()
-        server.send(command)
-        while True:
-            line = self.line_after(server, found) if found else server.line()
-            if not comes_by_itself(line):
-                break
-            self.teller.take(line)
-        if line.startswith(b'{"error":'):
-            raise Refused(of_server(json.loads(line)["error"], command))
-        return line
 
     def listens(self) -> None:
         """From now on the client gets notices of others."""
@@ -226,18 +123,9 @@ class Session:
     def tell_notices(self) -> None:
         for notice in self.mailbox.take() if self.mailbox is not None else ():
             if notice.root is None:
-                self.teller.tell_log(notice)
+                self.tell_log(notice)
             else:
-                self.teller.tell_state(notice)
-
-    def tell(self, value: "Reply") -> None:
-        if value is None:
-            return
-        if isinstance(value, (Passing, Listing)):
-            value.tell()
-            return
-        value["version"] = VERSION
-        self.client.sendall(self.writer.bytes_of(value, self.encoding))
+                self.tell_state(notice)
 
     def tell_if_there(self, value: Dict[str, object]) -> None:
         try:

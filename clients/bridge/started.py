@@ -60,12 +60,12 @@ def as_argument(name: str) -> str:
     return name if name[:1].isalnum() or name[:1] in "._/" else f"./{name}"
 
 
-def give_input(style: object, root: str, above: str) -> None:
+def give_input(style: "str | list[str]", root: str, above: str) -> None:
     """Puts the names or the fields of the files in the place of the standard input."""
     if style == "/dev/null":
         return
     text = sys.stdin.buffer.read().decode("utf-8", "surrogateescape")
-    if style == "NAME_PER_LINE":
+    if isinstance(style, str):
         text = "".join(f"{line[len(above):]}\n" for line in text.split("\n") if line)
     else:
         text = (
@@ -78,11 +78,12 @@ def give_input(style: object, root: str, above: str) -> None:
     os.dup2(number, 0)
 
 
-def row_of(found: dict, fields: list, root: str, above: str) -> object:
+def row_of(found: dict[str, object], fields: list[str], root: str, above: str) -> object:
     """A file as the definition wants it: with one field it is the bare value. What the server keeps, it has told."""
-    file = looked_at(os.path.join(root, found["name"])) if found["exists"] else None
-    found["name"] = found["name"][len(above) :]
-    row = {field: found[field] if field in found else value_of(field, file, found["type"]) for field in fields}
+    name, kind = str(found["name"]), str(found["type"])
+    file = looked_at(os.path.join(root, name)) if found["exists"] else None
+    found["name"] = name[len(above) :]
+    row = {field: found[field] if field in found else value_of(field, file, kind) for field in fields}
     return row if len(fields) > 1 else row[fields[0]]
 
 

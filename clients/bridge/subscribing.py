@@ -6,7 +6,8 @@ from bridge.clocks import CURSOR
 from bridge.faults import Refused
 from bridge.places import resolved, resolved_if_there
 from bridge.queries import Asking, asking_of_subscription
-from bridge.session import Reply, Session
+from bridge.session import Session
+from bridge.telling import Reply
 from bridge.subscriptions import DROP, Policy, Subscription
 from bridge.watching import watch_if_needed
 
@@ -42,7 +43,7 @@ def subscribe(session: Session, command: Command) -> Reply:
     subscription.states = session.bridge.states.of(root)
     session.tell({**reply, **session.bridge.recrawls.keys(root)})
     if first:
-        session.teller.tell_reply(subscription, first)
+        session.tell_reply(subscription, first)
     return None
 
 
@@ -52,7 +53,7 @@ def list_of_cursor(session: Session, root: str, asking: Asking) -> bytes:
     since = asking.query.get("since")
     if not isinstance(since, str) or not since.startswith(CURSOR):
         return b""
-    line = session.ask_for_line(["query", root, {**asking.query, "sync_timeout": 0}])
+    line = session.ask_for_line(["query", root, dict(asking.query, sync_timeout=0)])
     asking.query["since"] = line.split(b'"', 4)[3].decode()
     return line
 
@@ -77,7 +78,7 @@ def flush_subscriptions(session: Session, command: Command) -> Reply:
         raise Refused("'sync_timeout' must be an integer")
     root = resolved(command[1])
     flushed = named(session, root, wishes["subscriptions"]) if "subscriptions" in wishes else of_root(session, root)
-    clock = str(session.ask(["clock", root, {"sync_timeout": timeout}])["clock"])
+    clock = str(session.ask(["clock", root, {"sync_timeout": timeout}], patience=timeout)["clock"])
     found: Dict[str, List[str]] = {"synced": [], "no_sync_needed": [], "dropped": []}
     for subscription in flushed:
         wait_for_first_list(session, subscription)
@@ -85,7 +86,7 @@ def flush_subscriptions(session: Session, command: Command) -> Reply:
             subscription.drop(clock)
             found["dropped"].append(subscription.name)
         else:
-            found["synced" if session.teller.tell_since(subscription) else "no_sync_needed"].append(subscription.name)
+            found["synced" if session.tell_since(subscription) else "no_sync_needed"].append(subscription.name)
     return {**found, **session.bridge.recrawls.keys(root)}
 
 
@@ -118,7 +119,7 @@ def wait_for_first_list(session: Session, subscription: Subscription) -> None:
     """The first list follows the reply to `subscribe`, and may still be on its way."""
     link = session.links.of((subscription.root, subscription.name))
     while link is not None and subscription.passed is None:
-        session.teller.take(link.line())
+        session.take(link.line())
 
 
 def set_paused(session: Session, command: Command) -> Reply:

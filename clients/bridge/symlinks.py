@@ -5,10 +5,11 @@ import json
 import os
 import threading
 import time
-from typing import Callable, Iterable, List, Optional, Protocol, Set
+from typing import Callable, Iterable, List, Optional, Set
 
 from bridge.configuration import Configurations
 from bridge.faults import Ended, Refused
+from bridge.keeper import Keeper
 from bridge.link import Link, comes_by_itself
 from bridge.places import NotThere, enclosing, project_root, real_path
 
@@ -17,17 +18,10 @@ NAME = "links"
 PAUSE = 1.0
 
 
-class Keeps(Protocol):
-    """It gives back the place of a root whose directory has gone."""
-
-    def add(self, root: str) -> None:
-        ...
-
-
 class Follower:
     """A client of the server, from the first such root on. It hears of links by a subscription."""
 
-    def __init__(self, server: str, configurations: Configurations, keeper: Keeps, say: Callable[[str], None]) -> None:
+    def __init__(self, server: str, configurations: Configurations, keeper: Keeper, say: Callable[[str], None]) -> None:
         self.server = server
         self.configurations = configurations
         self.keeper = keeper

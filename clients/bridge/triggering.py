@@ -4,7 +4,8 @@ from typing import Dict, List
 
 from bridge.faults import Refused
 from bridge.places import resolved
-from bridge.session import Reply, Session
+from bridge.session import Session
+from bridge.telling import Reply
 from bridge.triggers import Definition, definition_of, given_of, registered
 from bridge.watching import watch_if_needed
 

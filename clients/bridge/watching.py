@@ -4,7 +4,8 @@ from typing import Dict, List
 
 from bridge.faults import Refused
 from bridge.places import project_of, resolved, resolved_if_there
-from bridge.session import Reply, Session
+from bridge.session import Session
+from bridge.telling import Reply
 
 Command = List[object]
 TOP = "/"

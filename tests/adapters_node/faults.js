@@ -1,73 +1,36 @@
 'use strict';
-// What the adapter cannot do, which it says in one event, and what it does not believe.
+// How many roots a process takes, and what the adapter does not believe.
 
 const fs = require('fs');
 const net = require('net');
 const path = require('path');
 const { HOME, Watched, ask, pause, put, room, same, scene, server, tree } = require('./scene');
 
-/** A seventeenth root is told once, and the others are watched. */
-async function manyRoots() {
-  // In a project its directory would be tried for both.
+/** The roots of all watchers of a process count: from some on, what their directories have in common is watched. */
+async function manyWatchers() {
+  // In a project its directory would be taken.
   process.chdir('/');
-  const first = tree('first', ['a']);
-  const watched = new Watched(first, {}, room);
-  await watched.ready;
-  for (let number = 0; number < 15; number += 1) await ask('watch', tree(`other-${number}`, []));
-  const late = new Watched([tree('late', ['b']), tree('later', ['c'])], {}, room);
-  await late.ready;
-  await pause(300);
-  same('no root is left', late.errors.length, 1);
-  const isNamed = (name) => late.errors[0].includes(`${room}/${name}: E13: too many roots`);
-  same('it names both', ['late', 'later'].map(isNamed), [true, true]);
-  await ask('watch-del', path.join(room, 'other-0'));
-  const last = new Watched(tree('last', ['d']), {}, room);
-  await last.ready;
-  await last.sees('a place that is free', ['addDir last', 'add last/d']);
-  await Promise.all([watched, late, last].map((each) => each.watcher.close()));
-  await pause(300);
+  tree('many', Array.from({ length: 17 }, (_, number) => `${number}/a`));
+  const all = Array.from({ length: 17 }, (_, number) => new Watched(path.join(room, 'many', String(number)), {}, room));
+  await Promise.all(all.map((each) => each.ready));
+  put(path.join(room, 'many', '16', 'b'), '');
+  await all[16].sees('the last of them', ['addDir many/16', 'add many/16/a', 'add many/16/b']);
   const { roots } = await ask('watch-list');
-  const left = roots.map((root) => path.basename(root)).filter((name) => !name.startsWith('other'));
-  same('what it had watched is given back', left, []);
-  for (const root of roots) await ask('watch-del', root);
-}
-
-/** A server with 32 clients takes no other one, until one goes. */
-async function manyClients() {
-  const sockets = [];
-  while (sockets.length < 32) sockets.push(await placed());
-  const watched = new Watched(tree('full', ['a']), {}, room);
-  await watched.ready;
-  for (let turn = 0; turn < 100 && watched.errors.length === 0; turn += 1) await pause(50);
-  same('no place is left', watched.errors.map((text) => text.includes('takes no client')), [true]);
-  for (const socket of sockets) socket.destroy();
-  await watched.sees('a place is free again', ['addDir full', 'add full/a']);
-  await watched.watcher.close();
-}
-
-/** A client that the server has taken in: clients of before may take a while to go. */
-async function placed() {
-  for (let turn = 0; turn < 200; turn += 1) {
-    const socket = net.connect(server.sockname).on('error', () => {});
-    const said = await new Promise((resolve) => {
-      socket.once('data', resolve);
-      socket.once('close', () => resolve('error'));
-      socket.write('["version"]\n');
-    });
-    if (!String(said).includes('error')) return socket.resume();
-    socket.destroy();
-    await pause(50);
-  }
-  throw new Error('the server takes no 32 clients');
+  same('their roots', [roots.length, roots.includes(path.join(room, 'many'))], [5, true]);
+  await Promise.all(all.map((each) => each.watcher.close()));
+  for (let turn = 0; turn < 50 && (await ask('watch-list')).roots.length > 0; turn += 1) await pause(100);
+  same('they are given back', (await ask('watch-list')).roots, []);
 }
 
 async function foreignSocket() {
-  const { requireOwn } = require(path.join(HOME, 'lib', 'sockname'));
+  const { throughOwnDirectory } = require(path.join(HOME, 'lib', 'sockname'));
   const open = tree('open', []);
   fs.chmodSync(open, 0o777);
   const listener = net.createServer().listen(path.join(open, 'wqd.sock'));
   await new Promise((resolve) => { listener.on('listening', resolve); });
-  const refused = (name) => { try { requireOwn(name); return ''; } catch (fault) { return fault.code; } };
+  const refused = (name) => {
+    try { throughOwnDirectory(name, () => {})(); return ''; } catch (fault) { return fault.code; }
+  };
   same('a directory that others may write to', refused(path.join(open, 'wqd.sock')), 'EPERM');
   fs.symlinkSync(path.join(open, 'wqd.sock'), path.join(room, 'link.sock'));
   same('a link to a socket there', refused(path.join(room, 'link.sock')), 'EPERM');
@@ -106,25 +69,4 @@ async function falseNames() {
   process.env.WQD_SOCK = before;
 }
 
-/** Without a server, and where none can be started. */
-async function noServer() {
-  const before = process.env.WQD_SOCK;
-  const directory = path.join(room, 'missing');
-  process.env.WQD_SOCK = path.join(directory, 'wqd.sock');
-  const watched = new Watched(tree('unserved', ['a']), {}, room);
-  await watched.ready;
-  await pause(300);
-  same('one event', watched.errors.length, 1);
-  same('it says why', watched.errors[0].includes('no server runs, and wq could not start one'), true);
-  fs.mkdirSync(directory, { mode: 0o700 });
-  await watched.sees('a server comes', ['addDir unserved', 'add unserved/a']);
-  await watched.watcher.close();
-  await new Promise((resolve) => {
-    const socket = net.connect(process.env.WQD_SOCK, () => socket.write('["shutdown-server"]\n'));
-    socket.on('close', resolve);
-    socket.resume();
-  });
-  process.env.WQD_SOCK = before;
-}
-
-scene(manyRoots, manyClients, foreignSocket, falseNames, noServer);
+scene(manyWatchers, foreignSocket, falseNames);

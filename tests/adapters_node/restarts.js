@@ -39,12 +39,15 @@ async function stopped() {
   const watched = new Watched(root, { ignoreInitial: true }, root);
   await watched.ready;
   execFileSync(wq, ['stop'], { stdio: 'ignore' });
-  put(path.join(root, 'b'));
+  put(path.join(root, 'b'), '');
   await pause(1500);
   same('nobody starts it', server.process(), undefined);
-  same('it is told once', watched.errors.length, 1);
+  await watched.sees('this process looks itself', ['add b']);
+  same('no error', watched.errors, []);
   execFileSync(wq, ['start'], { stdio: 'ignore' });
-  await watched.sees('it goes on with the next one', ['add b']);
+  await pause(3000);
+  put(path.join(root, 'c'), '');
+  await watched.sees('it goes on with the next one', ['add c']);
   await watched.watcher.close();
 }
 

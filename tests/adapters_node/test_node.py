@@ -82,6 +82,9 @@ class Node(Beside):
     def test_faults(self) -> None:
         self.check_scene("faults.js")
 
+    def test_places(self) -> None:
+        self.check_scene("places.js")
+
     def test_restarts(self) -> None:
         self.check_scene("restarts.js")
 

@@ -1,11 +1,12 @@
 """The parts of the adapter that ask no server."""
 
 import json
+import os
 from typing import Iterator
 
 from case import Case
 from wqd_watchdog.latency import LOOKS, Latency
-from wqd_watchdog.roots import nearest, outermost, sentence
+from wqd_watchdog.roots import in_common, nearest, outermost, refusal
 from wqd_watchdog.rows import Change, Changes, File, Row, difference, file_of
 
 A, B, D = Row(False, 1, 1000), Row(False, 2, 1000), Row(True, 4096, 1000)
@@ -46,9 +47,18 @@ class Pieces(Case):
         ):
             self.same(f"{directory} in {roots}", (nearest(directory, roots), outermost(directory, roots)), expected)
         self.check(
-            "no root is free", sentence("/a", "E13: too many roots").startswith("/a: 16 directories are watched")
+            "no root is free", str(refusal("/a", "E13: too many roots")).startswith("/a: 16 directories are watched")
         )
-        self.same("another error", sentence("/a", "E60: no memory"), "/a: E60: no memory")
+        self.same("another error", str(refusal("/a", "E60: no memory")), "/a: E60: no memory")
+        home = os.path.expanduser("~")
+        for directories, expected in (
+            (["/a/b/c", "/a/b/d"], "/a/b"),
+            (["/a/b/c", "/a/b"], "/a/b"),
+            (["/a/b", "/a/c"], None),
+            (["/a", "/b"], None),
+            ([f"{home}/a", f"{home}/b"], None),
+        ):
+            self.same(f"what {directories} have in common", in_common(directories), expected)
 
     def test_latency(self) -> None:
         """A file system is slow if some of the last looks took long."""

@@ -2,6 +2,7 @@
 name."""
 
 import os
+import signal
 from pathlib import Path
 
 from bridged import Bridge, make_files
@@ -12,7 +13,35 @@ SECOND = 1_700_000_000
 FILES = {"before": SECOND - 1, "at": SECOND, "after": SECOND + 1}
 
 
+# Watchman's words for a scan that takes longer than a `sync_timeout`.
+LATE = ["query failed: synchronization failed: Connection timed out", "sync_timeout expired"]
+
+
 class Clocks(Case):
+    def test_scans_that_take_long(self) -> None:
+        """After its `sync_timeout` a client is told so. The reply that comes later is nobody's, and lists go on."""
+        root = self.room / "root"
+        make_files(root, ["a"])
+        with Bridge(self.room, 3_600_000) as bridge, bridge.client(root) as client:
+            for has_subscription in (False, True):
+                if has_subscription:
+                    client.ask("subscribe", str(root), "s", {"fields": ["name"]})
+                    client.reply()
+                os.kill(bridge.server.process.pid, signal.SIGSTOP)
+                late = [
+                    client.ask("query", str(root), {"fields": ["name"], "sync_timeout": 200}).get("error"),
+                    client.ask("clock", str(root), {"sync_timeout": 200}).get("error"),
+                ]
+                self.same(f"while the server stands still, {has_subscription}", late, LATE)
+                os.kill(bridge.server.process.pid, signal.SIGCONT)
+                self.same("later", names_of(client, root, {"sync_timeout": 60_000}), ["a"])
+                self.same("the version", client.ask("version")["wqd"], "wq-1")
+            make_files(root, ["b"])
+            reply = client.ask("flush-subscriptions", str(root), {"sync_timeout": 60_000})
+            if "unilateral" in reply:
+                reply = client.reply()
+            self.same("the subscription goes on", reply.get("synced", reply), ["s"])
+
     def test_clocks(self) -> None:
         root = self.room / "root"
         make_files(root, list(FILES))

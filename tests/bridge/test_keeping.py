@@ -6,15 +6,19 @@ import shutil
 import stat
 import subprocess
 import sys
+import threading
 import time
 from pathlib import Path
 from typing import Dict, List
+from unittest.mock import patch
 
 import built
 from bridged import COMMAND, PROGRAM, Bridge, make_files
 from case import Case
 from client import PATIENCE, Client
 from waiting import wait_until
+
+from bridge.keeper import Keeper
 
 # So many clients the server takes.
 PLACES = 32
@@ -40,6 +44,24 @@ class Keeping(Case):
             self.check("a root that went has its place for the grace time", took >= GRACE, [f"{took:.3f} seconds"])
             roots = sorted(client.ask("watch-list")["roots"])
             self.same("then the place is given back, and no other", roots, [str(back), str(stays)])
+
+    def test_a_root_that_hangs(self) -> None:
+        """A look at a root that never ends holds up no other root."""
+        ended: List[str] = []
+        released = threading.Event()
+
+        def isdir(path: object) -> bool:
+            return path != "gone" and released.wait(PATIENCE)
+
+        with patch("os.path.isdir", isdir), patch.object(Keeper, "end", lambda _, root: ended.append(root)):
+            keeper = Keeper("", 0.1, print, print)
+            for root in ("hung", "gone", "gone"):
+                keeper.add(root)
+            self.same("the other one is ended", wait_until(lambda: "gone" in ended), True)
+            for root in ("hung", "gone"):
+                keeper.remove(root)
+            released.set()
+        self.same("the one that hangs is not", "hung" in ended, False)
 
     def test_subscribers_of_a_root_that_goes(self) -> None:
         """They are told that the root is watched no longer."""
@@ -151,11 +173,8 @@ class Keeping(Case):
             self.same("an error has status 0", "error" in said(begin("frob")), True)
         finally:
             self.same("shutdown-server", said(begin("--no-spawn", "shutdown-server"))["shutdown-server"], True)
-        self.same(
-            "without a server",
-            "unable to talk to your watchman" in said(begin("--no-spawn", "--no-local", "version")),
-            True,
-        )
+        refused = "unable to talk to your watchman" in said(begin("--no-spawn", "--no-local", "version"))
+        self.same("without a server", refused, True)
 
 
 def begun(command: List[str], script: bytes, environment: Dict[str, str]) -> subprocess.Popen:

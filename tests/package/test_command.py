@@ -188,25 +188,39 @@ class Command(Case):
 
         refused = b"wqd: wrong command line\nwqd: check takes one file\n"
         self.same("wrong words", ended("check"), built.Ended(b"", refused, 2))
-        unbuilt = (
-            b"wqd: not built: ./wqd --build proves and builds it (about an hour on four processors), "
-            b"./wq answers now\n"
+        missing = (
+            b"wqd: nothing is built, and the Rattle kit is missing: its command rt is not on the PATH\n"
+            b"wqd: a release has the program: put that at %b/release/wqd, or name it by the variable WQD\n"
+            % str(self.room).encode()
         )
-        for words in ((), ("serve",)):
-            self.same(f"nothing is built for {words}", ended(*words), built.Ended(b"", unbuilt, 1))
-        missing = b"wqd: nothing is built, and the Rattle kit is missing: its command rt is not on the PATH\n"
-        for words in (("replay",), ("check", "file")):
+        for words in ((), ("serve",), ("replay",), ("check", "file"), ("--build",)):
             self.same(
                 f"nothing is built, and no kit is there, for {words}", ended(*words), built.Ended(b"", missing, 1)
             )
-        missing = b"wqd: the Rattle kit is missing: its command rt is not on the PATH\n"
-        self.same("no kit", ended("--build"), built.Ended(b"", missing, 1))
         prefix = self.room / "prefix"
         self.same("no kit to install", ended(str(prefix), name="install"), built.Ended(b"", missing, 1))
         self.same("what that leaves", prefix.exists(), False)
         self.same("help", ended("--help"), call(self.room, "wqd", "--help"))
         self.same("the version", ended("--version"), call(self.room, "wqd", "--version"))
         self.same("nothing is built", ended("--is-built"), built.Ended(b"", b"", 1))
+        self.same("no program", ended("--program"), built.Ended(b"", b"", 1))
+
+    def test_program_of_a_release(self) -> None:
+        """In the sources of a release its program is taken, and that is said."""
+        bare(self.room)
+        released = self.room / "release" / "wqd"
+        released.parent.mkdir()
+        shutil.copy(built.program_path(), released)
+        environment = {name: value for name, value in os.environ.items() if name != "WQD"}
+        environment.update(PATH=str(tools(self.room)), HOME=str(self.room))
+
+        def ended(*words: str) -> built.Ended:
+            return built.call([str(self.room / "wqd"), *words], env=environment, input=b'ask 1 ["version"]\n')
+
+        said = f"wqd: this is the program of the release, {released}\n".encode()
+        self.same("it runs", ended("replay"), built.Ended(b'1 {"version":"wq-1"}\n', said, 0))
+        self.same("it is there", ended("--is-built"), built.Ended(b"", b"", 0))
+        self.same("its path", ended("--program"), built.Ended(f"{released}\n".encode(), b"", 0))
 
 
 def served(words: List[str], environment: Dict[str, str], sockname: Path, room: Path) -> dict:

@@ -51,13 +51,11 @@ OF_DEBIAN = ("share/doc/wqd/changelog.gz", "share/lintian/overrides/wqd")
 ADMIN = ("info", "updates", "triggers")
 
 
-# What Python reads for `wq find`, from an archive: modules that are not compiled, and those that it does not need.
+# Which modules that it does not need Python reads for `wq find`, from an archive.
 READ = """import sys
 sys.path.insert(0, sys.argv[1])
 from wq.command import function_of
 function_of("find")
-files = [module.__file__ for name, module in sorted(sys.modules.items()) if name.startswith("wq")]
-print([file for file in files if not file.endswith(".pyc")])
 late = {"subprocess", "hashlib", "difflib", "tempfile", "wqprogram.terms", "wq.errors", "wq.run"}
 print(sorted(late & set(sys.modules)))
 """
@@ -85,14 +83,14 @@ class Installed(Case):
         self.check_server("installed", self.room, (prefix / UNIT).read_text())
         self.check_tool(prefix)
         self.check_wq(prefix, self.room)
-        self.check_compiled(prefix)
+        self.check_read(prefix)
         removed = call(self.room, "install", "--remove", str(prefix))
         self.same("how ./install --remove ends", (removed.status, removed.errors), (0, b""))
         self.same("what ./install --remove leaves", listing(prefix), before)
         again = call(self.room, "install", "--remove", str(prefix))
         nothing = f"install: nothing is installed below {prefix}\n".encode()
         self.same("a second one", (again.status, again.errors), (1, nothing))
-        self.same("words that are wrong", call(self.room, "install", "--frob").status, 1)
+        self.same("words that are wrong", call(self.room, "install", "--frob").status, 2)
         bad = call(self.room, "install", str(self.room / "a$b"))
         found = (bad.status, bad.errors.count(b"\n"), (self.room / "a$b").exists())
         self.same("a prefix that no unit can name", found, (1, 1, False))
@@ -130,12 +128,12 @@ class Installed(Case):
         nobody = f"wq: no server listens on {runtime}/wqd.sock; `wq start` starts one\n".encode()
         self.same("another end", wq("stop"), built.Ended(b"", nobody, 1))
 
-    def check_compiled(self, prefix: Path) -> None:
-        """The installed wq starts quickly: its modules are compiled, and each is read only if it is needed."""
+    def check_read(self, prefix: Path) -> None:
+        """The installed wq starts quickly: each module is read only if it is needed."""
         read = subprocess.run(
             [sys.executable, "-I", "-S", "-c", READ, str(prefix / "bin" / "wq")], stdout=subprocess.PIPE
         )
-        self.same("modules that the installed wq reads", read.stdout, b"[]\n[]\n")
+        self.same("modules that the installed wq reads", read.stdout, b"[]\n")
 
     def test_default_prefix(self) -> None:
         """Without a prefix it is ~/.local, and the unit is the file of contrib/ as it is. The prefix may not be there
@@ -196,6 +194,7 @@ class Installed(Case):
         call(self.room, "install", str(self.room / "prefix"))
         (self.room / "prefix" / LIST).unlink()
         self.check_members(path, self.room / "prefix")
+        self.check_control(members_of(path)["control.tar.gz"])
         self.check_by_lintian(self.room)
         directory = self.room / "directory"
         remove = install_package(path, directory)
@@ -247,6 +246,18 @@ class Installed(Case):
         owners = {(entry.uid, entry.gid, entry.uname, entry.gname, entry.mtime) for entry in entries}
         self.same("the owner and the second", owners, {(0, 0, "root", "root", 1_000_000_000)})
 
+    def check_control(self, data: bytes) -> None:
+        """It depends on the versions of the libraries that the program asks for."""
+        with tarfile.open(fileobj=BytesIO(data)) as archive:
+            lines = archive.extractfile("./control").read().decode().splitlines()
+        depends = next(line for line in lines if line.startswith("Depends: "))
+        shape = r"Depends: libc6 \(>= 2\.\d+\), libgcc-s1 \(>= \d+\.\d+\), python3 \(>= 3\.9\)"
+        self.check("what it depends on", re.fullmatch(shape, depends), [depends])
+        if shutil.which("objdump"):
+            said = subprocess.run(["objdump", "-T", str(built.program_path())], stdout=subprocess.PIPE).stdout.decode()
+            newest = max(int(minor) for minor in re.findall(r"GLIBC_2\.(\d+)", said))
+            self.check("glibc's version", f"libc6 (>= 2.{newest})" in depends, [depends])
+
     def check_sums(self, members: Dict[str, bytes], found: Dict[str, bytes]) -> None:
         """The checksums of the package are those of its files."""
         with tarfile.open(fileobj=BytesIO(members["control.tar.gz"])) as archive:
@@ -294,8 +305,8 @@ def in_debian(path: str) -> str:
 def text_in_debian(path: str, data: bytes) -> bytes:
     """What a package has in a file: scripts name Debian's Python, and Debian has the text of the Apache License."""
     if path.endswith("/copyright"):
-        data = data[: data.index(b"\n" + b" " * 33 + b"Apache License")]
-        return data + b"The Apache License, Version 2.0, is in /usr/share/common-licenses/Apache-2.0.\n"
+        data = data[: data.index(b"License: Apache-2.0\n") + 20]
+        return data + b" The Apache License, Version 2.0, is in /usr/share/common-licenses/Apache-2.0.\n"
     return re.sub(rb"\A#!/usr/bin/env -S (python3 -I\w*)\n", rb"#!/usr/bin/\1\n", data)
 
 

@@ -2,13 +2,19 @@
 a release of a program alone that was proved here."""
 
 import hashlib
+import json
+import os
+import re
 import shutil
 import subprocess
+import sys
 import tarfile
 from pathlib import Path
 from typing import List
 
 import built
+import files
+import notices
 from case import Case
 from test_command import bare
 from test_installed import FILES, LIST, call, version_of
@@ -16,6 +22,19 @@ from test_installed import FILES, LIST, call, version_of
 # The sources of a release beside the scripts and clients at the top.
 PARTS = ("docs", "examples", "LICENSE-MIT", "LICENSE-APACHE", "package", "install", "verify")
 CLIENTS = ("bridge", "node", "wqasm", "watchdog", "watchman")
+# What a release has.
+RELEASED = (
+    "SHA256SUMS",
+    "node-wqd-chokidar_{}_all.deb",
+    "python3-wqd-watchdog_{}_all.deb",
+    "wqd-chokidar-{}.tgz",
+    "wqd-watchman_{}_all.deb",
+    "wqd-{}-linux-x86_64.tar.gz",
+    "wqd-{}.cdx.json",
+    "wqd-{}.proof",
+    "wqd_watchdog-{}-py3-none-any.whl",
+    "wqd_{}_amd64.deb",
+)
 
 
 class Released(Case):
@@ -32,7 +51,14 @@ class Released(Case):
         with tarfile.open(paths[0]) as archive:
             owners = {(entry.uid, entry.gid, entry.uname, entry.gname) for entry in archive.getmembers()}
         self.same("its owner", owners, {(0, 0, "root", "root")})
+        with tarfile.open(paths[0]) as archive:
+            self.same("directories in it", [entry.name for entry in archive.getmembers() if not entry.isfile()], [])
+        share = self.room / "user" / ".local" / "share"
+        share.mkdir(parents=True, mode=0o700)
         top = unpacked(paths[0], self.room)
+        self.same("a directory of the user's", share.stat().st_mode & 0o777, 0o700)
+        about = (top / "share/doc/wqd/README").read_text()
+        self.check("what it needs", re.search(r"glibc 2\.\d+ or later and libgcc_s", about), [about])
         found = {str(path.relative_to(top)): path.stat().st_mode & 0o777 for path in top.rglob("*") if path.is_file()}
         expected = {path: mode for path, mode in FILES.items() if path != LIST}
         self.same("its files", found, {**expected, "share/doc/wqd/README": 0o644})
@@ -41,37 +67,35 @@ class Released(Case):
             self.same(f"its command {name}", ended.stdout.decode().splitlines(True)[:1], [says])
 
     def test_release(self) -> None:
-        """It has the packages, the archive, the note and their checksums; of another program than the proved one there
-        is none."""
+        """It has the packages, the archive, the note and their checksums. Of another program or other sources than the
+        proved ones there is none, and none without a publisher."""
         place = self.directory("clone")
         program = make_clone(place)
         note = place / "crates" / "wqd" / "out" / "wqd.proof"
-        refused = release(place, self.room / "first")
-        self.same("a program without a note", refused.status, 1)
-        self.check(
-            "the reason",
-            b"is not the one that ./wqd --build proved and built here" in refused.errors,
-            [f"{refused.errors!r}"],
-        )
-        note.write_text(f"program {hashlib.sha256(program).hexdigest()}\nkit none\n")
+        self.check_refused(place, "contrib/publisher says no name, address, security, key, home")
+        lines = ["name", "address", "security", "key", "home"]
+        (place / "contrib" / "publisher").write_text("".join(f"{line}: {line}@example.com\n" for line in lines))
+        self.check_refused(place, "is not the one that ./wqd --build proved and built here")
+        digest, sources = hashlib.sha256(program).hexdigest(), sources_of(place)
+        for said, refusal in (
+            (f"program {digest}\nsources {'0' * 64}\n", "the sources are not those"),
+            (f"program {digest}\nsources {sources}\ncommit abc-dirty\n", "changes that no commit has"),
+        ):
+            note.write_text(said)
+            self.check_refused(place, refusal)
+        note.write_text(f"program {digest}\nsources {sources}\ncommit abc\nkit none\n")
+        self.check_made(place, note)
+
+    def check_refused(self, place: Path, reason: str) -> None:
+        refused = release(place, self.room / "refused")
+        self.check(reason, refused.status == 1 and reason.encode() in refused.errors, [f"{refused.errors!r}"])
+
+    def check_made(self, place: Path, note: Path) -> None:
         made = [release(place, self.room / name) for name in ("first", "second")]
         self.same("a release", [ended.status for ended in made], [0, 0])
         names = sorted(path.name for path in (self.room / "first").iterdir())
         version = version_of(self.room)
-        self.same(
-            "its files",
-            names,
-            sorted(
-                [
-                    "SHA256SUMS",
-                    f"wqd-{version}-linux-x86_64.tar.gz",
-                    f"wqd-{version}.proof",
-                    f"wqd_{version}_amd64.deb",
-                    f"wqd-chokidar-{version}.tgz",
-                    f"wqd_watchdog-{version}-py3-none-any.whl",
-                ]
-            ),
-        )
+        self.same("its files", names, sorted(name.format(version) for name in RELEASED))
         pairs = [
             ((self.room / "first" / name).read_bytes(), (self.room / "second" / name).read_bytes()) for name in names
         ]
@@ -81,12 +105,53 @@ class Released(Case):
         )
         self.same("its checksums", (checked.returncode, checked.stdout), (0, b""))
         self.same("its note", (self.room / "first" / f"wqd-{version}.proof").read_text(), note.read_text())
+        bill = json.loads((self.room / "first" / f"wqd-{version}.cdx.json").read_text())
+        parts = {part["name"] for part in bill["components"]}
+        self.check("the parts of the program", {"mio", "memchr", "serde_json"} <= parts, sorted(parts))
+
+    def test_each_python(self) -> None:
+        """Packages are the same, whichever Python makes them."""
+        pythons = [path for path in sorted(Path.home().glob(".pyenv/versions/3.*/bin/python3")) if is_new(path)]
+        pythons += [Path("/usr/bin/python3"), Path(sys.executable)]
+        made = {}
+        for number, python in enumerate(python for python in pythons if python.exists()):
+            out = self.room / str(number)
+            for kind in ("--debian", "--archive", "--adapters"):
+                words = [str(python), "-IB", str(built.TOP / "package"), kind, str(out)]
+                environment = {**os.environ, "WQD": "/bin/true", "SOURCE_DATE_EPOCH": "1000000000"}
+                self.same(f"{python} {kind}", built.call(words, env=environment).status, 0)
+            made[str(python)] = {path.name: hashlib.sha256(path.read_bytes()).hexdigest() for path in out.iterdir()}
+        first = next(iter(made.values()))
+        self.same("a package for each tool", len(first), 7)
+        for python, sums in made.items():
+            self.same(f"packages that {python} makes otherwise", {n for n in first if sums.get(n) != first[n]}, set())
+
+    def test_notices(self) -> None:
+        """The notices are those of the kit, and each library that is MIT alone has its own."""
+        kit = notices.KIT
+        if (kit / "KIT-ID").is_file():
+            self.check("contrib/libraries.json", notices.found_in(kit) == notices.kept(), ["contrib/notices.py"])
+        text = files.copyright_of(True).decode()
+        for name in sorted(notices.named()):
+            notice = notices.kept()["libraries"][name]
+            self.check(f"the notice of {name}", f"Files: kit/{name}/*" in text or not notice["licence"])
+
+
+def is_new(python: Path) -> bool:
+    """Whether it is a Python of version 3.9 or later."""
+    return int(python.parent.parent.name.split(".")[1]) >= 9
+
+
+def sources_of(place: Path) -> str:
+    """The checksum of the sources in a clone, as `./wqd --build` notes it."""
+    script = '. "$top/contrib/prove.sh"; room=$(mktemp -d); copy_crates "$room" && sources "$room"; rm -rf "$room"'
+    return built.call(["sh", "-c", script], env={**os.environ, "top": str(place)}).output.decode().strip()
 
 
 def unpacked(path: Path, room: Path) -> Path:
     """The place of the archive after the commands that its own README has for that."""
     top = room / "user" / ".local"
-    top.parent.mkdir()
+    top.parent.mkdir(exist_ok=True)
     says = subprocess.run(["tar", "-xzOf", str(path), "--wildcards", "*/share/doc/wqd/README"], stdout=subprocess.PIPE)
     commands = [line for line in says.stdout.decode().splitlines() if line.startswith("    ")]
     environment = {"PATH": "/usr/bin:/bin", "HOME": str(top.parent)}
@@ -101,6 +166,10 @@ def make_clone(place: Path) -> bytes:
         copy(built.TOP / name, place / name)
     for name in CLIENTS:
         copy(built.TOP / "clients" / name, place / "clients" / name)
+    copy(built.TOP / "HANDLES", place / "HANDLES")
+    for line in (place / "crates.txt").read_text().splitlines():
+        if not line.startswith("#"):
+            (place / "crates" / line.partition(":")[0] / "src").mkdir(parents=True, exist_ok=True)
     program = built.program_path().read_bytes()
     out = place / "crates" / "wqd" / "out"
     out.mkdir()

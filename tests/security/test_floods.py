@@ -61,15 +61,21 @@ class Floods(Beside):
                 )
 
     def test_clients(self) -> None:
-        """One client more than there may be has its stream closed, and another takes the place of one that went."""
+        """A client that never sent anything is ended for one more. If all have, one more gets a line of error, and
+        another takes the place of one that went."""
+        line = b'["log","error","x"]'
         with Bridge(self.room) as bridge, contextlib.ExitStack() as stack:
             streams = [stack.enter_context(connected(bridge.sockname)) for _ in range(MOST_CLIENTS)]
+            self.same("in the place of a silent one", wait_until(lambda: is_logged(bridge.sockname, line)), True)
+            self.same("the silent one", streams[0].recv(1), b"")
+            for number, stream in enumerate(streams[1:], 1):
+                self.same(f"client {number}", is_served(stream), True)
+            wait_until(lambda: is_served(stack.enter_context(connected(bridge.sockname))))
             with connected(bridge.sockname) as one_more:
-                self.same("one more", one_more.recv(1), b"")
-            streams[0].close()
-            self.same(
-                "in the place of another", wait_until(lambda: is_logged(bridge.sockname, b'["log","error","x"]')), True
-            )
+                said = one_more.makefile("rb").read()
+                self.same("one more", json.loads(said)["error"], "the bridge serves 64 clients, and no more")
+            streams[1].close()
+            self.same("in the place of another", wait_until(lambda: is_logged(bridge.sockname, line)), True)
 
     def test_notices(self) -> None:
         """A client that does not read the log that it asked for is cut off, and the others go on."""
@@ -131,6 +137,13 @@ class Floods(Beside):
             expected = sorted(map(str, (chain, first, second)))
             wait_until(lambda: sorted(client.ask("watch-list")["roots"]) == expected)
             self.same("roots", sorted(client.ask("watch-list")["roots"]), expected)
+
+
+def is_served(stream: socket.socket) -> bool:
+    with contextlib.suppress(OSError):
+        stream.sendall(b'["get-sockname"]\n')
+        return b'"sockname"' in stream.recv(1_000)
+    return False
 
 
 def is_logged(sockname: str, line: bytes) -> bool:

@@ -1,13 +1,10 @@
 """Another user of the machine: sockets in the place of this user's, directories that are renamed, project files in
 `/tmp`."""
 
-import contextlib
-import io
 import json
 import os
 import subprocess
 import sys
-import time
 from pathlib import Path
 from typing import Dict, List
 
@@ -15,10 +12,9 @@ import built
 from bridged import Bridge, make_files
 from case import Beside
 from client import PATIENCE
-from users import FORGED, OTHER, for_all, given, other, serve, of_two_users
+from users import OTHER, for_all, given, other, serve, of_two_users
 from waiting import wait_until
 
-TRIES = 1_000
 PROGRAM = str(built.TOP / "examples" / "large.program")
 WQ, WQASM, WATCHMAN = str(built.TOP / "wq"), str(built.TOP / "clients/wqasm"), str(built.TOP / "clients/watchman")
 HOOK, EXAMPLE = str(built.TOP / "contrib/git-fsmonitor-hook"), str(built.TOP / "examples/client.py")
@@ -105,22 +101,6 @@ class Neighbours(Beside):
             self.same("watchman", json.loads(said)["sockname"], f"{own}/wqd-watchman-{os.getuid()}/sock")
         self.same("nothing was put there", sorted(os.listdir(place)), ["wqd.sock"])
 
-    def test_a_hook_in_a_race(self) -> None:
-        """The other user's directory has the name of this user's for moments: of 1,000 runs of the hook none takes his
-        answer."""
-        place = for_all(self.room)
-        attack, target = given(place / "attack"), place / f"wqd-{os.getuid()}"
-        code = compile(Path(HOOK).read_text(), HOOK, "exec")
-        environment = environment_of(self.room, TMPDIR=str(place))
-        with other(rename, str(attack), str(target)):
-            wait_until(lambda: any(Path(path, "wqd.sock").exists() for path in (attack, target)))
-            found = [run_here(code, environment) for _ in range(TRIES)]
-        forged = [text for text in found if FORGED["clock"] in text or "planted" in text]
-        seen = {text.partition("since ")[2][:200].replace(str(place), "") for text in found}
-        self.same("forged answers", forged, [])
-        self.same("runs that say why git looks itself", sum("git looks at all files" in text for text in found), TRIES)
-        self.check("the other user was seen too", len(seen) > 1, sorted(seen))
-
     def test_the_quick_command(self) -> None:
         """Links of another user to the socket and the lock of this user's bridge: `watchman` prints no path of his
         directory."""
@@ -184,38 +164,3 @@ def said_by_a_bridge(room: Path, server: str) -> str:
         said = called([WATCHMAN, "-U", str(room / "own"), "--no-spawn", "watch-list"], room)
         bridge.kill()
     return said
-
-
-def rename(attack: str, target: str) -> None:
-    """Gives a directory with a socket of its own the name that this user's has, and takes it away, again and again."""
-    server = os.fork()
-    if server == 0:
-        serve(f"{attack}/wqd.sock")
-    wait_until(lambda: os.path.exists(f"{attack}/wqd.sock"))
-    while True:
-        for old, new in ((attack, target), (target, attack)):
-            with contextlib.suppress(OSError):
-                os.rename(old, new)
-            time.sleep(0.0003)
-
-
-def run_here(code: object, environment: Dict[str, str]) -> str:
-    """What the hook writes on both streams, in a process that need not start Python anew."""
-    reader, writer = os.pipe()
-    number = os.fork()
-    if number == 0:
-        os.dup2(writer, 1)
-        os.environ.clear()
-        os.environ.update(environment)
-        sys.argv = ["hook", "2", "c:1:2:3:3"]
-        sys.stdout = io.TextIOWrapper(open(1, "wb", buffering=0), write_through=True)
-        try:
-            exec(code, {"__name__": "__main__"})
-        except SystemExit as end:
-            os.write(1, str(end.code).encode())
-        os._exit(0)
-    os.close(writer)
-    with open(reader, "rb") as stream:
-        text = stream.read().decode()
-    os.waitpid(number, 0)
-    return text

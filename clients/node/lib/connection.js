@@ -3,7 +3,7 @@
 
 const net = require('net');
 const { EventEmitter } = require('events');
-const { requireOwn } = require('./sockname');
+const { throughOwnDirectory } = require('./sockname');
 
 // No line of a server is longer, as in the other clients.
 const LONGEST = 536_870_912;
@@ -59,11 +59,15 @@ class Connection extends EventEmitter {
  */
 function connect(sockname) {
   return new Promise((resolve, reject) => {
-    requireOwn(sockname);
-    const socket = net.connect({ path: sockname });
-    socket.once('error', reject);
+    const socket = new net.Socket();
+    const close = throughOwnDirectory(sockname, (inside) => socket.connect({ path: inside }));
+    socket.once('error', (fault) => {
+      close();
+      reject(fault);
+    });
     socket.once('connect', () => {
-      socket.removeListener('error', reject);
+      socket.removeAllListeners('error');
+      close();
       resolve(new Connection(socket));
     });
   });

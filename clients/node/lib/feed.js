@@ -6,25 +6,32 @@ const fs = require('fs');
 const { Haste } = require('./haste');
 const hub = require('./hub');
 const { staysBelow } = require('./names');
-const { Rows } = require('./rows');
+const { Polled } = require('./polled');
+const { Rows, isOther } = require('./rows');
 const { throwAlone } = require('./throwing');
 const { giveBack, watch } = require('./watches');
 
 const FIELDS = ['name', 'exists', 'type', 'size', 'mtime_ms'];
 // How soon a root that went is noticed, in milliseconds: the server keeps the last view of one.
 const LOOK = 500;
-// After so many looks a root that the server refused is tried again.
+// After so many looks a root that the server refused is tried again. For one with too many files, all of which the
+// server looks at before it refuses, they are doubled each time, to at most so many.
 const LOOKS = 10;
+const MOST_LOOKS = 120;
 const PATIENCE = 600_000;
 // The server says these of itself, and not of a root.
 const OF_SERVER = /^(ended|E17|E60)/;
+// The root has too many files, or there are too many roots.
+const TOO_LARGE = /^E12/;
+const NO_PLACE = /^E1[23]/;
 
 class Feed {
   /**
    * @param {string} root an absolute path without links
    * @param {boolean} keeps whether it keeps the process alive
    * @param {object} uses `expression()` is what the places of this feed need; `tell(changes, isThere)` takes changes,
-   *   one call after the other; `fail(fault)` takes the reason if the server does not watch the root
+   *   one call after the other; `fail(fault)` takes the reason if nobody watches the root. While the server has no
+   *   place for it, this process looks each `interval` ms at what is in the directories that `opens(name)` names
    */
   constructor(root, keeps, uses) {
     Object.assign(this, { root, keeps }, uses);
@@ -33,7 +40,9 @@ class Feed {
     this.places = new Set();
     this.isGone = false;
     this.isRefused = false;
+    this.polled = null;
     this.looks = 0;
+    this.looksUntilNext = LOOKS;
     this.turn = 0;
     this.asked = 0;
     this.listed = 0;
@@ -45,10 +54,7 @@ class Feed {
     this.isBegun = false;
     this.isClosed = false;
     this.onUp = () => this.begin();
-    this.onFault = (fault) => {
-      this.fail(fault);
-      this.settle(Infinity);
-    };
+    this.onFault = (fault) => this.poll(fault);
     this.session.on('up', this.onUp);
     this.session.on('fault', this.onFault);
     this.timer = setTimeout(() => this.look(), LOOK).unref();
@@ -59,6 +65,7 @@ class Feed {
     this.isClosed = true;
     clearTimeout(this.timer);
     this.haste.end();
+    this.endPolling();
     this.session.removeListener('up', this.onUp);
     this.session.removeListener('fault', this.onFault);
     this.session.lists.delete(this.name);
@@ -80,10 +87,13 @@ class Feed {
     this.isBegun = false;
     this.isRefused = false;
     this.asked = this.listed;
+    for (const each of this.waiting) each.number = this.listed + 1;
     const reply = await this.watched();
     if (this.isClosed || this.turn !== turn) return;
     if (!reply.error) {
       this.isBegun = true;
+      this.looksUntilNext = LOOKS;
+      this.endPolling();
       this.subscribe();
     } else if (reply.error.startsWith('E11') && !fs.existsSync(this.root)) {
       this.leave();
@@ -91,9 +101,41 @@ class Feed {
     } else {
       this.isRefused = true;
       if (OF_SERVER.test(reply.error)) return;
-      this.fail(new Error(`wqd does not watch ${this.root}: ${reply.error}`));
-      this.settle(Infinity);
+      if (TOO_LARGE.test(reply.error)) this.looksUntilNext = Math.min(2 * this.looksUntilNext, MOST_LOOKS);
+      const fault = new Error(`wqd does not watch ${this.root}: ${reply.error}`);
+      if (NO_PLACE.test(reply.error)) this.poll(fault);
+      else this.giveUp(fault);
     }
+  }
+
+  giveUp(fault) {
+    this.fail(fault);
+    this.settle(Infinity);
+  }
+
+  /** Without a place at the server this process looks itself. */
+  poll(reason) {
+    if (!this.polled && !this.isClosed) this.polled = new Polled(this, reason);
+  }
+
+  endPolling() {
+    if (this.polled) this.polled.end();
+    this.polled = null;
+  }
+
+  /** The number of a list that is asked for now. */
+  ask() {
+    this.asked += 1;
+    return this.asked;
+  }
+
+  /** Takes the files of a look, whose list was asked for by this number. */
+  takePolled(files, number) {
+    const changes = this.rows.replace(this.isGone ? [] : files);
+    const isAwaited = this.waiting.some((each) => each.number <= number);
+    this.queue(isAwaited ? changes : changes.filter(isOther));
+    this.listed = number;
+    this.settle(number);
   }
 
   async watched() {
@@ -119,13 +161,12 @@ class Feed {
     setImmediate(async () => {
       this.isAsking = false;
       if (this.isClosed || !this.isBegun) return;
-      this.asked += 1;
+      this.ask();
       const query = { fields: FIELDS, expression: this.expression() };
       const reply = await this.session.ask('subscribe', this.root, this.name, query);
       if (!reply.error || OF_SERVER.test(reply.error)) return;
       this.asked -= 1;
-      this.fail(new Error(`wqd does not tell changes below ${this.root}: ${reply.error}`));
-      this.settle(Infinity);
+      this.giveUp(new Error(`wqd does not tell changes below ${this.root}: ${reply.error}`));
     });
   }
 
@@ -172,13 +213,14 @@ class Feed {
       const isGone = Boolean(fault) && (fault.code === 'ENOENT' || fault.code === 'ENOTDIR');
       if (isGone) this.leave();
       else if (this.session.isUp() && (this.isGone || this.isTriedAgain())) this.comeBack();
+      else if (this.polled) this.isGone = false;
       this.timer = setTimeout(() => this.look(), LOOK).unref();
     });
   }
 
   /** Whether it is time to try a root again that the server refused: a place may be free. */
   isTriedAgain() {
-    this.looks = (this.looks + 1) % LOOKS;
+    this.looks = (this.looks + 1) % this.looksUntilNext;
     return this.isRefused && this.looks === 0;
   }
 

@@ -35,7 +35,7 @@ class Feeds {
     const session = hub.acquire(keeps);
     await session.whenTried();
     const { roots = [] } = await session.ask('watch-list');
-    const root = rootFor(directory, [...this.byRoot.keys()], roots, this.project);
+    const root = rootFor(directory, [...this.byRoot.keys()], { watched: roots, ofProcess: hub.roots() }, this.project);
     if (!this.byRoot.has(root)) this.byRoot.set(root, this.feedAt(root));
     hub.release(session, keeps);
     if (this.watcher.closed) this.byRoot.get(root).close();
@@ -45,6 +45,8 @@ class Feeds {
   feedAt(root) {
     const { watcher } = this;
     const feed = new Feed(root, watcher.options.persistent, {
+      interval: watcher.options.interval,
+      opens: (name) => [...feed.places].some((place) => place.opens(name)),
       expression: () => expressionOf([...feed.places], watcher.ignoring, root),
       tell: async (changes, isThere) => {
         this.tellRaw(root, changes);

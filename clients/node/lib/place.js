@@ -76,6 +76,14 @@ class Place {
     return !this.glob || this.glob.fits(this.pathOf(name)) || (row.kind !== 'f' && this.glob.mayHold(name));
   }
 
+  /** Whether what is in a directory of the root may be this place's. */
+  opens(row) {
+    const name = this.nameOf(row);
+    if (name === undefined) return nameBelow(row, this.below) !== undefined;
+    if (name === '') return !this.isPoint;
+    return slashes(name) < this.depth && this.isOpen(name) && (!this.glob || this.glob.mayHold(name));
+  }
+
   /** Whether neither a directory nor one above it is ignored. */
   isOpen(name) {
     if (name === '') return true;

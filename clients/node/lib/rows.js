@@ -19,4 +19,10 @@ class Rows extends Map {
   }
 }
 
-module.exports = { Rows };
+/** Whether a change is one: a list of all files has those too that are as before. */
+function isOther({ before, after }) {
+  if (!before || !after) return Boolean(before || after);
+  return before.kind !== after.kind || before.size !== after.size || before.mtimeMs !== after.mtimeMs;
+}
+
+module.exports = { Rows, isOther };

@@ -6,6 +6,7 @@ const fs = require('fs');
 const os = require('os');
 const path = require('path');
 
+const { O_DIRECTORY, O_NOFOLLOW, O_RDONLY } = fs.constants;
 const SOCKET = 'wqd.sock';
 const SUPERUSER = 0;
 const WRITABLE_BY_OTHERS = 0o022;
@@ -32,19 +33,31 @@ function isOwnDirectory(directory) {
 }
 
 /**
- * Throws unless the socket, its directory and the directory that it leads to are this user's or the superuser's.
+ * Opens the directory of a socket, and hands a path to the socket in it to a function: whoever renames directories in
+ * the meantime puts no other one into its place.
  * @param {string} sockname
+ * @param {(path: string) => void} use
+ * @returns {() => void} closes the directory; to be called when the path is needed no more
  */
-function requireOwn(sockname) {
+function throughOwnDirectory(sockname, use) {
   const target = fs.realpathSync(sockname);
-  for (const directory of new Set([path.dirname(sockname), path.dirname(target)])) {
-    const found = fs.statSync(directory);
+  const directory = fs.openSync(path.dirname(target), O_RDONLY | O_DIRECTORY | O_NOFOLLOW);
+  const close = () => fs.closeSync(directory);
+  try {
+    const found = fs.fstatSync(directory);
     if (!isOwners(found.uid) || found.mode & WRITABLE_BY_OTHERS) {
-      throw refused(sockname, `others may write to ${directory}, so whose server answers there is not known`);
+      const place = path.dirname(target);
+      throw refused(sockname, `others may write to ${place}, so whose server answers there is not known`);
     }
+    const inside = `/proc/self/fd/${directory}/${path.basename(target)}`;
+    const socket = fs.lstatSync(inside);
+    if (!socket.isSocket() || !isOwners(socket.uid)) throw refused(sockname, 'it is no socket of yours');
+    use(inside);
+    return close;
+  } catch (fault) {
+    close();
+    throw fault;
   }
-  const found = fs.lstatSync(target);
-  if (!found.isSocket() || !isOwners(found.uid)) throw refused(sockname, 'it is no socket of yours');
 }
 
 function isOwners(user) {
@@ -75,4 +88,4 @@ function mayKeepNotes() {
   }
 }
 
-module.exports = { defaultSockname, mayKeepNotes, notesDirectory, requireOwn };
+module.exports = { defaultSockname, mayKeepNotes, notesDirectory, throughOwnDirectory };

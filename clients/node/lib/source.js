@@ -6,9 +6,12 @@ const path = require('path');
 const { Feed } = require('./feed');
 const { nameBelow } = require('./names');
 const { directoryOfProject } = require('./roots');
+const { isOther } = require('./rows');
 
 // With more directories of one root its whole list is asked for.
 const MOST_TERMS = 1000;
+// While the server has no place, this process looks each so many milliseconds.
+const INTERVAL = 100;
 
 class Source {
   /** @param {string} project the directory in which the tool works; below it each first directory is a root */
@@ -71,7 +74,9 @@ class Source {
 
   begin(root) {
     const feed = new Feed(root, true, {
+      interval: INTERVAL,
       expression: () => expressionOf(feed),
+      opens: (name) => [...feed.places].some(({ below }) => nameBelow(name, below) !== undefined),
       tell: async (changes, isThere) => tell(feed, changes, isThere),
       fail: (fault) => this.fail(feed, fault),
     });
@@ -110,8 +115,7 @@ function tell(feed, changes, isThere) {
     if (!isThere) place.listener.went();
     else places.set(place.below, [...(places.get(place.below) || []), place]);
   }
-  for (const { name, before, after } of changes) {
-    if (!isOther(before, after)) continue;
+  for (const { name, before, after } of changes.filter(isOther)) {
     const isDirectory = (after || before).kind === 'd';
     const above = name.includes('/') ? name.slice(0, name.lastIndexOf('/')) : '';
     for (const { listener } of places.get(above) || []) {
@@ -119,11 +123,6 @@ function tell(feed, changes, isThere) {
     }
     if (!after) for (const place of places.get(name) || []) place.listener.went();
   }
-}
-
-function isOther(before, after) {
-  if (!before || !after) return Boolean(before || after);
-  return before.kind !== after.kind || before.size !== after.size || before.mtimeMs !== after.mtimeMs;
 }
 
 module.exports = { Source };

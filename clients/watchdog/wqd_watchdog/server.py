@@ -5,10 +5,11 @@ import functools
 import queue
 import threading
 import time
-from typing import IO, Dict, List, NamedTuple, Optional, Tuple
+import weakref
+from typing import IO, ClassVar, Dict, List, NamedTuple, Optional, Set, Tuple
 
 from .connection import Connection, Value
-from .roots import lies_in, nearest, outermost, sentence
+from .roots import in_common, lies_in, nearest, outermost, refusal
 from .starting import start_server
 from .trouble import Lost, Unserved, say
 from .wqclient.kept import STOPS, kept, run_of
@@ -17,6 +18,8 @@ from .wqclient.sockets import default_sockname, is_listened_on
 
 # The server takes at most this number of subscriptions of a connection.
 MOST = 64
+# With so many roots a process watches what its directories have in common, since all tools share the server's 16.
+MOST_OWN = 4
 NO_ROOT = "E13:"
 # In seconds: how long whoever ended the server has to start another one, and how long the end of a watch may take.
 OTHERS, AT_END = 3.0, 2.0
@@ -32,7 +35,11 @@ class Subscription(NamedTuple):
 class Server:
     """One server after the other, if one ends. Its methods may be called by any thread."""
 
+    # Those of this process, one for each observer.
+    all: "ClassVar[weakref.WeakSet[Server]]" = weakref.WeakSet()
+
     def __init__(self) -> None:
+        self.all.add(self)
         self.lock = threading.RLock()
         self.sockname = self.run = ""
         self.notes: Optional[Notes] = None
@@ -44,6 +51,22 @@ class Server:
         self.expected: List[str] = []
         self.count = self.starts = 0
         self.lost_since: Optional[float] = None
+        # Whether another server was found after one that ended; and the reasons that a person has heard since.
+        self.is_another = False
+        self.told: Set[str] = set()
+
+    def tell_once(self, reason: Unserved) -> None:
+        if reason.reason not in self.told:
+            self.told.add(reason.reason)
+            say(f"{reason}; watchdog's own polling watches until the server can")
+
+    def serves_again(self) -> None:
+        """A directory is watched by the server: what keeps others from that is news again."""
+        with self.lock:
+            if self.is_another:
+                say("the server ended, and another one watches now")
+            self.is_another = False
+            self.told.clear()
 
     # Connections.
 
@@ -57,6 +80,10 @@ class Server:
                 if not is_listened_on(self.sockname):
                     start_server(self.sockname)
                 connection = Connection(self.sockname)
+                # A server that takes no more clients says so at once.
+                found = connection.ask("version")
+                if "error" in found:
+                    raise refusal("", str(found["error"]))
             except (ConnectionRefusedError, FileNotFoundError):
                 # It ended since it was looked for.
                 raise Lost from None
@@ -85,9 +112,15 @@ class Server:
                 if was_stopped or now - self.lost_since < OTHERS or self.starts == MOST_STARTS:
                     return False
                 self.starts += 1
+            run = self.run
             self.reach()
-            say("the server ended, and another one watches now")
+            self.is_another = run not in ("", self.run)
             return True
+
+    def require_soon(self) -> None:
+        """An error if no server was there for as long as others have to start one."""
+        if self.lost_since is not None and time.monotonic() - self.lost_since > OTHERS:
+            raise Unserved(f"no server listens on {self.sockname}")
 
     def connection(self) -> Connection:
         """A connection with a place for a subscription."""
@@ -119,16 +152,28 @@ class Server:
         with self.lock:
             root = nearest(directory, self.roots(directory))
             if root is None or "error" in self.ask("clock", root, {"sync_timeout": 1}):
-                root = outermost(directory, self.expected)
-                self.watch(root)
+                root = self.watched(directory)
             if root not in self.open and self.notes:
                 self.open[root] = self.notes.opened(root)
             return root
 
+    def watched(self, directory: str) -> str:
+        """Has a root watched for a directory: the one that it has in common with other roots of this process, if these
+        are many and it can be watched."""
+        own = {root for server in list(self.all) for root in list(server.open)}
+        common = in_common([*own, directory]) if len(own) >= MOST_OWN else None
+        if common:
+            with contextlib.suppress(Unserved):
+                self.watch(common)
+                return common
+        root = outermost(directory, self.expected)
+        self.watch(root)
+        return root
+
     def roots(self, directory: str) -> List[str]:
         found = self.ask("watch-list")
         if "error" in found:
-            raise Unserved(sentence(directory, found["error"]))
+            raise refusal(directory, str(found["error"]))
         return list(found["roots"])
 
     def watch(self, root: str) -> None:
@@ -138,7 +183,7 @@ class Server:
         while str(reply.get("error", "")).startswith(NO_ROOT) and self.notes.drop_one(self.roots(root), self.ask):
             reply = self.ask("watch", root)
         if "error" in reply:
-            raise Unserved(sentence(root, reply["error"]))
+            raise refusal(root, str(reply["error"]))
         self.notes.note(root, WINDOW, True)
         for inner in [each for each in self.open if each != root and lies_in(each, root)]:
             # Its watches are ended by the server, and begin again with the outer root.
@@ -162,7 +207,7 @@ class Server:
             connection = self.connection()
             found = connection.subscribe(root, name, query, box)
             if "error" in found:
-                raise Unserved(sentence(root, found["error"]))
+                raise refusal(root, str(found["error"]))
             self.subscriptions[name] = Subscription(connection, root)
             return name, found
 

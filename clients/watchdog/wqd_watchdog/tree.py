@@ -223,7 +223,7 @@ class Tree:
         """Follows a link to a directory. If that cannot be, a person hears it, and the link is a directory alone."""
         try:
             if len(self.branches) > MOST_LINKED:
-                raise Unserved(f"{self.path}: over {MOST_LINKED} links below it lead to directories")
+                raise Unserved(f"over {MOST_LINKED} links below it lead to directories", self.path)
             self.add(path, branch.through)
         except Unserved as reason:
             self.unfollowed.add(path)

@@ -6,7 +6,11 @@ from .wqclient.harmless import harmless
 
 
 class Unserved(Exception):
-    """The server cannot watch a directory. The reason is one line."""
+    """The server cannot watch a directory, or cannot do so for anybody. The reason is one line."""
+
+    def __init__(self, reason: str, directory: str = "") -> None:
+        super().__init__(f"{directory}: {reason}" if directory else reason)
+        self.reason = reason
 
 
 class Lost(Exception):
