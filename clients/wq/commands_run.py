@@ -9,9 +9,12 @@ from typing import IO, Dict, List, Optional, Set, Tuple
 
 from .names_handed import as_argument, batches
 from .shell_text import with_names
+from .trouble import Trouble
 
 PLACE = "{}"
 SHELL = "/bin/sh"
+# A run that is to end gets a signal, and SIGKILL after this time, in seconds.
+GRACE = 5.0
 # As shells end if a command is not there, or cannot be started.
 NOT_FOUND, CANNOT_START = 127, 126
 
@@ -154,6 +157,20 @@ class Run:
         except (subprocess.TimeoutExpired, KeyboardInterrupt):
             self.signal(signal.SIGKILL)
             self.process.wait()
+
+
+def run_once(command: Command, names: List[str], variables: Dict[str, str]) -> int:
+    """Runs the command to its end, and gives its status."""
+    run = command.run(names, variables, set())
+    try:
+        while not run.has_ended():
+            if run.process is not None:
+                run.process.wait()
+        return run.status()
+    except Unrunnable as reason:
+        raise Trouble(str(reason), status=reason.status) from None
+    finally:
+        run.end_at_once(signal.SIGTERM, GRACE)
 
 
 def status_words(code: int) -> str:

@@ -78,6 +78,21 @@ def is_repository(directory: str) -> bool:
     return all(os.path.exists(os.path.join(path, name)) for name in ("HEAD", "objects", "refs"))
 
 
+def top_of(root: str) -> Optional[str]:
+    """The directory at or above a root that is a repository of git."""
+    path = root
+    while not is_repository(path):
+        if path == "/":
+            return None
+        path = os.path.dirname(path)
+    return path
+
+
+def is_installed() -> bool:
+    directories = os.environ.get("PATH", os.defpath).split(os.pathsep)
+    return any(os.access(os.path.join(directory, "git"), os.X_OK) for directory in directories)
+
+
 def repository_of(directory: str) -> Repository:
     found = answer(["rev-parse", "--absolute-git-dir", "--git-path", "index", "--git-path", "info/exclude"], directory)
     git, index, exclude = (os.path.join(directory, os.fsdecode(line)) for line in found.split(b"\n")[:3])

@@ -21,16 +21,6 @@ Ask = Callable[[Dict[str, Any]], Any]
 Name = Tuple[str, bool]
 
 
-def top_of(root: str) -> Optional[str]:
-    """The directory at or above a root that is a repository of git."""
-    path = root
-    while not is_repository(path):
-        if path == "/":
-            return None
-        path = os.path.dirname(path)
-    return path
-
-
 class Rules:
     """The rules of a root. It belongs to the repository at or above it, if there is one, and others may lie in it."""
 

@@ -4,10 +4,10 @@ lists the ignored names are taken out. A file that git tracks is not ignored."""
 import argparse
 from typing import Any, Dict, List, Optional, Set
 
-from .git import Unanswered
-from .globs import any_of, left_out_terms, note
+from .git import Unanswered, top_of
+from .globs import any_of, left_out_names, note, terms_of_left_out
 from .ignore_lines import Terms, one_of
-from .ignore_rules import Ask, Rules, directories_of, top_of
+from .ignore_rules import Ask, Rules, directories_of
 from .roots import Place
 
 # Of longer lists only the names are judged that some rule could mean.
@@ -18,7 +18,7 @@ MOST_TERMS = 16
 
 def is_wanted(options: argparse.Namespace) -> bool:
     """Whether ignored files are to be left out, if there is a repository."""
-    return bool(getattr(options, "ignore", False) and (options.gitignore or not options.all))
+    return bool(getattr(options, "ignore", False))
 
 
 class Ignored:
@@ -60,8 +60,9 @@ class Ignored:
             self.close()
             return
         parts = [["type", "d"], one_of(rules.lines)]
-        if not self.options.all:
-            parts.append(["not", any_of(left_out_terms(self.place, argparse.Namespace(all=False, exclude=[])))])
+        left_out = left_out_names(self.place, self.options)
+        if left_out:
+            parts.append(["not", any_of(terms_of_left_out(self.place, left_out))])
         names: List[str] = self.ask({"expression": self.within(parts), "fields": ["name"]})["files"]
         for name, is_ignored in zip(names, rules.judged([(name, False) for name in names])):
             if is_ignored and rules.is_tracked(name):

@@ -55,7 +55,7 @@ class Finding(Beside):
             (["node_modules/x", "*.c"], ["node_modules/x/y.c"]),
             (["target"], ["target/z.c"]),
             ([".git"], [".git/HEAD"]),
-            (["--all", "*.c"], ["node_modules/x/y.c", *C_FILES, "target/z.c"]),
+            (["-H", "*.c"], ["node_modules/x/y.c", *C_FILES, "target/z.c"]),
             (["--exclude", "*.c", "-t", "f"], ["Makefile", "src/deep/c.h"]),
             (["--exclude", "deep", "--exclude", "Make*"], ["src", *C_FILES]),
             (["--exclude", "src/deep"], ["Makefile", "src", *C_FILES]),
@@ -76,8 +76,8 @@ class Finding(Beside):
             (["-e", "h"], ["src/deep/c.h"]),
             (["-e", "C", "-e", "h"], [*C_FILES, "src/deep/c.h"]),
             (["--size", "+4k", "-t", "f"], ["large"]),
-            (["--size", "5000"], ["large"]),
-            (["--size", "0", "-t", "f"], ["empty"]),
+            (["-t", "e"], ["empty"]),
+            (["-t", "f,empty"], ["empty"]),
             (["--size", "-0b", "-t", "f"], ["empty"]),
             (["--newer", "1h", "large", "empty"], ["empty"]),
             (["--newer", "10000d", "large"], ["large"]),
@@ -117,7 +117,7 @@ class Finding(Beside):
         )
 
     def check_json(self, scene: Scene) -> None:
-        """The names are those that find prints, also in JSON; each directory is one line, or each file with --lines."""
+        """The names are those that find prints, also in JSON; each directory is one line, or each file with --jsonl."""
         reply = json.loads(scene.wq("find", "src", "*.h", "--json").output)
         self.same(
             "find DIR --json",
@@ -131,12 +131,12 @@ class Finding(Beside):
             [("src", C_FILES), ("target", ["target/z.c"])],
         )
         self.same(
-            "find --json --lines",
-            scene.names("find", "src", "target", "*.c", "--json", "--lines"),
+            "find --json --jsonl",
+            scene.names("find", "src", "target", "*.c", "--json", "--jsonl"),
             [f'{{"name":"{name}","type":"f"}}' for name in [*C_FILES, "target/z.c"]],
         )
         self.same(
-            "find --lines alone", scene.names("find", "src", "*.h", "--lines"), ['{"name":"src/deep/c.h","type":"f"}']
+            "find --jsonl alone", scene.names("find", "src", "*.h", "--jsonl"), ['{"name":"src/deep/c.h","type":"f"}']
         )
         counts = [json.loads(line) for line in scene.names("find", "src", "target", "*.c", "--json", "--count")]
         self.same(
@@ -148,15 +148,13 @@ class Finding(Beside):
 
     def check_unknown(self, scene: Scene) -> None:
         """A word that names nothing is a mistake; one that names a file that is gone is none."""
-        for command in (["find"], ["since", "name"], ["follow"], ["run"]):
+        unknown = (
+            "scr is no directory here; write '*scr*' for names that contain it, or './scr' for a file of that name"
+        )
+        for command in (["find"], ["since", "-n", "name"], ["follow"], ["wait"], ["run"]):
             ends = ["--", "true"] if command == ["run"] else []
             for words in (["scr", "*.c"], ["*.c", "scr"], ["src", "scr"]):
-                wrong(
-                    self,
-                    scene,
-                    [*command, *words, *ends],
-                    "scr is no directory here; write './scr' for a file of that name",
-                )
+                wrong(self, scene, [*command, *words, *ends], unknown)
         wrong(
             self, scene, ["find", "src/b.c"], "src/b.c is no directory here; write './src/b.c' for a file of that name"
         )
@@ -188,10 +186,10 @@ class Finding(Beside):
         scene.write("[x]/y/target/in")
         self.same(
             "a directory like a pattern",
-            scene.names("find", "[x]", "--all"),
+            scene.names("find", "[x]", "-H"),
             ["[x]/y", "[x]/y/target", "[x]/y/target/in"],
         )
-        self.same("a glob below it", scene.names("find", "[x]", "y/*", "--all"), ["[x]/y/target"])
+        self.same("a glob below it", scene.names("find", "[x]", "y/*", "-H"), ["[x]/y/target"])
         for words in (
             ["find", b"\xff"],
             ["since", b"\xff"],
@@ -210,11 +208,13 @@ class Finding(Beside):
         self.same("a locale without UTF-8", scene.wq("find", "odd", "ü", **other).output, "odd/ü\n".encode())
 
     def check_wrong_words(self, scene: Scene) -> None:
-        letters = "-t takes letters of f (file), d (directory), l (link), b, c, p, s and D, and not"
-        size = "--size takes a number with a unit, such as +1M (at least), -10k (at most) or 0, and not"
+        letters = "-t takes f (file), d (directory), l (link), x (executable), e (empty), b, c, p, s or D, and not"
+        size = "--size takes +1M (at least) or -10k (at most), and not"
         for words, reason in (
-            (["-t", "x"], f'{letters} "x"; the server sees no permissions'),
+            (["-t", "y"], f'{letters} "y"'),
             (["--size", "big"], f'{size} "big"'),
+            (["--size", "10k"], "--size takes +10k for at least so much, or -10k for at most"),
+            (["--color", "blue"], "--color takes auto, always or never, and not blue"),
             (
                 ["--newer", "soon"],
                 "--newer takes an age, such as 30s, 10min, 2h, 3d or 1w, or a date, such as 2026-11-28 or '2026-11-28 "
@@ -226,9 +226,8 @@ class Finding(Beside):
             (["/not/there"], "/not/there: No such file or directory"),
             (
                 ["--program", "p", "-t", "f"],
-                "--program takes the place of -i, -t, --size, --newer, --older, --exclude, --max-depth, --min-depth and "
-                "--expression; "
-                "take them out",
+                "--program takes the place of -i, -t, --size, --newer, --older, --exclude, --max-depth, --min-depth "
+                "and --expression; take them out",
             ),
             (["--program", "p", "*.c", "-e", "c"], "--program takes globs or -e beside it, and not both"),
         ):
@@ -275,9 +274,7 @@ class Finding(Beside):
                 ["find", "huge", "--program", "large", "-e", "c"],
                 "-e beside --program is for a whole root; take a glob for a directory below it",
             )
-            self.same(
-                "find --program --all", scene.names("find", "--program", "large", "--all"), ["huge/h", "target/t"]
-            )
+            self.same("find --program -H", scene.names("find", "--program", "large", "-H"), ["huge/h", "target/t"])
             wrong(
                 self,
                 scene,

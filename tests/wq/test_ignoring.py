@@ -130,6 +130,8 @@ class Ignoring(Beside):
             "src/keep.o",
             "src/out",
         ]
+        # Git does not ignore these, so they are listed here.
+        left = sorted([*left, "node_modules/x/y.c", "target/z.c"])
         ignored = ["dist/in/y.js", "dist/x.js", "out", "src/a.o", "src/dist/z.js"]
         for words, expected in (
             ([], left),
@@ -138,10 +140,11 @@ class Ignoring(Beside):
             (["*.o"], ["src/keep.o"]),
             (["src", "*.o"], ["src/keep.o"]),
             (["*.js", "--no-ignore"], ["dist/in/y.js", "dist/x.js", "src/dist/z.js"]),
-            (["*.js", "--all"], ["dist/in/y.js", "dist/x.js", "src/dist/z.js"]),
+            (["*.js", "-u"], ["dist/in/y.js", "dist/x.js", "src/dist/z.js"]),
             (["dist"], ["dist/in/y.js", "dist/x.js"]),
             (["dist/in", "*.c", "*.js"], ["dist/in/y.js"]),
-            (["--all", "--gitignore", "*.c"], ["node_modules/x/y.c", "src/a.c", "src/b b.c", "target/z.c"]),
+            (["description", "-H"], [".git/description"]),
+            (["-H", "--gitignore", "keep.*", "*.js"], ["src/keep.o"]),
             (["--count"], [str(len(left))]),
         ):
             self.same(f"find {words} in a repository", scene.names("find", "-t", "f", *words), expected)
@@ -199,26 +202,26 @@ class Ignoring(Beside):
         self.same("once they are not", scene.names("find", "*.o", "dist/**"), ["src/keep.o"])
 
     def check_ignored_since(self, scene: Scene) -> None:
-        scene.wq("since", "a", ".")
-        scene.wq("since", "a", ".", "--no-ignore")
+        scene.wq("since", "-n", "a", ".")
+        scene.wq("since", "-n", "a", ".", "--no-ignore")
         for name in ("src/new.o", "dist/new.js", "src/new.c", "later/dist/new.js", "gone/dist/new"):
             scene.write(name)
-        self.same("since in a repository", scene.names("since", "a", "."), ["+ gone", "+ later", "+ src/new.c"])
+        self.same("since in a repository", scene.names("since", "-n", "a", "."), ["+ gone", "+ later", "+ src/new.c"])
         shutil.rmtree(scene.tree / "gone")
         (scene.tree / "src" / "new.o").unlink()
         (scene.tree / "src" / "new.c").unlink()
-        self.same("files that went", scene.names("since", "a", "."), ["- gone", "- src/new.c"])
+        self.same("files that went", scene.names("since", "-n", "a", "."), ["- gone", "- src/new.c"])
         shutil.rmtree(scene.tree / "later" / "dist")
         (scene.tree / "later").rmdir()
         (scene.tree / "later").symlink_to("src")
-        self.same("a link in place of a directory", scene.names("since", "a", ".")[0], "~ later")
+        self.same("a link in place of a directory", scene.names("since", "-n", "a", ".")[0], "~ later")
         (scene.tree / "later").unlink()
         for number in range(600):
             scene.write(f"many/{number}.o")
             scene.write(f"many/{number}.c")
-        self.same("many files", len(scene.names("since", "a", ".")), 602)
+        self.same("many files", len(scene.names("since", "-n", "a", ".")), 602)
         shutil.rmtree(scene.tree / "many")
-        self.same("many that went", len(scene.names("since", "a", ".")), 601)
+        self.same("many that went", len(scene.names("since", "-n", "a", ".")), 601)
 
     def check_ignored_in_windows(self, scene: Scene) -> None:
         """follow and run leave out what is ignored, also by rules that come while they go on."""

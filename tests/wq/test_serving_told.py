@@ -28,7 +28,7 @@ class ServingTold(Beside):
     def test_server(self) -> None:
         with Scene(self.room, starts=False) as scene:
             nobody = f"no server listens on {scene.sockname}; `wq start` starts one"
-            for words in (["status"], ["stop"], ["roots"], ["unwatch"], ["triggers"], ["untrigger", ".", "t"]):
+            for words in (["status"], ["stop"], ["roots"], ["unwatch"], ["triggers"], ["untrigger", "t", "."]):
                 wrong(self, scene, words, nobody, status=1)
             started = said(f"started a server at {scene.sockname}")
             self.same("start", scene.wq("start", "--interval", "50", "--workers=2"), built.Ended(b"", started, 0))
@@ -179,7 +179,7 @@ class ServingTold(Beside):
     def test_status(self) -> None:
         with Scene(self.room) as scene, scene.client() as other:
             scene.wq("watch")
-            scene.wq("trigger", ".", "build", "--", "make", "all targets")
+            scene.wq("trigger", "build", ".", "--", "make", "all targets")
             (self.room / "gone").mkdir()
             scene.wq("watch", self.room / "gone")
             (self.room / "gone").rmdir()
@@ -254,7 +254,7 @@ class ServingTold(Beside):
             self.same("the root of a trigger is watched", scene.wq("triggers").status, 3)
             made = said(f"trigger t of {scene.tree} is created; its command runs there")
             script = 'pwd > ../ran; echo "$@" >> ../ran'
-            call = scene.wq("trigger", "src", "t", "*.h", "--", "sh", "-c", script, "sh", "{}")
+            call = scene.wq("trigger", "t", "src", "*.h", "--", "sh", "-c", script, "sh", "{}")
             self.same("trigger", call, built.Ended(b"", made, 0))
             self.check("its command runs", reads(self.room / "ran", f"{scene.tree}\n./src/deep/c.h\n"))
             lines = scene.names("triggers", "src")
@@ -262,30 +262,30 @@ class ServingTold(Beside):
             asked = json.loads(scene.wq("triggers", "--json").output)["triggers"][0]
             self.same("triggers --json", (asked["append_files"], asked["expression"][0]), (True, "allof"))
             again = said(f"trigger t of {scene.tree} is replaced; its command runs there")
-            call = scene.wq("trigger", ".", "t", "Makefile", "--stdin", "--", "sh", "-c", "cat > ../names")
+            call = scene.wq("trigger", "t", ".", "Makefile", "--stdin", "--", "sh", "-c", "cat > ../names")
             self.same("a second one", call, built.Ended(b"", again, 0))
             self.check("names on its input", reads(self.room / "names", "Makefile\n"))
             self.check_names_of_triggers(scene)
-            self.same("untrigger", scene.wq("untrigger", ".", "t"), built.Ended(b"", b"", 0))
-            wrong(self, scene, ["untrigger", ".", "t"], f"{scene.tree} has no trigger t", status=1)
+            self.same("untrigger", scene.wq("untrigger", "t", "."), built.Ended(b"", b"", 0))
+            wrong(self, scene, ["untrigger", "t", "."], f"{scene.tree} has no trigger t", status=1)
             self.same("no triggers", scene.wq("triggers"), built.Ended(b"", b"", 1))
             wrong(
                 self,
                 scene,
-                ["trigger", ".", "t"],
+                ["trigger", "t", "."],
                 "trigger takes `--` and a command after it, such as: wq trigger build '*.c' -- make",
             )
             for command in (["echo", "{}", "x"], ["{}"]):
                 wrong(
                     self,
                     scene,
-                    ["trigger", ".", "t", "--", *command],
+                    ["trigger", "t", ".", "--", *command],
                     "the names of files come last in the command of a trigger, so {} may be its last word alone",
                 )
             wrong(
                 self,
                 scene,
-                ["trigger", ".", "n" * 256, "--", "true"],
+                ["trigger", "n" * 256, "--", "true"],
                 "E36: bad name",
                 f'the name has 256 bytes, and at most 255 may be: "{"n" * 59}..',
                 status=3,
@@ -300,23 +300,32 @@ class ServingTold(Beside):
             )
 
     def check_names_of_triggers(self, scene: Scene) -> None:
-        """The directory may come before the name, and is the current one without. What is neither is refused."""
+        """The name comes first, whatever is on disk; a directory may come after it."""
         made = said(f"trigger u of {scene.tree} is created; its command runs there")
         self.same("a trigger here", scene.wq("trigger", "u", "*.none", "--", "true"), built.Ended(b"", made, 0))
         self.same("untrigger here", scene.wq("untrigger", "u"), built.Ended(b"", b"", 0))
         for words, sentence in (
             (["trigger", "srk", "build", "--", "true"], "build is no file here; write './build' for one that may come"),
             (
-                ["trigger", "build", "src", "--", "true"],
-                "src is a directory; a trigger has one, which comes before its name",
+                ["trigger", "src", "build", "*.c", "--", "true"],
+                "build is no file here; write './build' for one that may come; the name comes first: wq trigger build "
+                "src -- ..",
             ),
-            (["trigger", "src", "*.c", "--", "true"], "src is a directory, and the name of the trigger comes after it"),
+            (
+                ["trigger", ".", "build", "*.c", "--", "true"],
+                "the name of the trigger comes first: wq trigger build . '*.c'",
+            ),
+            (
+                ["trigger", "*.c", "--", "true"],
+                "the name of the trigger is missing, such as in: wq trigger build '*.c' -- make",
+            ),
+            (["untrigger", ".", "build"], "the name of the trigger comes first: wq untrigger build ."),
             (
                 ["trigger", "--", "true"],
                 "the name of the trigger is missing, such as in: wq trigger build '*.c' -- make",
             ),
             (["untrigger"], "the name of the trigger is missing, such as in: wq untrigger build"),
-            (["untrigger", ".", "t", "u"], "untrigger takes one name: u"),
+            (["untrigger", "t", ".", "u"], "untrigger takes a name and a directory, and no further words: u"),
         ):
             wrong(self, scene, words, sentence)
 

@@ -175,8 +175,8 @@ class Staying(Beside):
                     second.ends(signal.SIGTERM)
             self.same("and is given back by it", scene.wq("roots").status, 1)
             self.check_stays(scene, ["watch"], is_before=False)
-            self.check_stays(scene, ["since", "a"], is_before=True)
-            self.check_stays(scene, ["trigger", ".", "t", "--", "true"], is_before=False)
+            self.check_stays(scene, ["since", "-n", "a"], is_before=True)
+            self.check_stays(scene, ["trigger", "t", ".", "--", "true"], is_before=False)
             self.check_stays(scene, ["find", "--keep"], is_before=True)
             scene.wq("ask", f'["watch","{scene.tree}"]')
             with scene.begin("follow") as going:
@@ -210,8 +210,8 @@ class Staying(Beside):
             for name in names:
                 os.mkdir(name)
             scene.wq("watch", names[0])
-            scene.wq("since", "a", names[1])
-            scene.wq("trigger", names[2], "t", "--", "true")
+            scene.wq("since", "-n", "a", names[1])
+            scene.wq("trigger", "t", names[2], "--", "true")
             with Going(scene, ["follow", names[3]]) as window:
                 self.check("a window of a root", window.says("following"))
                 for name in names[4:16]:
@@ -230,10 +230,20 @@ class Staying(Beside):
                     self.same("run drops one", ended, built.Ended(b"", said(dropped[7], "true ended with status 0"), 0))
             kept = [*names[:5], *names[8:17], names[17]]
             self.same("the others stay", scene.names("roots"), kept)
-            scene.wq("watch", *kept)
-            scene.wq("watch", names[18])
-            first = scene.wq("find", names[19]).errors.split(b"\n")[0]
+            self.check_gone(scene, names)
+            first = scene.wq("find", names[6]).errors.split(b"\n")[0]
             self.same("none that must stay is dropped", first, b"wq: E13: too many roots")
+
+    def check_gone(self, scene: Scene, names: List[str]) -> None:
+        """A root whose directory is gone makes room first, and one that `since` alone keeps last."""
+        os.rmdir(names[9])
+        scene.wq("since", names[18])
+        gone = f"{names[9]} is gone, and is watched no longer: 16 roots may be"
+        ended = scene.wq("since", names[19])
+        self.same("since drops one", ended, built.Ended(b"", said(gone, "first since here: listing everything"), 1))
+        scene.wq("watch", *(name for name in scene.names("roots") if name != names[1]))
+        least = said(f"{names[1]} was asked about least lately, and is watched no longer: 16 roots may be")
+        self.same("watch drops what since keeps", scene.wq("watch", names[5]).errors, least)
 
 
 @contextlib.contextmanager

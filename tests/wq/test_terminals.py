@@ -45,17 +45,21 @@ class Terminals(Beside):
             self.same(
                 "an empty NO_COLOR is none", at_terminal(scene, "find", "link", NO_COLOR=""), "\x1b[36mlink\x1b[0m\n"
             )
+            self.same("--color", at_terminal(scene, "find", "link", "--color", "never"), "link\n")
+            self.same("--color in a pipe", scene.wq("find", "link", "--color=always").output, b"\x1b[36mlink\x1b[0m\n")
+            forced = scene.wq("find", "link", CLICOLOR_FORCE="1").output
+            self.same("CLICOLOR_FORCE", forced, b"\x1b[36mlink\x1b[0m\n")
             self.same("a dumb terminal", at_terminal(scene, "find", "link", TERM="dumb"), "link\n")
             scene.write("new\nline\x1b[31m")
             self.same("control characters", at_terminal(scene, "find", "new*"), "new\\x0aline\\x1b[31m\n")
             self.same("byte 0 and no colours", at_terminal(scene, "find", "-0", "link"), "link\0")
-            scene.wq("since", "a")
+            scene.wq("since", "-n", "a")
             scene.write("Makefile", "changed")
             (scene.tree / "link").unlink()
             scene.write("added", "x")
             marks = "\x1b[33m~ Makefile\x1b[0m\n\x1b[32m+ added\x1b[0m\n\x1b[31m- link\x1b[0m\n"
-            self.same("marks in their colours", at_terminal(scene, "since", "a"), marks)
-            error = at_terminal(scene, "find", "-t", "x")
+            self.same("marks in their colours", at_terminal(scene, "since", "-n", "a"), marks)
+            error = at_terminal(scene, "find", "-t", "y")
             self.same("an error in red", (error[:9], error[-5:]), ("\x1b[31mwq: ", "\x1b[0m\n"))
             self.same("a reply laid out", at_terminal(scene, "ask", '["version"]'), '{\n  "version": "wq-1"\n}\n')
             ran = at_terminal(scene, "run", "--once", "--clear", "--", "echo", "done")
