@@ -37,10 +37,10 @@ def find(options: argparse.Namespace, home: Home) -> int:
 
 def cut(lists: List[Value], most: Optional[int]) -> None:
     """Leaves the first files of the lists together, as many as are asked for."""
-    left = most
-    for found in lists if left is not None else []:
-        found["files"] = found["files"][: max(0, left)]
-        left -= len(found["files"])
+    if most is not None:
+        for found in lists:
+            found["files"] = found["files"][:most]
+            most -= len(found["files"])
 
 
 def queries(places: Places, options: argparse.Namespace) -> Iterator[Dict[str, Any]]:

@@ -38,7 +38,7 @@ class Repository(NamedTuple):
     """The repository of a directory: where it is, and files whose lines say what it ignores."""
 
     directory: str
-    index: str
+    index_file: str
     excludes: List[str]
 
 

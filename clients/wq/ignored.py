@@ -7,9 +7,10 @@ from typing import Any, Dict, List, Optional, Set
 from .git import Unanswered, top_of
 from .globs import any_of, left_out_names, note, terms_of_left_out
 from .ignore_lines import Terms, one_of
-from .ignore_rules import Ask, Rules, directories_of
+from .ignore_rules import Ask, PastRules, Rules, Said, directories_of
 from .roots import Place
 
+NOTHING_SAID = Said({}, {})
 # Of longer lists only the names are judged that some rule could mean.
 LONG = 500
 # A query leaves out this number of directories, those near the root. Each costs time for each file.
@@ -30,6 +31,8 @@ class Ignored:
         self.place = place
         self.options = options
         self.rules: Optional[Rules] = None
+        # What the rules say, which is nothing if they leave nothing out; None if git does not answer.
+        self.said: Optional[Said] = NOTHING_SAID
         self.begin()
 
     def begin(self) -> None:
@@ -38,6 +41,7 @@ class Ignored:
         self.found: Dict[str, bool] = {}
         self.terms: Terms = []
         self.partly: Terms = []
+        self.said = NOTHING_SAID
         if not is_wanted(self.options):
             return
         top = top_of(self.place.root)
@@ -46,11 +50,13 @@ class Ignored:
         try:
             self.rules = Rules(self.ask, self.place.root, top)
             self.leave_out(self.rules)
+            self.said = self.rules.said if self.rules else NOTHING_SAID
         except Unanswered as reason:
             self.give_up(reason)
 
     def give_up(self, reason: Unanswered) -> None:
         self.close()
+        self.said = None
         note(f"ignored files of {self.place.root} are listed too, since git does not answer: {reason}")
 
     def leave_out(self, rules: Rules) -> None:
@@ -105,6 +111,21 @@ class Ignored:
             return files
         return [file for file in files if name_of(file) not in ignored]
 
+    def told_by_rules(self, before: Said, files: List[Any]) -> List[Any]:
+        """Of all files those about which the rules said otherwise before: what they no longer leave out came, and what
+        they leave out now went."""
+        past = PastRules(self.ask, self.place.root, top_of(self.place.root), before)
+        try:
+            judged = zip(files, past.judged([(name_of(file), False) for file in files]))
+            were = {name_of(file) for file, is_ignored in judged if is_ignored and not past.is_tracked(name_of(file))}
+        except Unanswered:
+            return []
+        finally:
+            past.close()
+        are_kept = {name_of(file) for file in self.kept(files)}
+        came = [{**file, "exists": True, "new": True} for file in files if file["name"] in were & are_kept]
+        return came + [{**file, "exists": False, "new": False} for file in files if file["name"] not in were | are_kept]
+
     def is_stale(self) -> bool:
         """Whether files of git changed since it was asked: an index, or what it ignores apart from the tree."""
         return self.rules is not None and self.rules.state() != self.rules.seen
@@ -123,7 +144,7 @@ class Ignored:
 
 
 def name_of(file: Any) -> str:
-    return file["name"] if isinstance(file, dict) else file
+    return str(file["name"] if isinstance(file, dict) else file)
 
 
 def is_gone_directory(file: Any) -> bool:

@@ -17,6 +17,7 @@ from .globs import (
     left_out_names,
     user_expression,
 )
+from .ignore_rules import Said
 from .ignored import Ignored, name_of
 from .open_roots import OpenRoots
 from .roots import Place, front_of, is_directory, is_pattern, place_of, real_path, require_utf8
@@ -131,6 +132,21 @@ class Places:
         found["files"] = [renamed(file, place.shown(name_of(file))) for file in files]
         found.update(root=place.root, below=place.below)
         return found
+
+    def told_by_rules(
+        self, number: int, before: Optional[Said], fields: List[str], since: Optional[str] = None
+    ) -> List[Any]:
+        """The files that rules of git shut in or out since they said something else, as people are shown them. Nothing
+        if it is not known what they said. A file that came since a clock was not told, so it does not go."""
+        place, ignored = self.places[number], self.ignored[number]
+        if before is None or ignored.said is None or before == ignored.said:
+            return []
+        query = {"expression": self.expressions[number], "fields": fields}
+        files = ignored.told_by_rules(before, self.ask(place, query)["files"])
+        later = self.ask(place, {**query, "since": since})["files"] if since else []
+        new = {file["name"] for file in later if file["new"]}
+        files = [file for file in files if file["exists"] or file["name"] not in new]
+        return [renamed(file, place.shown(file["name"])) for file in files]
 
     def require_right(self) -> None:
         """Asks about the expression that a person wrote, alone: so its error has a place in what was written."""

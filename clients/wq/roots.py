@@ -38,7 +38,7 @@ def place_of(directory: str, watched: List[str]) -> Place:
     above = [path]
     while above[-1] != "/":
         above.append(os.path.dirname(above[-1]))
-    root = next((one for one in above if is_project(one)), None) or next((one for one in above if one in watched), path)
+    root = next(filter(is_project, above), next((one for one in above if one in watched), path))
     return Place(root, os.path.relpath(path, root) if path != root else "", front_of(directory))
 
 

@@ -45,14 +45,15 @@ class Server:
 
     def __init__(self, home: Home, starts: bool = True, tells: bool = True) -> None:
         self.sockname = sockname()
-        self.client = self.connected()
+        client = self.connected()
         # Whether this call started it.
         self.is_own = False
-        if self.client is None and starts:
+        if client is None and starts:
             self.is_own = home.start(self.sockname, tells=tells)
-            self.client = self.connected()
-        if self.client is None:
+            client = self.connected()
+        if client is None:
             raise Trouble(f"no server listens on {self.sockname}; `wq start` starts one", status=NOTHING)
+        self.client: Client = client
         self.peer = self.client.peer()
         self.notes = Notes(self.sockname, self.peer.process)
         if unproved.is_noted(self.sockname, self.peer.process):
@@ -69,7 +70,8 @@ class Server:
     def reply(self, command: Any, crawls: str = "") -> Value:
         """The reply to a command, which may be an error. If a first crawl comes before it, a person is told how long it
         takes."""
-        return json.loads(self.line(json_of(command), crawls))
+        found: Value = json.loads(self.line(json_of(command), crawls))
+        return found
 
     def line(self, line: bytes, crawls: str = "") -> bytes:
         """The line that is replied to a line. Lists of subscriptions are kept."""
@@ -145,7 +147,8 @@ class Server:
                         return {}
                     self.client.receive()
                 elif b'"unilateral":true' not in line:
-                    return json.loads(line)
+                    found: Value = json.loads(line)
+                    return found
         except (Ended, OSError):
             return {}
 
@@ -157,7 +160,7 @@ class Server:
             return {}
 
     def roots(self) -> List[str]:
-        return self.ask("watch-list")["roots"]
+        return [str(root) for root in self.ask("watch-list")["roots"]]
 
     def watch(self, root: str, watched: List[str], purpose: str = STAYS) -> Value:
         """Watches a root, and gives the keys with which a query knows all that there was when this was called. A root

@@ -29,15 +29,15 @@ NOT_FOUND = "with status 127"
 class Failures(NamedTuple):
     """The failures of a trigger since it was registered: how often its command failed, and what was last said of it."""
 
-    count: int = 0
+    times: int = 0
     last: str = ""
 
     def sentence(self) -> str:
         if not self.last:
             return ""
         hint = ", which shells say of a command that is not there" if self.last.endswith(NOT_FOUND) else ""
-        times = f"{self.count:,} time{'' if self.count == 1 else 's'}"
-        return f"last failure: {self.last}{hint}" + (f"; failed {times} since it was registered" if self.count else "")
+        times = f"{self.times:,} time{'' if self.times == 1 else 's'}"
+        return f"last failure: {self.last}{hint}" + (f"; failed {times} since it was registered" if self.times else "")
 
 
 class Log:
@@ -83,9 +83,9 @@ class Log:
             return
         before = self.triggers.get((root, name), Failures())
         if ENDED.fullmatch(said):
-            self.triggers[root, name] = Failures(before.count + 1, said)
+            self.triggers[root, name] = Failures(before.times + 1, said)
         elif said.startswith(UNSTARTED):
-            self.triggers[root, name] = Failures(before.count, said)
+            self.triggers[root, name] = Failures(before.times, said)
 
     def failures(self, root: str, name: str) -> Failures:
         return self.triggers.get((root, name), Failures())

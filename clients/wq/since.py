@@ -2,11 +2,13 @@
 moves only when what changed was read, or when the command ended well that ran for it."""
 
 import argparse
+import base64
 import contextlib
 import hashlib
 import json
 import shlex
 import time
+import zlib
 from typing import Any, Dict, Iterator, List, NamedTuple, Optional
 
 from wqclient.kept import CLOCKS, keep, kept, path_of, room
@@ -17,6 +19,7 @@ from .changes import FIELDS, counted, print_changes
 from .commands_run import Command, run_once
 from .globs import note, restrictions
 from .home import Home
+from .ignore_rules import Said
 from .names_handed import variables
 from .places import Places, UnknownWord, directories_and_globs
 from .roots import Place, real_path, require_utf8
@@ -25,14 +28,16 @@ from .terminal import require_read, say
 from .trouble import FOUND, NOTHING, Trouble, WrongWords
 
 LONGEST_NAME = 255
+# So many letters of rules are kept beside a clock.
+MOST_OF_RULES = 60_000
 
 
 class Asked(NamedTuple):
-    """What changed below a directory, and the clock up to which it did."""
+    """What changed below a directory, and what is kept for the next call under a key: the clock, and the rules."""
 
     place: Place
     key: str
-    clock: str
+    kept: Dict[str, str]
     found: Value
 
 
@@ -78,14 +83,19 @@ def ask(places: Places, number: int) -> Asked:
     """What changed below a directory since the clock that was kept."""
     place, sockname = places.places[number], places.server.sockname
     key = key_of(place, places)
-    before = clock_kept(sockname, place, key)
+    note_of = kept(CLOCKS, sockname, place.root, key)
+    before = clock_of(note_of)
     query: Dict[str, Any] = {"fields": FIELDS, "expression": places.expression(number)}
     found = places.ask(place, query if before is None else {**query, "since": before})
     clock = found["clock"]
     if found["is_fresh_instance"]:
         note(f"{why_all(places.options.name, before, clock, place)}: listing everything")
+    found = places.told(number, found)
+    if not found["is_fresh_instance"]:
+        by_rules = {file["name"]: file for file in places.told_by_rules(number, rules_kept(note_of), FIELDS, before)}
+        found["files"] = [*(file for file in found["files"] if file["name"] not in by_rules), *by_rules.values()]
     found["files"] = counted(found["files"], places.options)
-    return Asked(place, key, clock, places.told(number, found))
+    return Asked(place, key, {"clock": clock, **rules_to_keep(places.ignored[number].said)}, found)
 
 
 def key_of(place: Place, places: Places) -> str:
@@ -113,19 +123,33 @@ def run_for(asked: List[Asked], words: List[str]) -> int:
     names = [file["name"] for file in files if file["exists"]]
     if command.takes_names and not names:
         return 0
-    added = variables(asked[0].place.root, asked[0].clock, [file["name"] for file in files])
+    added = variables(asked[0].place.root, asked[0].kept["clock"], [file["name"] for file in files])
     return run_once(command, names, added)
 
 
-def clock_kept(sockname: str, place: Place, key: str) -> Optional[str]:
+def clock_of(kept_before: Dict[str, Any]) -> Optional[str]:
     """The clock up to which the last call told what changed."""
-    clock = kept(CLOCKS, sockname, place.root, key).get("clock")
+    clock = kept_before.get("clock")
     return clock if isinstance(clock, str) and clock.count(":") == 4 else None
+
+
+def rules_to_keep(said: Optional[Said]) -> Dict[str, str]:
+    """What the rules of git say, for the next call, unless that is too long."""
+    packed = base64.b64encode(zlib.compress(json.dumps(said).encode())).decode()
+    return {"rules": packed} if said is not None and len(packed) <= MOST_OF_RULES else {}
+
+
+def rules_kept(kept_before: Dict[str, Any]) -> Optional[Said]:
+    """What the rules of git said at the last call, if that was kept."""
+    try:
+        return Said(*json.loads(zlib.decompress(base64.b64decode(kept_before["rules"]))))
+    except (KeyError, TypeError, ValueError, zlib.error):
+        return None
 
 
 def keep_clock(asked: Asked, sockname: str) -> None:
     try:
-        keep({"clock": asked.clock}, CLOCKS, sockname, asked.place.root, asked.key)
+        keep(asked.kept, CLOCKS, sockname, asked.place.root, asked.key)
     except OSError as error:
         where = error.filename or path_of(CLOCKS, sockname, asked.place.root, asked.key)
         raise Trouble(f"{where}: {error.strerror}; so the next call tells this again") from None

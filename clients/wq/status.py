@@ -85,7 +85,7 @@ def root_facts(server: Server, root: str, log: Log) -> Dict[str, Any]:
 
 def trigger_facts(trigger: Dict[str, Any], root: str, log: Log) -> Dict[str, Any]:
     failures = log.failures(root, trigger["name"])
-    return {**trigger, "failures": failures.count, "last_failure": failures.last}
+    return {**trigger, "failures": failures.times, "last_failure": failures.last}
 
 
 def changed_within(server: Server, root: str) -> Optional[int]:

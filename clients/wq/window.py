@@ -95,7 +95,7 @@ class Window:
         are dropped."""
         query = {"expression": self.places.expression(number), "fields": self.fields, "since": self.clocks[number]}
         server.ask("subscribe", self.places.places[number].root, name_of(number), query)
-        keep_lists(server, lambda one: one["subscription"] != name_of(number))
+        keep_lists(server, lambda one: bool(one["subscription"] != name_of(number)))
         server.client.take_lists()
 
     def later(self) -> List[File]:
@@ -184,9 +184,14 @@ class Window:
             self.clocks[number] = found["clock"]
         ignored = self.places.ignored[number]
         has_changed = bool(found["files"]) if is_of_rules else ignored.is_stale()
+        before = ignored.said
         if has_changed and ignored.renew():
             self.subscribe(server, number)
-        return [] if is_of_rules else [self.places.told(number, found)]
+        lists = [] if is_of_rules else [self.places.told(number, found)]
+        files = self.places.told_by_rules(number, before, self.fields) if has_changed else []
+        place = self.places.places[number]
+        more = {"files": files, "root": place.root, "below": place.below, "subscription": names[number]}
+        return [*lists, {**found, **more}] if files else lists
 
     def drop_lists(self) -> None:
         """Takes no list of changes that came, so that they are there `later`."""
@@ -260,8 +265,6 @@ class Window:
 
     def close(self) -> None:
         """Gives the roots back that were watched for windows alone, if this is the last one."""
-        for ignored in self.places.ignored:
-            ignored.close()
         for ignored in self.places.ignored:
             ignored.close()
         self.places.open.close(self.server)

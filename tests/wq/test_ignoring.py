@@ -223,6 +223,35 @@ class Ignoring(Beside):
         shutil.rmtree(scene.tree / "many")
         self.same("many that went", len(scene.names("since", "-n", "a", ".")), 601)
 
+    def test_rules_that_change(self) -> None:
+        """What a changed rule shuts out goes, and what it no longer shuts out comes."""
+        with Scene(self.room) as scene:
+            shutil.rmtree(scene.tree / ".git")
+            git(scene.tree, "init", "--quiet")
+            scene.write(".gitignore", "*.o\n")
+            for name in ("src/a.o", "dist/x.js", "dist/in/y.js"):
+                scene.write(name)
+            scene.wq("since", "src", "dist")
+            scene.write(".gitignore", "dist/\n")
+            for name in ("src/b.o", "dist/new.js"):
+                scene.write(name)
+            told = ["+ src/a.o", "+ src/b.o", "- dist/in/y.js", "- dist/x.js"]
+            self.same("since by another rule", sorted(scene.names("since", "src", "dist")), sorted(told))
+            self.same("told once", scene.wq("since", "src", "dist"), built.Ended(b"", b"", 1))
+            (scene.tree / ".gitignore").unlink()
+            told = ["+ dist/in/y.js", "+ dist/new.js", "+ dist/x.js"]
+            self.same("since without rules", scene.names("since", "src", "dist"), told)
+            scene.write(".git/info/exclude", "*.o\n")
+            self.same("a rule of the repository", scene.names("since", "src", "dist"), ["- src/a.o", "- src/b.o"])
+            with scene.begin("follow", "src", "dist") as going:
+                touch_until(scene, going, "src/a.c")
+                scene.write(".gitignore", "dist/\n!a.o\n")
+                for line in ("- dist/in/y.js\n", "- dist/x.js\n", "+ src/a.o\n"):
+                    self.check(f"follow tells {line!r}", going.prints(line))
+                (scene.tree / ".gitignore").unlink()
+                for line in ("+ dist/in/y.js\n", "- src/a.o\n"):
+                    self.check(f"follow tells {line!r}", going.prints(line))
+
     def check_ignored_in_windows(self, scene: Scene) -> None:
         """follow and run leave out what is ignored, also by rules that come while they go on."""
         with scene.begin("follow", ".") as going:

@@ -113,7 +113,9 @@ def roots_of(scene: Scene) -> List[str]:
 
 def began(scene: Scene) -> "subprocess.Popen[bytes]":
     words = [COMMAND, "since", "-n", "p"]
-    return subprocess.Popen(words, cwd=scene.tree, env=scene.environment, stdout=subprocess.PIPE)
+    return subprocess.Popen(
+        words, cwd=scene.tree, env=scene.environment, stdout=subprocess.PIPE, stderr=subprocess.DEVNULL
+    )
 
 
 def by_shell(scene: Scene, text: str) -> built.Ended:
