@@ -107,7 +107,8 @@ def unreadable(command: Any, look: Look) -> Iterator[str]:
 
 
 def many_files(command: Any, look: Look) -> Iterator[str]:
-    yield f"{command[1]} has over {MAX_ROWS:,} files and directories; watch a directory below it"
+    parts = f"{command[1]} has over {MAX_ROWS:,} files and directories"
+    yield f"{parts}; `wq watch --root DIR` makes a directory below it a root of its own"
 
 
 def many_roots(command: Any, look: Look) -> Iterator[str]:

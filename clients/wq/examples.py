@@ -32,7 +32,13 @@ EXAMPLES: Dict[str, List[Example]] = {
         Example("wq run -e go --shell -- 'go vet && go test'", "a text for sh, after each change"),
     ],
     "status": [Example("wq status", "memory, processor time, roots and triggers of the server")],
-    "watch": [Example("wq watch ~/src/project", "keeps a project watched, so that answers come at once")],
+    "watch": [
+        Example("wq watch ~/src/project", "keeps a project watched, so that answers come at once"),
+        Example("wq watch --root src", "makes src a root of its own, for a repository that is too large"),
+    ],
+    "log": [Example("wq log -f", "what the server said, and what it says from now on")],
+    "sockname": [Example("wq sockname --start", "the socket, for a client of your own")],
+    "doctor": [Example("wq doctor", "the file system here, and what a scan costs")],
     "unwatch": [Example("wq unwatch", "gives the place of this project back")],
     "roots": [Example("wq roots", "the directories that are watched")],
     "trigger": [

@@ -114,17 +114,22 @@ class Ignored:
     def told_by_rules(self, before: Said, files: List[Any]) -> List[Any]:
         """Of all files those about which the rules said otherwise before: what they no longer leave out came, and what
         they leave out now went."""
-        past = PastRules(self.ask, self.place.root, top_of(self.place.root), before)
         try:
-            judged = zip(files, past.judged([(name_of(file), False) for file in files]))
-            were = {name_of(file) for file, is_ignored in judged if is_ignored and not past.is_tracked(name_of(file))}
+            were = self.ignored_by(before, [file["name"] for file in files]) if any(before) else set()
         except Unanswered:
             return []
-        finally:
-            past.close()
         are_kept = {name_of(file) for file in self.kept(files)}
         came = [{**file, "exists": True, "new": True} for file in files if file["name"] in were & are_kept]
         return came + [{**file, "exists": False, "new": False} for file in files if file["name"] not in were | are_kept]
+
+    def ignored_by(self, said: Said, names: List[str]) -> Set[str]:
+        """The names that rules ignored when they said this."""
+        past = PastRules(self.ask, self.place.root, top_of(self.place.root), said)
+        try:
+            judged = zip(names, past.judged([(name, False) for name in names]))
+            return {name for name, is_ignored in judged if is_ignored and not past.is_tracked(name)}
+        finally:
+            past.close()
 
     def is_stale(self) -> bool:
         """Whether files of git changed since it was asked: an index, or what it ignores apart from the tree."""

@@ -7,6 +7,7 @@ from typing import Any, Callable, Dict, List, Optional, Set, Tuple
 
 from wqclient.root_notes import MOMENT, STAYS, WINDOW
 
+from .answering import require_answers
 from .braces import all_expanded, has_braces
 from .globs import (
     any_of,
@@ -186,6 +187,7 @@ def directories_and_globs(words: List[str]) -> Tuple[List[str], List[str]]:
     """The directories among the words, the current one if there is none, and the globs."""
     directories: List[str] = []
     globs: List[str] = []
+    require_answers([FIRST, *words])
     for word in words:
         require_utf8(word, "a word of the command line")
         if is_directory(word):

@@ -45,6 +45,10 @@ def set_colours(when: Optional[str]) -> None:
     _when = when or AUTO
 
 
+def is_standard_terminal() -> bool:
+    return is_terminal(sys.stdout)
+
+
 def has_colours(stream: Optional[IO[str]]) -> bool:
     if _when != AUTO:
         return _when == ALWAYS

@@ -24,6 +24,9 @@ Server:
   watch, unwatch [DIR]...           watch directories, or stop watching them
   roots                             print the directories that are watched
   start, stop, restart              a command that needs a server starts one
+  log [-f]                          print what the server said
+  sockname [--start]                print the path of its socket
+  doctor [DIR]                      say whether wqd is right for a directory
   ask LINE...                       send lines of the protocol as they are
   explain EXPRESSION                say what an expression means and costs
 

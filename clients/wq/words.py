@@ -7,7 +7,7 @@ from .trouble import WrongWords
 
 NEEDS_DASHES = ("run", "trigger")
 # The commands that take one word, and its name.
-ONE_WORD = {"triggers": "directory", "explain": "expression"}
+ONE_WORD = {"triggers": "directory", "doctor": "directory", "explain": "expression"}
 # The options that take a command, by the commands of wq that have them.
 EXECUTING = {
     "find": {"-x": "each", "--exec": "each", "-exec": "each", "-X": "batch", "--exec-batch": "batch"},
@@ -246,10 +246,17 @@ FORMS: Dict[str, Form] = {
     ),
     "triggers": Form("[DIR]", "print the triggers of a root", [JSON, COLOR, DIRECTORY]),
     "untrigger": Form("NAME [DIR]", "remove a trigger", [WORDS]),
-    "watch": Form("[DIR]...", "watch the projects of directories, and print their roots", [WORDS]),
+    "watch": Form(
+        "[DIR]...",
+        "watch the projects of directories, and print their roots",
+        [flag("--root", help="make each DIR a root of its own, for every command below it until `wq unwatch`"), WORDS],
+    ),
     "unwatch": Form("[DIR]...", "stop watching, also directories that are gone", [WORDS]),
     "roots": Form("", "print the roots that are watched", [ZEROS, JSON]),
     "status": Form("", "print what the server does and costs", [JSON, COLOR]),
+    "log": Form("", "print what the server said", [flag("-f", "--follow", help="go on printing what it says")]),
+    "sockname": Form("", "print the path of the socket", [flag("--start", help="start a server if none listens")]),
+    "doctor": Form("[DIR]", "say whether wqd is right for a directory, and what it costs there", [DIRECTORY]),
     "ask": Form("LINE...", "send lines of the protocol, and print the replies", [WORDS]),
     "start": Form("", "start a server, unless one listens", NUMBERS),
     "stop": Form("", "end the server", []),

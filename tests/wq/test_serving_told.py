@@ -17,8 +17,11 @@ from case import Beside
 from client import PATIENCE
 from scene import COMMAND, Scene, said, wrong
 from waiting import wait_until
+from wq.answering import require_answers
+from wq.file_systems import hearing_of, mount_of
 from wq.processes import is_of_unit, names_unit
 from wq.server_log import Failures, Log
+from wq.trouble import WrongWords
 from wqclient.unit import listens_soon
 
 A_HOUR = 3_600
@@ -248,6 +251,71 @@ class ServingTold(Beside):
             os.rmdir(names[3])
             self.same("unwatch of one that is gone", scene.names("unwatch", names[3]), [names[3]])
             self.same("a place that was given back", scene.names("watch", names[16]), [names[16]])
+
+    def test_own_roots(self) -> None:
+        """A directory that a person made a root of its own is one for each command below it."""
+        with Scene(self.room) as scene:
+            (scene.tree / ".git" / "objects").mkdir()
+            src, deep = str(scene.tree / "src"), str(scene.tree / "src" / "deep")
+            self.same("watch --root", scene.names("watch", "--root", "src"), [src])
+            self.same("below it", scene.names("watch", "src/deep"), [src])
+            self.same("above it", scene.names("watch"), [str(scene.tree)])
+            scene.wq("restart")
+            self.same("another server", scene.names("watch", deep), [src])
+            self.same("unwatch", scene.names("unwatch", "src"), [src])
+            self.same("a part of the project again", scene.names("watch", "src/deep"), [str(scene.tree)])
+
+    def test_places_of_a_server(self) -> None:
+        """The socket, the log, and whether wqd is right for a place."""
+        with Scene(self.room, starts=False) as scene:
+            path = f"{scene.sockname}\n".encode()
+            self.same("sockname of none", scene.wq("sockname"), built.Ended(path, b"", 1))
+            self.same("sockname --start", scene.wq("sockname", "--start").output, path)
+            self.same("get-sockname", scene.wq("get-sockname"), built.Ended(path, b"", 0))
+            self.same("log", scene.wq("log").output, f"listening on {scene.sockname}\n".encode())
+            with scene.begin("log", "-f") as going:
+                self.check("what was said", going.prints("listening on "))
+                scene.wq("stop")
+                scene.wq("start")
+                self.check("and what is said", going.waits_for(lambda one: one.output.count(b"listening on") == 2))
+            lines = scene.names("doctor", "src")
+            for front in (
+                "socket    ",
+                f"root      {scene.tree}",
+                "on        ",
+                "kernel    ",
+                "size      ",
+                "scan      ",
+            ):
+                self.check(f"doctor has {front!r}", any(line.startswith(front) for line in lines), lines)
+            self.same("it leaves no root", scene.wq("roots").status, 1)
+
+    def test_file_systems(self) -> None:
+        """The mount of a path, and what the kernel does not tell of there."""
+        mounts = (
+            "22 1 8:1 / / rw,relatime - ext4 /dev/sda1 rw\n"
+            "30 22 0:40 / /mnt/with\\040space rw - nfs4 host:/ rw,vers=4.2\n"
+            "31 22 0:41 / /mnt/with\\040space/in rw - fuse.sshfs host: rw\n"
+        )
+        for path, kind, silent in (
+            ("/home", "ext4", None),
+            ("/mnt/with space/x", "nfs4", "other machines"),
+            ("/mnt/with space/in", "fuse.sshfs", "other machines"),
+            ("/mnt/with spaces", "ext4", None),
+        ):
+            mount = mount_of(path, mounts)
+            found = hearing_of(mount.kind)
+            self.same(f"the mount of {path}", (mount.kind, found and found.silent_about), (kind, silent))
+        for kind in ("9p", "virtiofs", "cifs", "fuse.unknown"):
+            self.check(f"{kind} is not heard", hearing_of(kind) is not None)
+
+    def test_answers(self) -> None:
+        """A file system that does not answer is named, and nothing waits for it."""
+        began = time.monotonic()
+        with self.assertRaisesRegex(WrongWords, "^hangs: its file system does not answer$"):
+            require_answers(["good", "hangs", "later"], lambda path: time.sleep(20 if path == "hangs" else 0), 0.5)
+        self.check("it does not take long", time.monotonic() - began < 15)
+        require_answers(["good", "not there"])
 
     def test_triggers(self) -> None:
         with Scene(self.room) as scene:
