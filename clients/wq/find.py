@@ -9,6 +9,7 @@ from wqclient.root_notes import KEPT, MOMENT
 from .home import Home
 from .places import Places, directories_and_globs
 from .server import Value, reached
+from .server_log import tell_left_out
 from .stored import query_of, require_no_other
 from .terminal import OF_KINDS, name_shown, show
 from .trouble import FOUND, NOTHING
@@ -24,6 +25,7 @@ def find(options: argparse.Namespace, home: Home) -> int:
         with Places(server, options.words, options, KEPT if options.keep else MOMENT) as places:
             asked = enumerate(queries(places, options))
             lists = [places.told(number, places.ask(places.places[number], query)) for number, query in asked]
+            tell_left_out(server, places.roots())
     cut(lists, options.max_results)
     if options.each or options.batch:
         from .for_each import run_for_all, run_for_each

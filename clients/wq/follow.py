@@ -10,6 +10,7 @@ from typing import Iterator, Optional
 
 from .changes import counted, print_changes
 from .home import Home
+from .server_log import tell_left_out
 from .terminal import say
 from .window import Window
 
@@ -18,6 +19,7 @@ def follow(options: argparse.Namespace, home: Home) -> int:
     with waking() as woken, Window(home, options, "what changed between is not listed") as window:
         if not options.quiet:
             say(window.words())
+            tell_left_out(window.places.server, window.places.roots())
         while True:
             wait(window, woken)
             for found in window.lists():

@@ -1,6 +1,7 @@
 """The runs of `wq run`, one at a time: when one begins, what a change does to it, and how it ends."""
 
 import argparse
+import contextlib
 import os
 import select
 import signal
@@ -52,6 +53,7 @@ class Runner:
         self.pending = Pending(options.debounce / 1000, options.delay / 1000)
         self.own = OwnChanges()
         self.keys = Keys()
+        self.directory = os.getcwd()
         # The names of the last run, and when it began and ended by the clock of the system, in milliseconds.
         self.last_names: Dict[str, None] = {}
         self.began_ms = self.ended_ms = 0.0
@@ -168,6 +170,9 @@ class Runner:
                 raise Trouble("no file matches", status=NOTHING)
             return
         self.tell_of_own(changed)
+        # The directory may have been made anew since.
+        with contextlib.suppress(OSError):
+            os.chdir(self.directory)
         if self.options.clear and is_terminal(sys.stdout):
             write(CLEAR)
         self.keys.give()

@@ -24,6 +24,7 @@ from .names_handed import variables
 from .places import Places, UnknownWord, directories_and_globs
 from .roots import Place, real_path, require_utf8
 from .server import Value, reached
+from .server_log import tell_left_out
 from .terminal import require_read, say
 from .trouble import FOUND, NOTHING, Trouble, WrongWords
 
@@ -51,6 +52,7 @@ def since(options: argparse.Namespace, home: Home) -> int:
             raise UnknownWord(error.word, "" if options.name or error.word != options.words[0] else hint) from None
         with places:
             asked = [ask(places, number) for number in range(len(places.places))]
+            tell_left_out(server, places.roots())
             fault = tell(asked, options)
             if not options.peek and not fault:
                 for one in asked:

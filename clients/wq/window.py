@@ -4,8 +4,9 @@ watched for them."""
 import argparse
 import select
 import time
-from typing import Callable, Dict, List, Optional, Sequence
+from typing import Callable, Dict, List, Optional, Sequence, Set
 
+from wqclient.files import is_gone
 from wqclient.kept import STOPS, kept, log_of, run_of
 from wqclient.lines import Ended
 from wqclient.root_notes import WINDOW
@@ -58,6 +59,7 @@ class Window:
         self.began = self.lost = 0.0
         self.ends_soon = 0
         self.has_told = False
+        self.gone: Set[str] = set()
         # The files that match, when another server was reached.
         self.fresh: Optional[List[File]] = None
         try:
@@ -130,7 +132,9 @@ class Window:
         """Says how many files are followed, and how often the server scans them."""
         count = f"{self.count:,} file{'' if self.count == 1 else 's'}"
         below = " and ".join(self.places.directories)
-        pace = f"; scans about each {seconds_shown(self.pace())}" if words_of(self.places.server.peer.process) else ""
+        # A change may come just after a scan looked there, and the next one has to end.
+        late = f"within about {seconds_shown(2 * self.pace())}, later under load"
+        pace = f"; changes show {late}" if words_of(self.places.server.peer.process) else ""
         return f"following {count} below {below}{pace}"
 
     def wait(self, others: Dict[int, int], seconds: Optional[float] = None) -> Dict[int, int]:
@@ -204,7 +208,13 @@ class Window:
         return found
 
     def look(self, server: Server) -> None:
-        """Says once that the server is stopped, if it is: nothing comes of it then, and nobody asks."""
+        """Says once that the server is stopped, or that a root is gone: nothing comes then, and nobody asks."""
+        for root in self.places.roots():
+            if not is_gone(root):
+                self.gone.discard(root)
+            elif root not in self.gone:
+                self.gone.add(root)
+                say(f"{root} is gone; waiting for it", "yellow")
         if not is_stopped(server.peer.process):
             self.has_told = False
         elif not self.has_told:

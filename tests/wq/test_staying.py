@@ -16,7 +16,7 @@ from client import PATIENCE
 from scene import Going, Scene, said
 from test_serving_told import facts
 
-FOLLOWING = r"following ([0-9,]+) files? below (\S+); scans about each [0-9.]+ s"
+FOLLOWING = r"following ([0-9,]+) files? below (\S+); changes show within about [0-9.]+ s, later under load"
 # Listen and answer nothing. The one hears no SIGTERM, the other is busy.
 SILENT = """
 import signal, socket, sys, time
@@ -47,7 +47,9 @@ class Staying(Beside):
     def check_follow_after(self, scene: Scene) -> None:
         """A server that is killed is started again, one that is restarted is asked on."""
         with scene.begin("follow", ".", "*.c") as going:
-            self.check("follow says what it follows", going.says("following 2 files below .; scans about each 0.0"))
+            self.check(
+                "follow says what it follows", going.says("following 2 files below .; changes show within about 0.")
+            )
             os.kill(facts(scene)["process"], signal.SIGKILL)
             self.check("another server", going.says("was started"))
             scene.write("src/a.c", "after the kill")
@@ -84,6 +86,17 @@ class Staying(Beside):
             os.kill(facts(scene)["process"], signal.SIGKILL)
             self.check("is not ended", going.prints("begun\ndone\n"))
             self.check("and another one follows", going.prints("begun\ndone\nbegun\n"))
+
+    def test_gone_root(self) -> None:
+        """A root that goes is waited for, and a command runs in the directory that came in its place."""
+        with Scene(self.room) as scene:
+            with scene.begin("run", "*.h", "--", "sh", "-c", "pwd; ls Makefile new 2> /dev/null") as going:
+                self.check("a first run", going.prints("Makefile\n"))
+                scene.tree.rename(scene.room / "old")
+                self.check("a root that is gone", going.says(f"{scene.tree} is gone; waiting for it"))
+                scene.write("new")
+                scene.write("a.h")
+                self.check("a run in the new directory", going.prints("new\n"))
 
     def check_stop_beside(self, scene: Scene) -> None:
         """A window does not start a server that somebody stopped, and goes on with the next one."""

@@ -94,6 +94,8 @@ class Terminals(Beside):
                 self.same(f"wq {words}", scene.wq(*words), built.Ended(USAGE.encode(), b"", 0))
             version = (built.TOP / "CHANGELOG.md").read_text().split("\n## ")[1].split(",")[0]
             self.same("wq --version", scene.wq("--version"), built.Ended(f"wq {version}\n".encode(), b"", 0))
+            page = scene.wq("find", "--help")
+            self.same("wq help find", scene.wq("help", "find"), page)
             wrong(self, scene, [], "there is no command; `wq --help` says which there are")
             wrong(self, scene, ["frobnicate"], "there is no command frobnicate; `wq --help` says which there are")
             wrong(
