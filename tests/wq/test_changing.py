@@ -12,6 +12,19 @@ from scene import Going, Scene, following, said, wrong
 FIRST = b"+ Makefile\n+ src/a.c\n+ src/b b.c\n+ src/deep/c.h\n"
 
 
+# Questions, and what each is told of src/deep/d.h, src/e.c and dir/f.c.
+QUESTIONS = (
+    (["-n", "q", "src"], ["+ src/deep/d.h", "+ src/e.c"]),
+    (["-n", "q", "dir"], ["+ dir/f.c"]),
+    (["-n", "q", "src", "*.h"], ["+ src/deep/d.h"]),
+    (["-n", "q", "-e", "h"], ["+ src/deep/d.h"]),
+    (["-n", "q", ".", "src/*"], ["+ src/e.c"]),
+    ([], ["+ dir/f.c", "+ src/deep/d.h", "+ src/e.c"]),
+    (["*.h"], ["+ src/deep/d.h"]),
+    (["-n", "q", "dir", "src"], ["+ dir/f.c", "+ src/deep/d.h", "+ src/e.c"]),
+)
+
+
 class Changing(Beside):
     def test_since(self) -> None:
         with Scene(self.room) as scene:
@@ -49,17 +62,8 @@ class Changing(Beside):
 
     def check_since_questions(self, scene: Scene) -> None:
         """A directory, globs and options make questions of their own, and none forgets what another one was told."""
-        questions = (
-            ["-n", "q", "src"],
-            ["-n", "q", "dir"],
-            ["-n", "q", "src", "*.h"],
-            ["-n", "q", "-e", "h"],
-            ["-n", "q", ".", "src/*"],
-            [],
-            ["*.h"],
-            ["-n", "q", "dir", "src"],
-        )
         first = said("first since as q: listing everything")
+        questions = [words for words, _ in QUESTIONS]
         for words in questions[:5]:
             self.same(f"a first since {words}", scene.wq("since", *words).errors, first)
         for words in questions[5:7]:
@@ -68,19 +72,7 @@ class Changing(Beside):
         scene.write("src/deep/d.h")
         scene.write("src/e.c")
         scene.write("dir/f.c")
-        for words, expected in zip(
-            questions,
-            (
-                ["+ src/deep/d.h", "+ src/e.c"],
-                ["+ dir/f.c"],
-                ["+ src/deep/d.h"],
-                ["+ src/deep/d.h"],
-                ["+ src/e.c"],
-                ["+ dir/f.c", "+ src/deep/d.h", "+ src/e.c"],
-                ["+ src/deep/d.h"],
-                ["+ dir/f.c", "+ src/deep/d.h", "+ src/e.c"],
-            ),
-        ):
+        for words, expected in QUESTIONS:
             self.same(f"since {words}", scene.names("since", *words), expected)
             self.same(f"since {words} once more", scene.wq("since", *words), built.Ended(b"", b"", 1))
         self.same(

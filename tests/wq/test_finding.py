@@ -4,9 +4,11 @@ import json
 import os
 import subprocess
 import time
+from typing import Callable
 
 import built
 from case import Beside
+from client import Client
 from scene import Scene, said, wrong
 
 C_FILES = ["src/a.c", "src/b b.c"]
@@ -253,37 +255,41 @@ class Finding(Beside):
             self.same("wqasm add at the default socket", added.returncode, 0)
             scene.write("huge/h", "x" * 1_048_577)
             scene.write("target/t", "x" * 1_048_577)
-            self.same("find --program", scene.names("find", "--program", "large"), ["huge/h"])
-            self.same("find DIR --program", scene.names("find", "huge", "--program", "large"), ["huge/h"])
-            for globs, expected in (
-                (["h*"], "huge/h\n"),
-                (["*.c"], ""),
-                (["huge/*"], "huge/h\n"),
-                (["./h"], ""),
-                (["*.c", "h*"], "huge/h\n"),
-                (["huge", "h"], "huge/h\n"),
-                (["huge", "./h"], "huge/h\n"),
-                (["src", "h*"], ""),
-                (["-e", "c"], ""),
-            ):
-                found = scene.wq("find", "--program", "large", *globs)
-                self.same(f"find --program {globs}", found, built.Ended(expected.encode(), b"", 0 if expected else 1))
-            wrong(
-                self,
-                scene,
-                ["find", "huge", "--program", "large", "-e", "c"],
-                "-e beside --program is for a whole root; take a glob for a directory below it",
-            )
-            self.same("find --program -H", scene.names("find", "--program", "large", "-H"), ["huge/h", "target/t"])
-            wrong(
-                self,
-                scene,
-                ["find", "--program", "lage"],
-                "E34: no such program",
-                'no program is stored as "lage"; did you mean "large"?',
-                status=3,
-            )
-            self.same("the programs", client.ask("program-list")["programs"], ["large"])
+            self.check_lists_of_program(scene, client)
+
+    def check_lists_of_program(self, scene: Scene, client: Client) -> None:
+        """A stored program is asked about the files of globs, suffixes and directories."""
+        self.same("find --program", scene.names("find", "--program", "large"), ["huge/h"])
+        self.same("find DIR --program", scene.names("find", "huge", "--program", "large"), ["huge/h"])
+        for globs, expected in (
+            (["h*"], "huge/h\n"),
+            (["*.c"], ""),
+            (["huge/*"], "huge/h\n"),
+            (["./h"], ""),
+            (["*.c", "h*"], "huge/h\n"),
+            (["huge", "h"], "huge/h\n"),
+            (["huge", "./h"], "huge/h\n"),
+            (["src", "h*"], ""),
+            (["-e", "c"], ""),
+        ):
+            found = scene.wq("find", "--program", "large", *globs)
+            self.same(f"find --program {globs}", found, built.Ended(expected.encode(), b"", 0 if expected else 1))
+        wrong(
+            self,
+            scene,
+            ["find", "huge", "--program", "large", "-e", "c"],
+            "-e beside --program is for a whole root; take a glob for a directory below it",
+        )
+        self.same("find --program -H", scene.names("find", "--program", "large", "-H"), ["huge/h", "target/t"])
+        wrong(
+            self,
+            scene,
+            ["find", "--program", "lage"],
+            "E34: no such program",
+            'no program is stored as "lage"; did you mean "large"?',
+            status=3,
+        )
+        self.same("the programs", client.ask("program-list")["programs"], ["large"])
 
     def test_roots(self) -> None:
         """The root of a project is watched, and find gives it back."""
@@ -321,19 +327,23 @@ class Finding(Beside):
                 scene.names("watch", self.room / "plain" / "below"),
                 [str(self.room / "plain")],
             )
-            (self.room / "link").symlink_to(scene.tree / "src")
-            self.same(
-                "a link to a directory", scene.names("find", self.room / "link", "*.h"), [f"{self.room}/link/deep/c.h"]
-            )
-            self.same(
-                "ten directories of a project are one root",
-                watched(),
-                [str(scene.tree), str(self.room / "hg"), str(self.room / "watchmanconfig"), str(self.room / "plain")],
-            )
-            # As if another command had begun to need the root while find had it watched.
-            client.ask("watch-del", str(scene.tree))
-            scene.names("find", "src")
-            self.same("find leaves a root that others need", str(scene.tree) in watched(), True)
-            scene.names("unwatch")
-            scene.names("find", "src")
-            self.same("but not after unwatch", str(scene.tree) in watched(), False)
+            self.check_shared_roots(scene, client, watched)
+
+    def check_shared_roots(self, scene: Scene, client: Client, watched: Callable[[], object]) -> None:
+        """Directories of one project share a root, which others may need."""
+        (self.room / "link").symlink_to(scene.tree / "src")
+        self.same(
+            "a link to a directory", scene.names("find", self.room / "link", "*.h"), [f"{self.room}/link/deep/c.h"]
+        )
+        self.same(
+            "ten directories of a project are one root",
+            watched(),
+            [str(scene.tree), str(self.room / "hg"), str(self.room / "watchmanconfig"), str(self.room / "plain")],
+        )
+        # As if another command had begun to need the root while find had it watched.
+        client.ask("watch-del", str(scene.tree))
+        scene.names("find", "src")
+        self.same("find leaves a root that others need", str(scene.tree) in watched(), True)
+        scene.names("unwatch")
+        scene.names("find", "src")
+        self.same("but not after unwatch", str(scene.tree) in watched(), False)

@@ -10,6 +10,7 @@ import time
 from pathlib import Path
 from threading import Timer
 from types import SimpleNamespace
+from typing import Any, Dict
 from unittest import mock
 
 import built
@@ -213,18 +214,22 @@ class ServingTold(Beside):
             )
             programs = [{"name": "large", "budget": 7}, {"name": "other", "budget": None}]
             self.same("the programs", found["programs"], programs)
-            text = scene.wq("status").output.decode()
-            for part in (
-                f"socket    {scene.sockname}\n",
-                "clients   1 beside this one",
-                "7 files and 6 directories, tick 1, a crawl takes",
-                "trigger build: make 'all targets'",
-                "E11: root cannot be read",
-                "program   large, budget 7 steps a file",
-                "program   other, budget unknown",
-                f"process   {found['process']}, ",
-            ):
-                self.check(f"status has {part!r}", part in text, text.splitlines())
+            self.check_status_text(scene, found)
+
+    def check_status_text(self, scene: Scene, found: Dict[str, Any]) -> None:
+        """The same in words."""
+        text = scene.wq("status").output.decode()
+        for part in (
+            f"socket    {scene.sockname}\n",
+            "clients   1 beside this one",
+            "7 files and 6 directories, tick 1, a crawl takes",
+            "trigger build: make 'all targets'",
+            "E11: root cannot be read",
+            "program   large, budget 7 steps a file",
+            "program   other, budget unknown",
+            f"process   {found['process']}, ",
+        ):
+            self.check(f"status has {part!r}", part in text, text.splitlines())
 
     def test_watches(self) -> None:
         with Scene(self.room) as scene:
@@ -334,38 +339,42 @@ class ServingTold(Beside):
             self.same("a second one", call, built.Ended(b"", again, 0))
             self.check("names on its input", reads(self.room / "names", "Makefile\n"))
             self.check_names_of_triggers(scene)
-            self.same("untrigger", scene.wq("untrigger", "t", "."), built.Ended(b"", b"", 0))
-            wrong(self, scene, ["untrigger", "t", "."], f"{scene.tree} has no trigger t", status=1)
-            self.same("no triggers", scene.wq("triggers"), built.Ended(b"", b"", 1))
+            self.check_wrong_triggers(scene)
+
+    def check_wrong_triggers(self, scene: Scene) -> None:
+        """A trigger is removed, and wrong ones are refused."""
+        self.same("untrigger", scene.wq("untrigger", "t", "."), built.Ended(b"", b"", 0))
+        wrong(self, scene, ["untrigger", "t", "."], f"{scene.tree} has no trigger t", status=1)
+        self.same("no triggers", scene.wq("triggers"), built.Ended(b"", b"", 1))
+        wrong(
+            self,
+            scene,
+            ["trigger", "t", "."],
+            "trigger takes `--` and a command after it, such as: wq trigger build '*.c' -- make",
+        )
+        for command in (["echo", "{}", "x"], ["{}"]):
             wrong(
                 self,
                 scene,
-                ["trigger", "t", "."],
-                "trigger takes `--` and a command after it, such as: wq trigger build '*.c' -- make",
+                ["trigger", "t", ".", "--", *command],
+                "the names of files come last in the command of a trigger, so {} may be its last word alone",
             )
-            for command in (["echo", "{}", "x"], ["{}"]):
-                wrong(
-                    self,
-                    scene,
-                    ["trigger", "t", ".", "--", *command],
-                    "the names of files come last in the command of a trigger, so {} may be its last word alone",
-                )
-            wrong(
-                self,
-                scene,
-                ["trigger", "n" * 256, "--", "true"],
-                "E36: bad name",
-                f'the name has 256 bytes, and at most 255 may be: "{"n" * 59}..',
-                status=3,
-            )
-            wrong(
-                self,
-                scene,
-                ["triggers", self.room],
-                "E14: root is not watched",
-                f'"{self.room}" is not watched; did you mean "{scene.tree}"?. ["watch","{self.room}"] watches it',
-                status=3,
-            )
+        wrong(
+            self,
+            scene,
+            ["trigger", "n" * 256, "--", "true"],
+            "E36: bad name",
+            f'the name has 256 bytes, and at most 255 may be: "{"n" * 59}..',
+            status=3,
+        )
+        wrong(
+            self,
+            scene,
+            ["triggers", self.room],
+            "E14: root is not watched",
+            f'"{self.room}" is not watched; did you mean "{scene.tree}"?. ["watch","{self.room}"] watches it',
+            status=3,
+        )
 
     def check_names_of_triggers(self, scene: Scene) -> None:
         """The name comes first, whatever is on disk; a directory may come after it."""
@@ -430,26 +439,28 @@ class ServingTold(Beside):
                 scene.names("triggers")[:2],
                 ["fails: true", "killed: sh -c 'kill -9 $$'"],
             )
-            (scene.tree / os.fsdecode(b"not\xffutf8")).touch()
-            (scene.tree / "closed").mkdir(mode=0)
-            shown = "          left out: names that are not UTF-8: 1"
-            self.check(
-                "names that are left out", wait_until(lambda: shown in scene.names("status")), scene.names("status")
-            )
-            left = said(f"{scene.tree}: names that are not UTF-8 are left out: 1")
-            self.check("find says so", scene.wq("find", "*.h").errors.startswith(left))
-            self.check("since says so", left in scene.wq("since", "*.h").errors)
-            found = facts(scene)
-            closed = 0 if os.getuid() == 0 else 1
-            self.same("what is left out", found["roots"][0]["left_out"], {"names": 1, "directories": closed})
-            text = scene.names("status")
-            for line in (
-                f"log       {found['log']}",
-                "          trigger killed: sh -c 'kill -9 $$'",
-                "            last failure: could not be started: No such file or directory (os error 2)",
-            ):
-                self.check(f"status has {line!r}", line in text, text)
-            self.same("the log is a file", "listening on" in Path(found["log"]).read_text(), True)
+            self.check_left_out(scene)
+
+    def check_left_out(self, scene: Scene) -> None:
+        """Names and directories that are left out are counted."""
+        (scene.tree / os.fsdecode(b"not\xffutf8")).touch()
+        (scene.tree / "closed").mkdir(mode=0)
+        shown = "          left out: names that are not UTF-8: 1"
+        self.check("names that are left out", wait_until(lambda: shown in scene.names("status")), scene.names("status"))
+        left = said(f"{scene.tree}: names that are not UTF-8 are left out: 1")
+        self.check("find says so", scene.wq("find", "*.h").errors.startswith(left))
+        self.check("since says so", left in scene.wq("since", "*.h").errors)
+        found = facts(scene)
+        closed = 0 if os.getuid() == 0 else 1
+        self.same("what is left out", found["roots"][0]["left_out"], {"names": 1, "directories": closed})
+        text = scene.names("status")
+        for line in (
+            f"log       {found['log']}",
+            "          trigger killed: sh -c 'kill -9 $$'",
+            "            last failure: could not be started: No such file or directory (os error 2)",
+        ):
+            self.check(f"status has {line!r}", line in text, text)
+        self.same("the log is a file", "listening on" in Path(found["log"]).read_text(), True)
 
 
 def words_of(process: int) -> list:
