@@ -16,17 +16,19 @@ from wq.words import FORMS, NEEDS_DASHES, Option, options_of
 
 # Values of some options.
 VALUES = {
-    "-t": "f d l",
-    "--type": "file dir link",
+    "-t": "f d l x e",
+    "--type": "file dir link executable empty",
     "--newer": "10min 1h 1d 1w",
     "--changed-within": "10min 1h 1d 1w",
     "--older": "1d 1w",
     "--changed-before": "1d 1w",
-    "--size": "+1M -1k 0",
+    "--size": "+1M -1k",
+    "--color": "auto always never",
     "-d": "1 2 3",
     "--max-depth": "1 2 3",
     "--min-depth": "1 2 3",
-    "--quiet": "100 500",
+    "--debounce": "100 500",
+    "--timeout": "10 60",
     "--on-busy": "wait restart ignore signal",
     "--stop-signal": "TERM INT HUP USR1 USR2 QUIT",
     "--delay": "500 1000",

@@ -11,11 +11,9 @@ File = Dict[str, Any]
 
 
 def counted(files: List[File], options: argparse.Namespace) -> List[File]:
-    """The files that a person means. A directory that was there before has changed if a file came or went in it, which
-    is told by that file; so it counts only if it is asked for."""
-    if options.all or options.type:
-        return files
-    return [file for file in files if file["type"] != "d" or file["new"] or not file["exists"]]
+    """The files that a person means. What changes in a directory is told by its files, so a directory counts only if it
+    is asked for."""
+    return files if options.dirs or options.type else [file for file in files if file["type"] != "d"]
 
 
 def mark_of(file: File) -> str:
@@ -24,7 +22,7 @@ def mark_of(file: File) -> str:
 
 def print_changes(lists: List[Dict[str, Any]], options: argparse.Namespace) -> None:
     """The changes of lists that a person is told."""
-    if options.json or options.lines:
+    if options.json or options.jsonl:
         print_lists_as_json(lists, options)
         return
     ending = "\0" if options.print0 else "\n"

@@ -7,7 +7,7 @@ from importlib import import_module
 from typing import Callable, Dict, List
 
 from .home import Home
-from .terminal import say
+from .terminal import say, set_colours
 from .trouble import BROKEN_PIPE, FAILED, FOUND, INTERRUPTED, Trouble, WrongWords
 
 # The module of each command that is not named after it.
@@ -66,6 +66,8 @@ def run(words: List[str], home: Home) -> int:
         raise WrongWords("there is no command; `wq --help` says which there are")
     command = words[0]
     # What a command does not need is not read.
+    if command == "help" and len(words) > 1:
+        command, words = words[1], [words[1], "--help"]
     if command in ("--help", "-h", "help"):
         from .usage import USAGE
 
@@ -82,15 +84,24 @@ def run(words: List[str], home: Home) -> int:
     from .words import FORMS, read
 
     if command not in FORMS:
-        from .foreign import COMMANDS
-        from .vocabulary import meant
+        return run([own_command(command), *words[1:]], home)
+    options = read(command, words[1:])
+    set_colours(getattr(options, "color", None))
+    return function_of(command)(options, home)
 
-        is_option = command.startswith("-")
-        known = ("--help", "--version") if is_option else FORMS
-        hint = f"; use `wq {COMMANDS[command]}`" if command in COMMANDS else meant(command, known).replace('"', "")
-        kind = "option" if is_option else "command"
-        raise WrongWords(f"there is no {kind} {command}{hint}; `wq --help` says which there are")
-    return function_of(command)(read(command, words[1:]), home)
+
+def own_command(command: str) -> str:
+    """The command of wq that Watchman has by this word."""
+    from .other_words import COMMANDS
+    from .vocabulary import meant
+    from .words import FORMS
+
+    if command in COMMANDS:
+        return COMMANDS[command]
+    is_option = command.startswith("-")
+    hint = meant(command, ("--help", "--version") if is_option else FORMS).replace('"', "")
+    kind = "option" if is_option else "command"
+    raise WrongWords(f"there is no {kind} {command}{hint}; `wq --help` says which there are")
 
 
 def function_of(command: str) -> Callable[..., int]:

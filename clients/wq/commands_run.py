@@ -5,15 +5,22 @@ import os
 import signal
 import subprocess
 import tempfile
-from typing import IO, Dict, List, Optional, Set, Tuple
+from typing import IO, Dict, List, Optional, Set, Tuple, Union
 
 from .names_handed import as_argument, batches
 from .shell_text import with_names
+from .trouble import Trouble
 
 PLACE = "{}"
 SHELL = "/bin/sh"
+# A run that is to end gets a signal, and SIGKILL after this time, in seconds.
+GRACE = 5.0
 # As shells end if a command is not there, or cannot be started.
 NOT_FOUND, CANNOT_START = 127, 126
+
+
+# As Python tells which signals were blocked.
+Signals = Set[Union[int, signal.Signals]]
 
 
 class Unrunnable(Exception):
@@ -38,7 +45,7 @@ class Command:
         # Whether it may read the terminal.
         self.has_terminal = not on_input and not is_alone
 
-    def run(self, names: List[str], variables: Dict[str, str], signals: Set[signal.Signals]) -> "Run":
+    def run(self, names: List[str], variables: Dict[str, str], signals: Signals) -> "Run":
         """A run that has not begun, which blocks these signals alone."""
         paths = [as_argument(name) for name in names]
         environment = {**os.environ, **variables}
@@ -70,7 +77,7 @@ def shell_words(text: str) -> List[str]:
     return [SHELL, "-c", filled, "sh", PLACE] if filled != text else [SHELL, "-c", text]
 
 
-def prepare(is_alone: bool, signals: Set[signal.Signals]) -> None:
+def prepare(is_alone: bool, signals: Signals) -> None:
     """Prepares the process of a run, before it becomes the command."""
     if is_alone:
         os.setpgid(0, 0)
@@ -86,7 +93,7 @@ class Run:
         lines: List[List[str]],
         paths: List[str],
         environment: Dict[str, str],
-        signals: Set[signal.Signals],
+        signals: Signals,
     ) -> None:
         self.command = command
         self.lines = lines
@@ -154,6 +161,20 @@ class Run:
         except (subprocess.TimeoutExpired, KeyboardInterrupt):
             self.signal(signal.SIGKILL)
             self.process.wait()
+
+
+def run_once(command: Command, names: List[str], variables: Dict[str, str]) -> int:
+    """Runs the command to its end, and gives its status."""
+    run = command.run(names, variables, set())
+    try:
+        while not run.has_ended():
+            if run.process is not None:
+                run.process.wait()
+        return run.status()
+    except Unrunnable as reason:
+        raise Trouble(str(reason), status=reason.status) from None
+    finally:
+        run.end_at_once(signal.SIGTERM, GRACE)
 
 
 def status_words(code: int) -> str:

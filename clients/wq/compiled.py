@@ -11,7 +11,7 @@ import subprocess
 import tempfile
 import time
 from pathlib import Path
-from typing import Callable, Dict, Iterator, List, Set
+from typing import Callable, Dict, Iterator, List, Set, Union
 
 from wqclient.client import Client
 from wqclient.sockets import is_listened_on
@@ -135,7 +135,9 @@ def begun(command: List[str], directory: Path, log: str) -> "Iterator[subprocess
         process.wait()
 
 
-def begin(command: List[str], directory: Path, log: str, signals: Set[signal.Signals]) -> "subprocess.Popen[bytes]":
+def begin(
+    command: List[str], directory: Path, log: str, signals: Set[Union[int, signal.Signals]]
+) -> "subprocess.Popen[bytes]":
     """Begins a command, which blocks these signals alone."""
     with open(log, "wb") as output:
         return subprocess.Popen(

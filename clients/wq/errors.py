@@ -107,7 +107,8 @@ def unreadable(command: Any, look: Look) -> Iterator[str]:
 
 
 def many_files(command: Any, look: Look) -> Iterator[str]:
-    yield f"{command[1]} has over {MAX_ROWS:,} files and directories; watch a directory below it"
+    parts = f"{command[1]} has over {MAX_ROWS:,} files and directories"
+    yield f"{parts}; `wq watch --root DIR` makes a directory below it a root of its own"
 
 
 def many_roots(command: Any, look: Look) -> Iterator[str]:
@@ -144,7 +145,10 @@ def no_program(command: Any, look: Look) -> Iterator[str]:
 def bad_name(command: Any, look: Look) -> Iterator[str]:
     name = object_of(command).get("name") if command[0] == "trigger" else command[1 if "program" in command[0] else 2]
     length = len(name.encode())
-    yield f"the name is empty, and has 1 to {MAX_PROGRAM_NAME} bytes" if not length else f"the name has {length:,} bytes, and at most {MAX_PROGRAM_NAME} may be: {quoted(name)}"
+    if length:
+        yield f"the name has {length:,} bytes, and at most {MAX_PROGRAM_NAME} may be: {quoted(name)}"
+    else:
+        yield f"the name is empty, and has 1 to {MAX_PROGRAM_NAME} bytes"
 
 
 def full_shelf(command: Any, look: Look) -> Iterator[str]:
@@ -159,7 +163,7 @@ def many_subscriptions(command: Any, look: Look) -> Iterator[str]:
 
 
 def many_triggers(command: Any, look: Look) -> Iterator[str]:
-    yield f"the root has {MAX_TRIGGERS} triggers; `wq untrigger DIR NAME` takes one out"
+    yield f"the root has {MAX_TRIGGERS} triggers; `wq untrigger NAME DIR` removes one"
 
 
 def many_sessions(command: Any, look: Look) -> Iterator[str]:

@@ -2,13 +2,14 @@
 
 import argparse
 import time
-from typing import Any, Dict, Iterator, List
+from typing import Any, Dict, Iterator, List, Optional
 
 from wqclient.root_notes import KEPT, MOMENT
 
 from .home import Home
 from .places import Places, directories_and_globs
 from .server import Value, reached
+from .server_log import tell_left_out
 from .stored import query_of, require_no_other
 from .terminal import OF_KINDS, name_shown, show
 from .trouble import FOUND, NOTHING
@@ -24,18 +25,29 @@ def find(options: argparse.Namespace, home: Home) -> int:
         with Places(server, options.words, options, KEPT if options.keep else MOMENT) as places:
             asked = enumerate(queries(places, options))
             lists = [places.told(number, places.ask(places.places[number], query)) for number, query in asked]
+            tell_left_out(server, places.roots())
+    cut(lists, options.max_results)
     if options.each or options.batch:
         from .for_each import run_for_all, run_for_each
 
         names = [file["name"] for found in lists for file in found["files"]]
         return run_for_each(options.each, names) if options.each else run_for_all(options.batch, names)
-    print_lists(lists, options)
+    if not options.quiet:
+        print_lists(lists, options)
     return FOUND if any(found["files"] for found in lists) else NOTHING
+
+
+def cut(lists: List[Value], most: Optional[int]) -> None:
+    """Leaves the first files of the lists together, as many as are asked for."""
+    if most is not None:
+        for found in lists:
+            found["files"] = found["files"][:most]
+            most -= len(found["files"])
 
 
 def queries(places: Places, options: argparse.Namespace) -> Iterator[Dict[str, Any]]:
     fields = ROW_FIELDS if options.long else ["name"] if options.count else ["name", "type"]
-    if options.json and not options.long and not options.lines:
+    if options.json and not options.long and not options.jsonl:
         fields = ["name"]
     for number, place in enumerate(places.places):
         if options.program is None:
@@ -47,7 +59,7 @@ def queries(places: Places, options: argparse.Namespace) -> Iterator[Dict[str, A
 def print_lists(lists: List[Value], options: argparse.Namespace) -> None:
     ending = "\0" if options.print0 else "\n"
     files = [file for found in lists for file in found["files"]]
-    if options.json or options.lines:
+    if options.json or options.jsonl:
         print_lists_as_json(lists, options)
     elif options.count:
         show([str(len(files))])

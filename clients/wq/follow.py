@@ -6,17 +6,20 @@ import os
 import select
 import signal
 import sys
-from typing import Iterator
+from typing import Iterator, Optional
 
 from .changes import counted, print_changes
 from .home import Home
+from .server_log import tell_left_out
 from .terminal import say
 from .window import Window
 
 
 def follow(options: argparse.Namespace, home: Home) -> int:
     with waking() as woken, Window(home, options, "what changed between is not listed") as window:
-        say(window.words())
+        if not options.quiet:
+            say(window.words())
+            tell_left_out(window.places.server, window.places.roots())
         while True:
             wait(window, woken)
             for found in window.lists():
@@ -41,11 +44,11 @@ def waking() -> Iterator[int]:
         os.close(writing)
 
 
-def wait(window: Window, woken: int) -> None:
+def wait(window: Window, woken: int, seconds: Optional[float] = None) -> None:
     """Waits for the server. If the reader of standard output goes meanwhile, there is nobody to tell: its end is told
     whatever is asked for. A signal has its handler called as soon as the wait ends."""
     output = sys.stdout.fileno()
-    events = window.wait({woken: select.POLLIN, output: 0})
+    events = window.wait({woken: select.POLLIN, output: 0}, seconds)
     if events.get(output, 0) & select.POLLERR:
         raise BrokenPipeError
     if woken in events:

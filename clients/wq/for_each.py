@@ -5,7 +5,8 @@ import subprocess
 from concurrent.futures import ThreadPoolExecutor
 from typing import Callable, Dict, Iterator, List, Optional
 
-from .commands_run import CANNOT_START, NOT_FOUND, as_argument
+from .commands_run import CANNOT_START, NOT_FOUND
+from .names_handed import as_argument
 from .terminal import write
 from .trouble import FOUND, NOTHING, Trouble
 

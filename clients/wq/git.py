@@ -38,7 +38,7 @@ class Repository(NamedTuple):
     """The repository of a directory: where it is, and files whose lines say what it ignores."""
 
     directory: str
-    index: str
+    index_file: str
     excludes: List[str]
 
 
@@ -76,6 +76,21 @@ def is_repository(directory: str) -> bool:
     if os.path.isfile(path):
         return True
     return all(os.path.exists(os.path.join(path, name)) for name in ("HEAD", "objects", "refs"))
+
+
+def top_of(root: str) -> Optional[str]:
+    """The directory at or above a root that is a repository of git."""
+    path = root
+    while not is_repository(path):
+        if path == "/":
+            return None
+        path = os.path.dirname(path)
+    return path
+
+
+def is_installed() -> bool:
+    directories = os.environ.get("PATH", os.defpath).split(os.pathsep)
+    return any(os.access(os.path.join(directory, "git"), os.X_OK) for directory in directories)
 
 
 def repository_of(directory: str) -> Repository:

@@ -4,11 +4,12 @@ out."""
 import argparse
 import functools
 import re
-from typing import Any, Iterator, List
+from typing import Any, Iterator, List, Sequence
 
 from wqclient.names import KINDS
 
 from .braces import all_expanded
+from .git import is_installed, top_of
 from .moments import second_of
 from .roots import Place
 from .terminal import say
@@ -17,8 +18,10 @@ from .values import read
 from .vocabulary import quoted
 from .warnings import of_glob, of_term
 
-# People seldom mean these directories; --all brings them back.
+# People seldom mean these directories; --hidden brings them back. In a repository git says what of it is left out,
+# but for what it keeps itself.
 LEFT_OUT = (".git", ".hg", "node_modules", "target")
+LEFT_OUT_BY_GIT = (".git", ".hg")
 WITH_DOTS = {"includedotfiles": True}
 SPECIAL = "*?[\\"
 NAMES_OF_KINDS = {
@@ -32,9 +35,13 @@ NAMES_OF_KINDS = {
     "pipe": "p",
     "fifo": "p",
     "socket": "s",
+    "executable": "x",
+    "empty": "e",
 }
-HINTS_OF_KINDS = {"x": "; the server sees no permissions", "e": "; --size 0 is for empty ones"}
-SIZE = re.compile(r"([+-]?)([0-9]+)([bkKmMgGtT]?)(i?[bB])?")
+# These are no kinds to the server: a file that this user may run, and one without a byte.
+EXECUTABLE, EMPTY = "x", "e"
+SIZE = re.compile(r"([+-]?)([0-9]+)([bkKmMgGtT]?)(i[bB]?|[bB])?")
+LETTERS = "f (file), d (directory), l (link), x (executable), e (empty), b, c, p, s or D"
 UNITS = {"": 0, "b": 0, "k": 1, "m": 2, "g": 3, "t": 4}
 
 
@@ -46,7 +53,7 @@ def expression_of(place: Place, globs: List[str], options: argparse.Namespace) -
     if globs:
         parts.append(any_of([glob_term(glob, place, options.ignore_case) for glob in all_expanded(globs)]))
     if options.type:
-        parts.append(any_of([["type", letter] for letter in kinds_of(options.type)]))
+        parts += kind_terms(kinds_of(options.type))
     if options.ext:
         parts.append(["suffix", suffixes_of(options.ext)])
     if getattr(options, "size", None):
@@ -71,7 +78,8 @@ def restrictions(globs: List[str], options: argparse.Namespace) -> List[Any]:
     lists = [sorted(set(found or [])) for found in (all_expanded(globs), kinds, options.ext, options.exclude)]
     return [
         *lists,
-        options.all,
+        options.hidden,
+        options.dirs,
         options.ignore,
         options.gitignore,
         options.ignore_case,
@@ -136,14 +144,23 @@ def kinds_of(words: List[str]) -> List[str]:
     parts = [part for word in words for part in word.split(",") if part]
     letters = [letter for part in parts for letter in NAMES_OF_KINDS.get(part, part)]
     for letter in letters:
-        if letter not in KINDS:
-            raise WrongWords(
-                "-t takes letters of f (file), d (directory), l (link), b, c, p, s and D, and not "
-                f"{quoted(letter)}{HINTS_OF_KINDS.get(letter, '')}"
-            )
+        if letter not in (*KINDS, EXECUTABLE, EMPTY):
+            raise WrongWords(f"-t takes {LETTERS}, and not {quoted(letter)}")
     if not letters:
-        raise WrongWords("-t takes a letter: f (file), d (directory), l (link), b, c, p, s or D")
+        raise WrongWords(f"-t takes a letter of {LETTERS}")
     return letters
+
+
+def kind_terms(letters: List[str]) -> Iterator[Any]:
+    """Terms for the kinds of files. Only a file is executable or empty."""
+    kinds = [letter for letter in letters if letter in KINDS]
+    yield any_of([["type", letter] for letter in kinds or ["f"]])
+    if EMPTY in letters:
+        yield ["empty"]
+
+
+def is_executable_meant(options: argparse.Namespace) -> bool:
+    return EXECUTABLE in kinds_of(options.type) if options.type else False
 
 
 def suffixes_of(words: List[str]) -> List[str]:
@@ -163,29 +180,24 @@ def suffix_of(word: str) -> str:
 
 
 def size_term(word: str) -> List[Any]:
-    """`+1M` is at least so much, `-1M` at most, `1M` just that. As GNU's tools have it, `k` and `KiB` are 1,024 bytes,
-    and `kB` is 1,000."""
+    """`+1M` is at least so much, `-1M` at most. As GNU's tools have it, `k`, `ki` and `KiB` are 1,024 bytes, and `kB`
+    is 1,000. One without a sign could mean three things."""
     found = SIZE.fullmatch(word)
     if not found:
-        raise WrongWords(
-            "--size takes a number with a unit, such as +1M (at least), -10k (at most) or 0, and not " f"{quoted(word)}"
-        )
+        raise WrongWords(f"--size takes +1M (at least) or -10k (at most), and not {quoted(word)}")
     sign, digits, unit, ending = found.groups()
+    if not sign:
+        raise WrongWords(f"--size takes +{word} for at least so much, or -{word} for at most")
     number = int(digits) * (1_000 if ending in ("b", "B") else 1_024) ** UNITS[unit.lower()]
     if number > 2**62:
         raise WrongWords(f"--size takes a number up to 2^62 bytes, and not {quoted(word)}")
-    return ["size", {"+": "ge", "-": "le", "": "eq"}[sign], number]
+    return ["size", {"+": "ge", "-": "le"}[sign], number]
 
 
 def left_out_terms(place: Place, options: argparse.Namespace) -> List[Any]:
     """Terms of files to leave out: directories that people seldom mean, globs of --exclude, and all below them."""
     front = front_of(place)
-    terms: List[Any] = []
-    if not options.all:
-        terms.append(["name", list(LEFT_OUT)])
-        # The directory itself may lie in one of them, and is asked for then.
-        before = front if set(place.below.split("/")) & set(LEFT_OUT) else ""
-        terms += [["match", f"{before}**/{name}/**", "wholename", WITH_DOTS] for name in LEFT_OUT]
+    terms = terms_of_left_out(place, left_out_names(place, options))
     for glob in all_expanded(options.exclude or []):
         glob = glob.rstrip("/") or glob
         if "/" in glob:
@@ -196,9 +208,25 @@ def left_out_terms(place: Place, options: argparse.Namespace) -> List[Any]:
     return terms
 
 
-def is_left_out(name: str) -> bool:
+def left_out_names(place: Place, options: argparse.Namespace) -> Sequence[str]:
+    """The names of directories to leave out. Git is not asked for a trigger."""
+    if options.hidden:
+        return ()
+    is_by_git = hasattr(options, "ignore") and top_of(place.root) is not None and is_installed()
+    return LEFT_OUT_BY_GIT if is_by_git else LEFT_OUT
+
+
+def terms_of_left_out(place: Place, names: Sequence[str]) -> List[Any]:
+    if not names:
+        return []
+    # The directory itself may lie in one of them, and is asked for then.
+    before = front_of(place) if set(place.below.split("/")) & set(names) else ""
+    return [["name", list(names)], *(["match", f"{before}**/{name}/**", "wholename", WITH_DOTS] for name in names)]
+
+
+def is_left_out(name: str, names: Sequence[str]) -> bool:
     """Whether a name is of what is left out, or below it."""
-    return any(part in LEFT_OUT for part in name.split("/"))
+    return any(part in names for part in name.split("/"))
 
 
 def user_expression(text: str) -> Any:

@@ -4,7 +4,7 @@ says of names."""
 import bisect
 import contextlib
 import os
-from typing import TYPE_CHECKING, Any, Callable, Dict, List, Optional, Tuple
+from typing import TYPE_CHECKING, Any, Callable, Dict, List, NamedTuple, Optional, Tuple
 
 from .git import Judge, Refused, Repository, Unanswered, is_repository, no_repository, repository_of, tracked_in
 from .ignore_lines import Terms, terms_of
@@ -21,23 +21,22 @@ Ask = Callable[[Dict[str, Any]], Any]
 Name = Tuple[str, bool]
 
 
-def top_of(root: str) -> Optional[str]:
-    """The directory at or above a root that is a repository of git."""
-    path = root
-    while not is_repository(path):
-        if path == "/":
-            return None
-        path = os.path.dirname(path)
-    return path
+class Said(NamedTuple):
+    """What the rules of a root say: the text of each file with rules by its path, and by the directory of each
+    repository what that ignores apart from the tree."""
+
+    files: Dict[str, str]
+    excludes: Dict[str, str]
 
 
 class Rules:
     """The rules of a root. It belongs to the repository at or above it, if there is one, and others may lie in it."""
 
-    def __init__(self, ask: Ask, root: str, top: Optional[str]) -> None:
+    def __init__(self, ask: Ask, root: str, top: Optional[str], said: Optional[Said] = None) -> None:
         """`ask` asks the server of the root."""
         self.root = root
         self.top = top
+        self.said = said or Said({}, {})
         # All of this is by the directories of the repositories; "" is that of the root.
         self.repositories: Dict[str, Repository] = {}
         self.judges: Dict[str, Judge] = {}
@@ -72,8 +71,9 @@ class Rules:
             self.repositories[""] = repository_of(self.root)
         self.find_repositories([name.rpartition("/")[0] for name in names if name.endswith("/.git")])
         for directory, repository in self.repositories.items():
-            for path in repository.excludes:
-                self.add(text_of(path), directory)
+            # The last line that fits decides, and those of the repository come after the user's own.
+            self.said.excludes[directory] = "\n".join(map(text_of, reversed(repository.excludes)))
+            self.add(self.said.excludes[directory], directory)
         self.read_files([name for name in names if not name.endswith(".git")])
 
     def find_repositories(self, directories: List[str]) -> None:
@@ -94,10 +94,9 @@ class Rules:
         while self.top is not None and path != self.top:
             path = os.path.dirname(path)
             above += [os.path.join(path, last) for last in (GITIGNORE, IGNORE)]
-        for path, directory in files:
-            self.add(text_of(path), directory)
-        for path in above:
-            self.add(text_of(path), None)
+        for path, within in [*files, *((path, None) for path in above)]:
+            self.said.files[path] = text_of(path)
+            self.add(self.said.files[path], within)
         found = [path for path, _ in files] + [path for path in above if os.path.exists(path)]
         paths = [path for path in found if not is_directory(path)]
         if any(path.endswith(f"/{IGNORE}") or not is_plain(path) for path in paths):
@@ -178,7 +177,7 @@ class Rules:
 
     def state(self) -> List[Any]:
         """The state of git's files: its indexes, and what it ignores apart from the tree."""
-        paths = [path for one in self.repositories.values() for path in (one.index, *one.excludes)]
+        paths = [path for one in self.repositories.values() for path in (one.index_file, *one.excludes)]
         return [state_of(path) for path in paths]
 
     def end_judges(self) -> None:
@@ -192,6 +191,29 @@ class Rules:
             self.room.cleanup()
         if self.shadow:
             self.shadow.close()
+
+
+class PastRules(Rules):
+    """The rules of a root as they were. Git judges by the texts that their files had then."""
+
+    def read(self, ask: Ask) -> None:
+        import tempfile  # rules seldom change
+
+        self.room = tempfile.TemporaryDirectory(prefix="wq-")
+        for number, (directory, text) in enumerate(self.said.excludes.items()):
+            path = os.path.join(self.room.name, str(number))
+            self.repositories[directory] = no_repository(self.root, path)
+            exclude_alone(path, text)
+        directories = sorted({os.path.dirname(path) for path in self.said.files})
+        self.shadow = Shadow(self.top or self.root, directories, self.said.files)
+
+
+def exclude_alone(repository: str, text: str) -> None:
+    """Has a repository ignore what the lines of this text say, and nothing of the user's own."""
+    os.mkdir(os.path.join(repository, "info"))
+    for name, mode, lines in (("info/exclude", "w", text), ("config", "a", "[core]\n\texcludesFile = /dev/null\n")):
+        with open(os.path.join(repository, name), mode, encoding="utf-8", errors="surrogateescape") as stream:
+            stream.write(lines)
 
 
 def forms_of(name: Name) -> List[str]:

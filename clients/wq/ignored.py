@@ -4,12 +4,13 @@ lists the ignored names are taken out. A file that git tracks is not ignored."""
 import argparse
 from typing import Any, Dict, List, Optional, Set
 
-from .git import Unanswered
-from .globs import any_of, left_out_terms, note
+from .git import Unanswered, top_of
+from .globs import any_of, left_out_names, note, terms_of_left_out
 from .ignore_lines import Terms, one_of
-from .ignore_rules import Ask, Rules, directories_of, top_of
+from .ignore_rules import Ask, PastRules, Rules, Said, directories_of
 from .roots import Place
 
+NOTHING_SAID = Said({}, {})
 # Of longer lists only the names are judged that some rule could mean.
 LONG = 500
 # A query leaves out this number of directories, those near the root. Each costs time for each file.
@@ -18,7 +19,7 @@ MOST_TERMS = 16
 
 def is_wanted(options: argparse.Namespace) -> bool:
     """Whether ignored files are to be left out, if there is a repository."""
-    return bool(getattr(options, "ignore", False) and (options.gitignore or not options.all))
+    return bool(getattr(options, "ignore", False))
 
 
 class Ignored:
@@ -30,6 +31,8 @@ class Ignored:
         self.place = place
         self.options = options
         self.rules: Optional[Rules] = None
+        # What the rules say, which is nothing if they leave nothing out; None if git does not answer.
+        self.said: Optional[Said] = NOTHING_SAID
         self.begin()
 
     def begin(self) -> None:
@@ -38,6 +41,7 @@ class Ignored:
         self.found: Dict[str, bool] = {}
         self.terms: Terms = []
         self.partly: Terms = []
+        self.said = NOTHING_SAID
         if not is_wanted(self.options):
             return
         top = top_of(self.place.root)
@@ -46,11 +50,13 @@ class Ignored:
         try:
             self.rules = Rules(self.ask, self.place.root, top)
             self.leave_out(self.rules)
+            self.said = self.rules.said if self.rules else NOTHING_SAID
         except Unanswered as reason:
             self.give_up(reason)
 
     def give_up(self, reason: Unanswered) -> None:
         self.close()
+        self.said = None
         note(f"ignored files of {self.place.root} are listed too, since git does not answer: {reason}")
 
     def leave_out(self, rules: Rules) -> None:
@@ -60,8 +66,9 @@ class Ignored:
             self.close()
             return
         parts = [["type", "d"], one_of(rules.lines)]
-        if not self.options.all:
-            parts.append(["not", any_of(left_out_terms(self.place, argparse.Namespace(all=False, exclude=[])))])
+        left_out = left_out_names(self.place, self.options)
+        if left_out:
+            parts.append(["not", any_of(terms_of_left_out(self.place, left_out))])
         names: List[str] = self.ask({"expression": self.within(parts), "fields": ["name"]})["files"]
         for name, is_ignored in zip(names, rules.judged([(name, False) for name in names])):
             if is_ignored and rules.is_tracked(name):
@@ -104,6 +111,26 @@ class Ignored:
             return files
         return [file for file in files if name_of(file) not in ignored]
 
+    def told_by_rules(self, before: Said, files: List[Any]) -> List[Any]:
+        """Of all files those about which the rules said otherwise before: what they no longer leave out came, and what
+        they leave out now went."""
+        try:
+            were = self.ignored_by(before, [file["name"] for file in files]) if any(before) else set()
+        except Unanswered:
+            return []
+        are_kept = {name_of(file) for file in self.kept(files)}
+        came = [{**file, "exists": True, "new": True} for file in files if file["name"] in were & are_kept]
+        return came + [{**file, "exists": False, "new": False} for file in files if file["name"] not in were | are_kept]
+
+    def ignored_by(self, said: Said, names: List[str]) -> Set[str]:
+        """The names that rules ignored when they said this."""
+        past = PastRules(self.ask, self.place.root, top_of(self.place.root), said)
+        try:
+            judged = zip(names, past.judged([(name, False) for name in names]))
+            return {name for name, is_ignored in judged if is_ignored and not past.is_tracked(name)}
+        finally:
+            past.close()
+
     def is_stale(self) -> bool:
         """Whether files of git changed since it was asked: an index, or what it ignores apart from the tree."""
         return self.rules is not None and self.rules.state() != self.rules.seen
@@ -122,7 +149,7 @@ class Ignored:
 
 
 def name_of(file: Any) -> str:
-    return file["name"] if isinstance(file, dict) else file
+    return str(file["name"] if isinstance(file, dict) else file)
 
 
 def is_gone_directory(file: Any) -> bool:

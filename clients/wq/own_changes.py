@@ -10,29 +10,31 @@ ENOUGH, SHOWN = 3, 3
 
 
 class OwnChanges:
-    """The files that the last runs changed."""
+    """The files for which the last runs began, and which the run before each may have changed."""
 
     def __init__(self) -> None:
         self.runs: List[Set[str]] = []
         self.is_told = False
 
-    def add(self, names: Set[str], is_soon: bool) -> Set[str]:
-        """A run begins, perhaps soon after the last one ended, which changed these files that it is run for. Gives once
-        those that each of the last runs changed; if they are others each time, those of the last."""
-        self.runs = [*self.runs, names][-ENOUGH:] if names and is_soon else []
-        if self.is_told or len(self.runs) < ENOUGH:
-            return set()
-        self.is_told = True
-        return set.intersection(*self.runs) or names
+    def add(self, names: Set[str], is_own: bool) -> Set[str]:
+        """A run begins for changes of these files alone, perhaps of the last run's own. Gives once those that began
+        each of the last runs."""
+        self.runs = [*self.runs, names][-ENOUGH:] if names and is_own else []
+        found = set.intersection(*self.runs) if len(self.runs) == ENOUGH and not self.is_told else set()
+        self.is_told = self.is_told or bool(found)
+        return found
 
 
-def sentence(command: str, names: List[str], fronts: List[str]) -> str:
-    """Says that a command causes its own runs, and how that ends."""
+def sentence(command: str, names: List[str], fronts: List[str], pause: float) -> str:
+    """Says that a command may cause its own runs, how that ends and at which cost, and what the pause is from now on,
+    in seconds."""
     shown = ", ".join(names[:SHOWN]) + (f" and {len(names) - SHOWN:,} more" if len(names) > SHOWN else "")
     globs = sorted({glob_of(name, fronts) for name in names})
     options = " ".join(f"--exclude {shlex.quote(glob)}" for glob in globs) if len(globs) <= SHOWN else ""
-    hint = f"{options}, or --no-self," if options else "--no-self"
-    return f"each run of {command} changes {shown}, which causes the next one; {hint} leaves that out"
+    no_self = "--no-self leaves out all that changes during a run, also what you save"
+    hints = f"{options} leaves that out; {no_self}" if options else no_self
+    front = f"each run of {command} may change {shown}, and so cause the next one; {hints}"
+    return f"{front}; the pause before a run is {1000 * pause:g} ms from now on"
 
 
 def glob_of(name: str, fronts: List[str]) -> str:

@@ -7,8 +7,18 @@ from typing import Any, Callable, Dict, List, Optional, Set, Tuple
 
 from wqclient.root_notes import MOMENT, STAYS, WINDOW
 
+from .answering import require_answers
 from .braces import all_expanded, has_braces
-from .globs import any_of, expression_of, glob_term, is_left_out, user_expression
+from .globs import (
+    any_of,
+    expression_of,
+    glob_term,
+    is_executable_meant,
+    is_left_out,
+    left_out_names,
+    user_expression,
+)
+from .ignore_rules import Said
 from .ignored import Ignored, name_of
 from .open_roots import OpenRoots
 from .roots import Place, front_of, is_directory, is_pattern, place_of, real_path, require_utf8
@@ -16,6 +26,15 @@ from .server import Server, Value
 from .trouble import WrongWords
 
 FIRST = "."
+
+
+class UnknownWord(WrongWords):
+    """A word names nothing that is there."""
+
+    def __init__(self, word: str, more: str = "") -> None:
+        part = "" if "/" in word else f"'*{word}*' for names that contain it, or "
+        super().__init__(f"{word} is no directory here; write {part}'./{word}' for a file of that name{more}")
+        self.word = word
 
 
 class Places:
@@ -103,11 +122,32 @@ class Places:
         directory it is."""
         place = self.places[number]
         files = self.ignored[number].kept(found["files"])
-        if getattr(self.options, "program", None) is not None and not self.options.all:
-            files = [file for file in files if not is_left_out(place.rest(name_of(file)))]
+        if getattr(self.options, "program", None) is not None:
+            files = [
+                file
+                for file in files
+                if not is_left_out(place.rest(name_of(file)), left_out_names(place, self.options))
+            ]
+        if is_executable_meant(self.options):
+            files = [file for file in files if is_executable(file, place.root)]
         found["files"] = [renamed(file, place.shown(name_of(file))) for file in files]
         found.update(root=place.root, below=place.below)
         return found
+
+    def told_by_rules(
+        self, number: int, before: Optional[Said], fields: List[str], since: Optional[str] = None
+    ) -> List[Any]:
+        """The files that rules of git shut in or out since they said something else, as people are shown them. Nothing
+        if it is not known what they said. A file that came since a clock was not told, so it does not go."""
+        place, ignored = self.places[number], self.ignored[number]
+        if before is None or ignored.said is None or before == ignored.said:
+            return []
+        query = {"expression": self.expressions[number], "fields": fields}
+        files = ignored.told_by_rules(before, self.ask(place, query)["files"])
+        later = self.ask(place, {**query, "since": since})["files"] if since else []
+        new = {file["name"] for file in later if file["new"]}
+        files = [file for file in files if file["exists"] or file["name"] not in new]
+        return [renamed(file, place.shown(file["name"])) for file in files]
 
     def require_right(self) -> None:
         """Asks about the expression that a person wrote, alone: so its error has a place in what was written."""
@@ -128,10 +168,8 @@ class Places:
                 if os.path.isabs(word):
                     raise WrongWords(f"{word} is no directory here")
                 if os.path.lexists(word):
-                    raise WrongWords(
-                        f"{word} is a file here, and names are looked for below " f"{', '.join(self.directories)}"
-                    )
-                raise WrongWords(f"{word} is no directory here; write './{word}' for a file of that name")
+                    raise WrongWords(f"{word} is a file here, and not below {', '.join(self.directories)}")
+                raise UnknownWord(word)
 
     def is_known(self, word: str) -> bool:
         if any(os.path.lexists(os.path.join(place.path(), word.lstrip("/"))) for place in self.places):
@@ -149,6 +187,7 @@ def directories_and_globs(words: List[str]) -> Tuple[List[str], List[str]]:
     """The directories among the words, the current one if there is none, and the globs."""
     directories: List[str] = []
     globs: List[str] = []
+    require_answers([FIRST, *words])
     for word in words:
         require_utf8(word, "a word of the command line")
         if is_directory(word):
@@ -162,6 +201,12 @@ def directories_and_globs(words: List[str]) -> Tuple[List[str], List[str]]:
             raise WrongWords(f"{word} is no directory here, and no name below a directory has '..' in it")
         globs.append(word)
     return directories or [FIRST], globs
+
+
+def is_executable(file: Any, root: str) -> bool:
+    """Whether this user may run a file. One that is gone is told as it was asked about."""
+    is_gone = isinstance(file, dict) and not file.get("exists", True)
+    return is_gone or os.access(os.path.join(root, name_of(file)), os.X_OK)
 
 
 def renamed(file: Any, name: str) -> Any:

@@ -62,7 +62,7 @@ class Questions:
         command = [*front, {**asked.needed, key: value, **asked.refused}]
         if self.left < 0 or len(json_of(command)) > MAX_LINE:
             raise NoAnswer
-        found = self.look(*command).get("error", "")
+        found = str(self.look(*command).get("error", ""))
         if not OF_OBJECTS.match(found):
             raise NoAnswer
         return "" if found.startswith(asked.error) else found

@@ -7,6 +7,7 @@ import sys
 from .changes import FIELDS
 from .commands_run import Command
 from .home import Home
+from .other_words import WAYS as OTHERS
 from .runner import IGNORE, RESTART, SIGNAL, WAIT, WAYS, Manner, Runner
 from .terminal import is_terminal, say
 from .trouble import WrongWords
@@ -18,22 +19,20 @@ KEYS = "; Enter runs it again, q ends, c clears"
 def run(options: argparse.Namespace, home: Home) -> int:
     if not options.command:
         raise WrongWords("run takes `--` and a command after it, such as: wq run '*.c' -- make")
-    for name in ("quiet", "delay"):
-        if getattr(options, name) < 0:
-            raise WrongWords(f"--{name} takes a number of milliseconds from 0 on")
     manner = manner_of(options)
     is_alone = manner.on_busy in (RESTART, SIGNAL)
     command = Command(options.command, options.stdin, options.print0, is_alone, options.shell)
     gap = f"{command.name} runs once for what changed between"
     with Window(home, options, gap, command.takes_names, [*FIELDS, "mtime_ms"]) as window:
-        if not options.once or options.postpone:
+        if not options.quiet and (not options.once or options.postpone):
             say(window.words() + (KEYS if is_terminal(sys.stdin) else ""))
         return Runner(window, command, manner, options).loop()
 
 
 def manner_of(options: argparse.Namespace) -> Manner:
     """How a change counts while the command runs."""
-    on_busy = options.on_busy or (RESTART if options.restart else WAIT)
+    given = options.on_busy or (RESTART if options.restart else WAIT)
+    on_busy = OTHERS.get(given, given)
     if on_busy not in WAYS:
         raise WrongWords(f"--on-busy takes {', '.join(WAYS[:-1])} or {WAYS[-1]}, and not {on_busy}")
     if options.restart and on_busy != RESTART:

@@ -1,6 +1,7 @@
 """The runs of `wq run`, one at a time: when one begins, what a change does to it, and how it ends."""
 
 import argparse
+import contextlib
 import os
 import select
 import signal
@@ -9,7 +10,7 @@ import time
 from typing import Dict, List, NamedTuple, Optional
 
 from .changes import File, counted
-from .commands_run import Command, Run, Unrunnable, status_words
+from .commands_run import GRACE, Command, Run, Unrunnable, status_words
 from .keys import Keys
 from .names_handed import variables
 from .notifying import notify
@@ -21,10 +22,10 @@ from .window import Window
 
 # The ways in which a change may count while the command runs.
 WAIT, RESTART, IGNORE, SIGNAL = WAYS = ("wait", "restart", "ignore", "signal")
-# A run that is to end gets a signal, and SIGKILL after this time, in seconds.
-GRACE = 5.0
 # A run that begins so soon after the last one, and that much after a scan, may be caused by it, in seconds.
 SOON = 1.0
+# Runs that cause each other have at least this pause, in seconds.
+LEAST_PAUSE = 0.1
 # File systems note times by a clock that may be so much behind, in milliseconds.
 BEHIND = 10
 SIGNALS = {signal.SIGHUP, signal.SIGINT, signal.SIGTERM}
@@ -49,9 +50,10 @@ class Runner:
         self.manner = manner
         self.options = options
         self.run: Optional[Run] = None
-        self.pending = Pending(options.quiet / 1000, options.delay / 1000)
+        self.pending = Pending(options.debounce / 1000, options.delay / 1000)
         self.own = OwnChanges()
         self.keys = Keys()
+        self.directory = os.getcwd()
         # The names of the last run, and when it began and ended by the clock of the system, in milliseconds.
         self.last_names: Dict[str, None] = {}
         self.began_ms = self.ended_ms = 0.0
@@ -168,6 +170,9 @@ class Runner:
                 raise Trouble("no file matches", status=NOTHING)
             return
         self.tell_of_own(changed)
+        # The directory may have been made anew since.
+        with contextlib.suppress(OSError):
+            os.chdir(self.directory)
         if self.options.clear and is_terminal(sys.stdout):
             write(CLEAR)
         self.keys.give()
@@ -186,13 +191,18 @@ class Runner:
             signal.pthread_sigmask(signal.SIG_SETMASK, before)
 
     def tell_of_own(self, changed: Dict[str, Optional[int]]) -> None:
-        """Says once that the command causes its own runs, if it does."""
-        names = {name for name, time_ms in changed.items() if time_ms is not None and self.is_of_run(time_ms)}
+        """Says once that the command may cause its own runs, and has them begin later. A change that acts on a run that
+        goes on is no such cause."""
+        if self.manner.on_busy in (RESTART, SIGNAL):
+            return
+        times = {name: time_ms for name, time_ms in changed.items() if time_ms is not None}
+        is_of_run = all(map(self.is_of_run, times.values()))
         latest = SOON + self.pending.quiet + self.pending.delay + self.window.pace()
-        found = self.own.add(names, time.monotonic() - self.ended_at <= latest)
+        found = self.own.add(set(times), is_of_run and time.monotonic() - self.ended_at <= latest)
         if found:
+            self.pending.quiet = max(2 * self.pending.quiet, LEAST_PAUSE)
             fronts = [place.front for place in self.window.places.places]
-            say(sentence(self.command.name, sorted(found), fronts), "yellow")
+            say(sentence(self.command.name, sorted(found), fronts, self.pending.quiet), "yellow")
 
     def is_of_run(self, time_ms: int) -> bool:
         """Whether a time of a file is one while the last run went on."""
@@ -212,7 +222,8 @@ class Runner:
         self.keys.take()
         self.ended_at, self.ended_ms = time.monotonic(), time.time() * 1000
         text = f"{self.command.name} {status_words(ended.fault)}"
-        say(text, "green" if ended.fault == 0 else "red")
+        if not self.options.quiet:
+            say(text, "green" if ended.fault == 0 else "red")
         if self.options.notify:
             notify(text)
         if self.manner.leaves_out:

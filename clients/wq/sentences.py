@@ -132,4 +132,7 @@ GROUPS: Dict[str, Group] = {
 # The names of terms that have terms in them. A head that is no text may be looked for in it.
 GROUP_NAMES = tuple(GROUPS)
 # Each term, with the words for its arguments.
-TERMS: Dict[str, str] = {name: term.takes for table in (PLAIN, GROUPS) for name, term in table.items()}
+TERMS: Dict[str, str] = {
+    **{name: term.takes for name, term in PLAIN.items()},
+    **{name: term.takes for name, term in GROUPS.items()},
+}

@@ -7,6 +7,7 @@ import time
 from typing import Any, Dict, Iterator, List, Optional
 
 from wqclient.client import Client, json_of
+from wqclient.files import is_gone
 from wqclient.lines import Ended
 from wqclient.root_notes import MOMENT, STAYS, Notes
 from wqclient.sockets import default_sockname
@@ -44,14 +45,15 @@ class Server:
 
     def __init__(self, home: Home, starts: bool = True, tells: bool = True) -> None:
         self.sockname = sockname()
-        self.client = self.connected()
+        client = self.connected()
         # Whether this call started it.
         self.is_own = False
-        if self.client is None and starts:
+        if client is None and starts:
             self.is_own = home.start(self.sockname, tells=tells)
-            self.client = self.connected()
-        if self.client is None:
+            client = self.connected()
+        if client is None:
             raise Trouble(f"no server listens on {self.sockname}; `wq start` starts one", status=NOTHING)
+        self.client: Client = client
         self.peer = self.client.peer()
         self.notes = Notes(self.sockname, self.peer.process)
         if unproved.is_noted(self.sockname, self.peer.process):
@@ -68,7 +70,8 @@ class Server:
     def reply(self, command: Any, crawls: str = "") -> Value:
         """The reply to a command, which may be an error. If a first crawl comes before it, a person is told how long it
         takes."""
-        return json.loads(self.line(json_of(command), crawls))
+        found: Value = json.loads(self.line(json_of(command), crawls))
+        return found
 
     def line(self, line: bytes, crawls: str = "") -> bytes:
         """The line that is replied to a line. Lists of subscriptions are kept."""
@@ -144,7 +147,8 @@ class Server:
                         return {}
                     self.client.receive()
                 elif b'"unilateral":true' not in line:
-                    return json.loads(line)
+                    found: Value = json.loads(line)
+                    return found
         except (Ended, OSError):
             return {}
 
@@ -156,16 +160,16 @@ class Server:
             return {}
 
     def roots(self) -> List[str]:
-        return self.ask("watch-list")["roots"]
+        return [str(root) for root in self.ask("watch-list")["roots"]]
 
     def watch(self, root: str, watched: List[str], purpose: str = STAYS) -> Value:
         """Watches a root, and gives the keys with which a query knows all that there was when this was called. A root
-        that was not watched before was just listed, so nothing is crawled for the query. If it is not to stay, and no
-        more roots may be watched, another one that need not stay is dropped for it."""
+        that was not watched before was just listed, so nothing is crawled for the query. If no more roots may be
+        watched, another one that need not stay is dropped for it."""
         is_new = root not in watched
         command, crawls = ["watch", root], root if is_new else ""
         found = self.reply(command, crawls)
-        while purpose != STAYS and found.get("error", "").startswith(TOO_MANY_ROOTS) and self.drops_one():
+        while found.get("error", "").startswith(TOO_MANY_ROOTS) and self.drops_one():
             found = self.reply(command, crawls)
         self.checked(command, found)
         if is_new or purpose != MOMENT or len(watched) >= MANY_ROOTS:
@@ -173,10 +177,11 @@ class Server:
         return {"sync_timeout": 0} if is_new else {}
 
     def drops_one(self) -> bool:
-        """Whether a root could be dropped: the one that was least lately asked of those that need not stay."""
+        """Whether a root could be dropped, so that another one may be watched."""
         root = self.notes.drop_one(self.roots(), self.look)
         if root is not None:
-            say(f"{root} was asked about least lately, and is watched no longer: 16 roots may be", "yellow")
+            why = "is gone" if is_gone(root) else "was asked about least lately"
+            say(f"{root} {why}, and is watched no longer: 16 roots may be", "yellow")
         return root is not None
 
     def give_back(self, root: str, is_hurried: bool = False) -> None:

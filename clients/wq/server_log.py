@@ -6,7 +6,7 @@ import json
 import os
 import re
 import time
-from typing import Dict, Iterator, NamedTuple, Tuple
+from typing import Dict, Iterable, Iterator, NamedTuple, Tuple
 
 from wqclient.files import opened
 from wqclient.kept import TRIGGERS, keep, kept, run_of
@@ -14,6 +14,7 @@ from wqclient.kept import TRIGGERS, keep, kept, run_of
 from . import journal
 from .processes import is_of_unit
 from .server import Server
+from .terminal import say
 
 # How many bytes of a long log are read, the last ones.
 MOST = 4 * 1024 * 1024
@@ -29,15 +30,15 @@ NOT_FOUND = "with status 127"
 class Failures(NamedTuple):
     """The failures of a trigger since it was registered: how often its command failed, and what was last said of it."""
 
-    count: int = 0
+    times: int = 0
     last: str = ""
 
     def sentence(self) -> str:
         if not self.last:
             return ""
         hint = ", which shells say of a command that is not there" if self.last.endswith(NOT_FOUND) else ""
-        times = f"{self.count:,} time{'' if self.count == 1 else 's'}"
-        return f"last failure: {self.last}{hint}" + (f"; failed {times} since it was registered" if self.count else "")
+        times = f"{self.times:,} time{'' if self.times == 1 else 's'}"
+        return f"last failure: {self.last}{hint}" + (f"; failed {times} since it was registered" if self.times else "")
 
 
 class Log:
@@ -83,9 +84,9 @@ class Log:
             return
         before = self.triggers.get((root, name), Failures())
         if ENDED.fullmatch(said):
-            self.triggers[root, name] = Failures(before.count + 1, said)
+            self.triggers[root, name] = Failures(before.times + 1, said)
         elif said.startswith(UNSTARTED):
-            self.triggers[root, name] = Failures(before.count, said)
+            self.triggers[root, name] = Failures(before.times, said)
 
     def failures(self, root: str, name: str) -> Failures:
         return self.triggers.get((root, name), Failures())
@@ -96,6 +97,19 @@ class Log:
             return self.path
         other = f"standard error of process {self.server.peer.process}, which is no file"
         return journal.SHOW if self.is_in_journal else other
+
+
+def tell_left_out(server: Server, roots: Iterable[str]) -> None:
+    """Says how many names and directories of roots the server left out, if its log is a file."""
+    if not path_of(server.peer.process):
+        return
+    left_out = Log(server).left_out
+    for root in roots:
+        names, directories = left_out.get(root, (0, 0))
+        if names:
+            say(f"{root}: names that are not UTF-8 are left out: {names:,}", "yellow")
+        if directories:
+            say(f"{root}: directories that cannot be read are left out: {directories:,}", "yellow")
 
 
 def quoted_of(line: str, separator: str = ": ") -> Tuple[str, str]:

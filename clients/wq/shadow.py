@@ -3,7 +3,7 @@ after its own, since git reads no .ignore."""
 
 import os
 import stat
-from typing import List
+from typing import Dict, List, Optional
 
 from wqclient.files import bytes_of
 
@@ -43,11 +43,13 @@ def no_room(error: OSError) -> Unanswered:
 class Shadow:
     """The work tree, which is gone when this command ends."""
 
-    def __init__(self, top: str, directories: List[str]) -> None:
-        """The directories are those with rules, by their whole paths."""
+    def __init__(self, top: str, directories: List[str], texts: Optional[Dict[str, str]] = None) -> None:
+        """The directories are those with rules, by their whole paths. Files that are not those of now have these
+        texts."""
         import tempfile  # it is slow to read, and seldom needed
 
         self.top = top
+        self.texts = texts
         self.room = tempfile.TemporaryDirectory(prefix="wq-")
         try:
             for directory in directories:
@@ -61,11 +63,14 @@ class Shadow:
 
     def write(self, directory: str) -> None:
         """Writes the rules of a directory. One with another directory in their place has none."""
-        own = os.path.join(directory, GITIGNORE)
-        if is_directory(own):
+        own, other = os.path.join(directory, GITIGNORE), os.path.join(directory, IGNORE)
+        if self.texts is not None:
+            texts = [self.texts.get(own, ""), self.texts.get(other, "")]
+        elif is_directory(own):
             self.add(own)
             return
-        texts = ["" if os.path.islink(own) else text_of(own), text_of(os.path.join(directory, IGNORE))]
+        else:
+            texts = ["" if os.path.islink(own) else text_of(own), text_of(other)]
         with open(
             os.path.join(self.path(directory), GITIGNORE), "w", encoding="utf-8", errors="surrogateescape", newline="\n"
         ) as stream:

@@ -1,99 +1,173 @@
-"""`wq since`: what changed since this was last asked, perhaps under a name. That is a named cursor of the server."""
+"""`wq since`: what changed since this was last asked, perhaps under a name. The clock of the last call is kept, and
+moves only when what changed was read, or when the command ended well that ran for it."""
 
 import argparse
+import base64
+import contextlib
 import hashlib
 import json
 import shlex
 import time
-from typing import Any, Dict, List, Optional, Tuple
+import zlib
+from typing import Any, Dict, Iterator, List, NamedTuple, Optional
 
-from wqclient.kept import CLOCKS, keep, kept
+from wqclient.kept import CLOCKS, keep, kept, path_of, room
+from wqclient.root_notes import SINCE
+from wqclient.starting import Unstarted, alone
 
-from .braces import has_braces
 from .changes import FIELDS, counted, print_changes
+from .commands_run import Command, run_once
 from .globs import note, restrictions
 from .home import Home
-from .places import Places
-from .roots import Place, is_directory, is_pattern, require_utf8
+from .ignore_rules import Said
+from .names_handed import variables
+from .places import Places, UnknownWord, directories_and_globs
+from .roots import Place, real_path, require_utf8
 from .server import Value, reached
-from .terminal import say
-from .trouble import FOUND, NOTHING, WrongWords
+from .server_log import tell_left_out
+from .terminal import require_read, say
+from .trouble import FOUND, NOTHING, Trouble, WrongWords
 
 LONGEST_NAME = 255
+# So many letters of rules are kept beside a clock.
+MOST_OF_RULES = 60_000
+
+
+class Asked(NamedTuple):
+    """What changed below a directory, and what is kept for the next call under a key: the clock, and the rules."""
+
+    place: Place
+    key: str
+    kept: Dict[str, str]
+    found: Value
 
 
 def since(options: argparse.Namespace, home: Home) -> int:
-    name, words = name_and_words(options.words)
-    with reached(home) as server, Places(server, words, options) as places:
-        lists = [list_since(places, number, name) for number in range(len(places.places))]
-    print_changes(lists, options)
-    return FOUND if any(found["files"] for found in lists) else NOTHING
-
-
-def name_and_words(words: List[str]) -> Tuple[str, List[str]]:
-    """The name, which is empty if none is given, and the other words. Without a name the first word is a glob."""
-    if not words or (is_pattern(words[0]) or has_braces(words[0])) and not is_directory(words[0]):
-        return "", words
-    if is_directory(words[0]):
-        raise WrongWords(f"{words[0]} is a directory, and a name comes before it: wq since NAME {shlex.join(words)}")
-    require_name(words[0])
-    return words[0], words[1:]
-
-
-def list_since(places: Places, number: int, name: str) -> Value:
-    """What changed in a directory. The name moves, unless the user only peeks."""
-    place, sockname, is_peek = places.places[number], places.server.sockname, places.options.peek
-    cursor = cursor_of(name, place, places)
-    before = clock_kept(sockname, place, cursor)
-    bound = before if is_peek else f"n:{cursor}"
-    query: Dict[str, Any] = {"fields": FIELDS, "expression": places.expression(number)}
-    found = places.ask(place, query if bound is None else {**query, "since": bound})
-    if found["is_fresh_instance"]:
-        note(f"{why_all(name, before, found['clock'], place)}, so all files are listed")
-    if not is_peek:
-        keep_clock(found["clock"], sockname, place, cursor)
-    found["files"] = counted(found["files"], places.options)
-    return places.told(number, found)
-
-
-def cursor_of(name: str, place: Place, places: Places) -> str:
-    """The name of the server's cursor. Each question has one of its own: a cursor moves past what a list left out."""
-    directories = sorted({other.path() for other in places.places})
-    question = json.dumps([name, place.below, directories, restrictions(places.globs, places.options)])
-    return f"wq-{hashlib.sha256(question.encode()).hexdigest()[:32]}"
+    require_name(options.name)
+    with reached(home) as server, one_after_other(server.sockname, options):
+        try:
+            places = Places(server, options.words, options, SINCE)
+        except UnknownWord as error:
+            hint = f"; for a name write: wq since -n {shlex.join(options.words)}"
+            raise UnknownWord(error.word, "" if options.name or error.word != options.words[0] else hint) from None
+        with places:
+            asked = [ask(places, number) for number in range(len(places.places))]
+            tell_left_out(server, places.roots())
+            fault = tell(asked, options)
+            if not options.peek and not fault:
+                for one in asked:
+                    keep_clock(one, server.sockname)
+    return fault or (FOUND if any(one.found["files"] for one in asked) else NOTHING)
 
 
 def require_name(name: str) -> None:
     require_utf8(name, "the name")
-    if not 1 <= len(name.encode()) <= LONGEST_NAME:
+    if len(name.encode()) > LONGEST_NAME:
         raise WrongWords(f"the name has {len(name.encode()):,} bytes, and 1 to {LONGEST_NAME} may be")
 
 
-def clock_kept(sockname: str, place: Place, name: str) -> Optional[str]:
-    """The clock that the last call under this name wrote."""
-    clock = kept(CLOCKS, sockname, place.root, name).get("clock")
+@contextlib.contextmanager
+def one_after_other(sockname: str, options: argparse.Namespace) -> Iterator[None]:
+    """Of two calls that ask the same at once, one is told after the other."""
+    directories, globs = directories_and_globs(options.words)
+    question = json.dumps([options.name, sorted(map(real_path, directories)), restrictions(globs, options)])
+    with contextlib.ExitStack() as stack:
+        if not options.peek:
+            # A lock that cannot be made is no reason to tell nothing: the clock that cannot be kept is one to say so.
+            with contextlib.suppress(OSError, Unstarted):
+                room(CLOCKS)
+                waits = "waiting for another `wq since` that asks the same"
+                stack.enter_context(alone(path_of(CLOCKS, sockname, question), lambda: say(waits)))
+        yield
+
+
+def ask(places: Places, number: int) -> Asked:
+    """What changed below a directory since the clock that was kept."""
+    place, sockname = places.places[number], places.server.sockname
+    key = key_of(place, places)
+    note_of = kept(CLOCKS, sockname, place.root, key)
+    before = clock_of(note_of)
+    query: Dict[str, Any] = {"fields": FIELDS, "expression": places.expression(number)}
+    found = places.ask(place, query if before is None else {**query, "since": before})
+    clock = found["clock"]
+    if found["is_fresh_instance"]:
+        note(f"{why_all(places.options.name, before, clock, place)}: listing everything")
+    found = places.told(number, found)
+    if not found["is_fresh_instance"]:
+        by_rules = {file["name"]: file for file in places.told_by_rules(number, rules_kept(note_of), FIELDS, before)}
+        found["files"] = [*(file for file in found["files"] if file["name"] not in by_rules), *by_rules.values()]
+    found["files"] = counted(found["files"], places.options)
+    return Asked(place, key, {"clock": clock, **rules_to_keep(places.ignored[number].said)}, found)
+
+
+def key_of(place: Place, places: Places) -> str:
+    """The name of a clock. Each question has one of its own, since a clock moves past what a list left out."""
+    directories = sorted({other.path() for other in places.places})
+    question = [places.options.name, place.below, directories, restrictions(places.globs, places.options)]
+    return hashlib.sha256(json.dumps(question).encode()).hexdigest()[:32]
+
+
+def tell(asked: List[Asked], options: argparse.Namespace) -> int:
+    """Prints what changed, until that was read; or runs a command for it, and gives its status."""
+    lists = [one.found for one in asked]
+    if options.each and any(found["files"] for found in lists):
+        return run_for(asked, options.each)
+    if not options.each and not options.quiet:
+        print_changes(lists, options)
+        if not options.peek:
+            require_read()
+    return 0
+
+
+def run_for(asked: List[Asked], words: List[str]) -> int:
+    command = Command(words, on_input=False, with_zeros=False, is_alone=False, by_shell=False)
+    files = [file for one in asked for file in one.found["files"]]
+    names = [file["name"] for file in files if file["exists"]]
+    if command.takes_names and not names:
+        return 0
+    added = variables(asked[0].place.root, asked[0].kept["clock"], [file["name"] for file in files])
+    return run_once(command, names, added)
+
+
+def clock_of(kept_before: Dict[str, Any]) -> Optional[str]:
+    """The clock up to which the last call told what changed."""
+    clock = kept_before.get("clock")
     return clock if isinstance(clock, str) and clock.count(":") == 4 else None
 
 
-def keep_clock(clock: str, sockname: str, place: Place, name: str) -> None:
+def rules_to_keep(said: Optional[Said]) -> Dict[str, str]:
+    """What the rules of git say, for the next call, unless that is too long."""
+    packed = base64.b64encode(zlib.compress(json.dumps(said).encode())).decode()
+    return {"rules": packed} if said is not None and len(packed) <= MOST_OF_RULES else {}
+
+
+def rules_kept(kept_before: Dict[str, Any]) -> Optional[Said]:
+    """What the rules of git said at the last call, if that was kept."""
     try:
-        keep({"clock": clock}, CLOCKS, sockname, place.root, name)
+        return Said(*json.loads(zlib.decompress(base64.b64decode(kept_before["rules"]))))
+    except (KeyError, TypeError, ValueError, zlib.error):
+        return None
+
+
+def keep_clock(asked: Asked, sockname: str) -> None:
+    try:
+        keep(asked.kept, CLOCKS, sockname, asked.place.root, asked.key)
     except OSError as error:
-        say(f"{error.filename}: {error.strerror}; so --peek does not know what this call told", "yellow")
+        where = error.filename or path_of(CLOCKS, sockname, asked.place.root, asked.key)
+        raise Trouble(f"{where}: {error.strerror}; so the next call tells this again") from None
 
 
 def why_all(name: str, before: Optional[str], now: str, place: Place) -> str:
-    """Why the server knows nothing of a name: by the clock of the last call, and the one of this."""
+    """Why the server does not know the clock of the last call, by that clock and the one of this call."""
     if before is None:
-        return f"this was not asked {f'as {name}' if name else 'here'} before"
+        return f"first since {f'as {name}' if name else 'here'}"
     _, start, process, root, _ = before.split(":")
     _, other_start, other_process, other_root, _ = now.split(":")
     if (start, process) != (other_start, other_process):
-        last = f"this was last asked of the one of {time_of(start)}"
-        return f"the server was restarted since: it is of {time_of(other_start)}, and {last}"
+        return f"the server was restarted at {time_of(other_start)}, after the last call"
     if root != other_root:
-        return f"{place.root} was unwatched since, and is watched anew"
-    return f"the server no longer knows {name or 'when this was asked'}"
+        return f"{place.root} was unwatched since the last call"
+    return "the server no longer knows the last call"
 
 
 def time_of(second: str) -> str:

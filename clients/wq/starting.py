@@ -31,8 +31,12 @@ def start(home: "Home", sockname: str, words: Optional[List[str]], tells: bool =
 
 
 def begin_there(home: "Home", sockname: str, words: List[str]) -> None:
-    if home.is_built():
-        begin([home.wqd(), *words], sockname, environment(os.environ.get("WQD")))
+    named = os.environ.get("WQD")
+    if named and not home.is_clone:
+        begin([os.path.abspath(named), *words], sockname)
+        unproved.forget(sockname)
+    elif home.is_built():
+        begin([home.wqd(), *words], sockname, environment(named))
         unproved.forget(sockname)
     else:
         begin([home.wqd(), *words], sockname, environment(str(program(home.directory, say))))

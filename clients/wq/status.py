@@ -3,16 +3,18 @@
 import argparse
 import sys
 import time
-from typing import Any, Dict, Iterator, List, Optional
+from typing import Any, Dict, Iterator, List, Optional, Tuple
 
+from wqclient.client import Client
 from wqclient.harmless import harmless
 from wqclient.kept import BUDGETS, kept, run_of
 from wqclient.unit import RESTART
 
 from .home import Home
 from .processes import Facts, facts_of, is_of_unit
-from .server import Server, reached
+from .server import Server, Value, reached
 from .server_log import Failures, Log
+from .silence import LATE
 from .terminal import painted, show
 from .triggers import command_of
 from .trouble import FOUND
@@ -65,9 +67,7 @@ def process_facts(found: Facts) -> Dict[str, Any]:
 
 def root_facts(server: Server, root: str, log: Log) -> Dict[str, Any]:
     """The facts about a root: how long a crawl takes is measured by one."""
-    began = time.monotonic()
-    reply = server.reply(["clock", root, {"sync_timeout": 1}])
-    took = time.monotonic() - began
+    reply, took = scanned(server, root)
     if "error" in reply:
         return {"root": root, "error": reply["error"]}
     letters = server.look("query", root, {"fields": ["type"], "sync_timeout": 0}).get("files", [])
@@ -83,9 +83,20 @@ def root_facts(server: Server, root: str, log: Log) -> Dict[str, Any]:
     }
 
 
+def scanned(server: Server, root: str) -> Tuple[Value, float]:
+    """The clock of a root after a scan, and the seconds that it took. It has a connection of its own, since it may not
+    end."""
+    began = time.monotonic()
+    try:
+        with Client(server.sockname, LATE) as client:
+            return client.ask("clock", root, {"sync_timeout": 1}), time.monotonic() - began
+    except OSError:
+        return {"error": "its file system does not answer"}, 0.0
+
+
 def trigger_facts(trigger: Dict[str, Any], root: str, log: Log) -> Dict[str, Any]:
     failures = log.failures(root, trigger["name"])
-    return {**trigger, "failures": failures.count, "last_failure": failures.last}
+    return {**trigger, "failures": failures.times, "last_failure": failures.last}
 
 
 def changed_within(server: Server, root: str) -> Optional[int]:

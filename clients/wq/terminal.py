@@ -1,15 +1,27 @@
 """Writes names, colours at a terminal, and the time that a first crawl takes."""
 
+import array
+import fcntl
 import os
+import select
+import stat
 import sys
+import termios
 import time
 from typing import IO, Iterable, Optional
 
 from wqclient.harmless import harmless
 
+from .trouble import WrongWords
+
 COLOURS = {"red": "31", "green": "32", "yellow": "33", "blue": "34", "cyan": "36", "grey": "90"}
 OF_KINDS = {"d": "blue", "l": "cyan"}
 OF_MARKS = {"+": "green", "-": "red", "~": "yellow"}
+# So long, in seconds, a reader has to read what was written to a pipe.
+MOST_TO_READ = 1.0
+AUTO, ALWAYS, NEVER = WHENS = ("auto", "always", "never")
+# When there are colours, as the user said it for this call.
+_when = AUTO
 
 
 def say(text: str, colour: Optional[str] = None) -> None:
@@ -25,8 +37,26 @@ def is_terminal(stream: Optional[IO[str]]) -> bool:
     return stream is not None and stream.isatty()
 
 
+def set_colours(when: Optional[str]) -> None:
+    """Sets when there are colours, by the value of an option."""
+    global _when
+    if when is not None and when not in WHENS:
+        raise WrongWords(f"--color takes auto, always or never, and not {when}")
+    _when = when or AUTO
+
+
+def is_standard_terminal() -> bool:
+    return is_terminal(sys.stdout)
+
+
 def has_colours(stream: Optional[IO[str]]) -> bool:
-    return is_terminal(stream) and not os.environ.get("NO_COLOR") and os.environ.get("TERM") != "dumb"
+    if _when != AUTO:
+        return _when == ALWAYS
+    if os.environ.get("NO_COLOR"):
+        return False
+    if os.environ.get("CLICOLOR_FORCE", "0") != "0":
+        return True
+    return is_terminal(stream) and os.environ.get("TERM") != "dumb"
 
 
 def painted(text: str, colour: Optional[str], stream: Optional[IO[str]]) -> str:
@@ -38,16 +68,32 @@ def write(data: bytes) -> None:
     sys.stdout.buffer.flush()
 
 
+def require_read() -> None:
+    """Waits a moment until what was written to a pipe was read. A reader that went before that raises an error; one
+    that is in no hurry counts as one that reads."""
+    if not stat.S_ISFIFO(os.fstat(sys.stdout.fileno()).st_mode):
+        return
+    left, poll = array.array("i", [0]), select.poll()
+    poll.register(sys.stdout.fileno(), 0)
+    end = time.monotonic() + MOST_TO_READ
+    while time.monotonic() < end:
+        if poll.poll(0):
+            raise BrokenPipeError
+        fcntl.ioctl(sys.stdout.fileno(), termios.FIONREAD, left)
+        if not left[0]:
+            return
+        time.sleep(0.005)
+
+
 def show(lines: Iterable[str], ending: str = "\n") -> None:
     """Writes lines to standard output, in UTF-8 whatever the locale is."""
     write("".join(line + ending for line in lines).encode("utf-8", "surrogateescape"))
 
 
 def name_shown(name: str, colour: Optional[str], ending: str = "\n") -> str:
-    """A name as it is in the tree. At a terminal it has its colour, and escapes for what could do harm."""
-    if not is_terminal(sys.stdout):
-        return name
-    return painted(harmless(name), colour if ending == "\n" else None, sys.stdout)
+    """A name as it is in the tree, perhaps in its colour. At a terminal it has escapes for what could do harm."""
+    text = harmless(name) if is_terminal(sys.stdout) else name
+    return painted(text, colour if ending == "\n" else None, sys.stdout)
 
 
 class Progress:

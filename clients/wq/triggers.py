@@ -7,8 +7,9 @@ from typing import Any, Dict, Iterator, List, Tuple
 
 from .braces import has_braces
 from .commands_run import PLACE
-from .globs import expression_of
+from .globs import any_of, expression_of
 from .home import Home
+from .places import directories_and_globs
 from .roots import is_directory, is_pattern, place_of, require_utf8, root_to_unwatch
 from .server import Server, reached
 from .server_log import Log, note_registered
@@ -28,54 +29,64 @@ def trigger(options: argparse.Namespace, home: Home) -> int:
         require_utf8(word, "a word of the command line")
     if not options.command:
         raise WrongWords("trigger takes `--` and a command after it, such as: wq trigger build '*.c' -- make")
-    directory, name, globs = named(options.words, "trigger build '*.c' -- make")
-    require_files(globs, directory)
+    name, words = named(options.words, "trigger build '*.c' -- make")
+    command = command_asked(options)
+    with reached(home) as server:
+        watched = server.roots()
+        root, expression = asked_files(words, options, watched)
+        server.watch(root, watched)
+        asked = {"name": name, **command, **({} if expression == "true" else {"expression": expression})}
+        note_registered(server, root, name)
+        found = server.ask("trigger", root, asked)
+    say(f"trigger {name} of {root} is {found['disposition']}; its command runs there")
+    return FOUND
+
+
+def command_asked(options: argparse.Namespace) -> Dict[str, Any]:
+    """The keys of a trigger that say what is run, and how it is handed the names."""
     appends = options.command[-1] == PLACE
     command: List[str] = options.command[:-1] if appends else options.command
     if PLACE in command or not command:
         raise WrongWords("the names of files come last in the command of a trigger, so {} may be its last word alone")
-    with reached(home) as server:
-        watched = server.roots()
-        place = place_of(directory, watched)
-        server.watch(place.root, watched)
-        asked: Dict[str, Any] = {"name": name, "command": command}
-        expression = expression_of(place, globs, options)
-        if expression != "true":
-            asked["expression"] = expression
-        if appends:
-            asked["append_files"] = True
-            asked["command"] = [*WITH_NAMES, str(len(command)), *command]
-        if options.stdin:
-            asked["stdin"] = "NAME_PER_LINE"
-        note_registered(server, place.root, name)
-        found = server.ask("trigger", place.root, asked)
-    say(f"trigger {name} of {place.root} is {found['disposition']}; its command runs there")
-    return FOUND
+    asked: Dict[str, Any] = {"command": command}
+    if appends:
+        asked = {"append_files": True, "command": [*WITH_NAMES, str(len(command)), *command]}
+    return {**asked, "stdin": "NAME_PER_LINE"} if options.stdin else asked
 
 
-def named(words: List[str], example: str) -> Tuple[str, str, List[str]]:
-    """The directory, which is the current one if none comes before the name; the name; and the other words."""
-    if len(words) > 1 and is_directory(words[0]):
-        if is_pattern(words[1]):
-            raise WrongWords(f"{words[0]} is a directory, and the name of the trigger comes after it")
-        return words[0], words[1], words[2:]
-    if not words:
-        raise WrongWords(f"the name of the trigger is missing, such as in: wq {example}")
-    return ".", words[0], words[1:]
-
-
-def require_files(globs: List[str], directory: str) -> None:
-    """A word that is neither a directory nor a pattern is a file that is there. Else it is a mistake."""
+def asked_files(words: List[str], options: argparse.Namespace, watched: List[str]) -> Tuple[str, Any]:
+    """The root of a trigger, and the expression of its files."""
+    directories, globs = directories_and_globs(words)
     for word in globs:
-        if is_directory(os.path.join(directory, word)):
-            raise WrongWords(f"{word} is a directory; a trigger has one, which comes before its name")
-        if not (
-            is_pattern(word)
-            or has_braces(word)
-            or word.startswith("./")
-            or os.path.lexists(os.path.join(directory, word))
-        ):
-            raise WrongWords(f"{word} is no file here; write './{word}' for one that may come")
+        is_there = any(os.path.lexists(os.path.join(directory, word)) for directory in directories)
+        if not (is_pattern(word) or has_braces(word) or word.startswith("./") or is_there):
+            # Before 1.0 the directory came first.
+            first = options.words[0]
+            hint = (
+                f"; the name comes first: wq trigger {shlex.join([word, first])} -- .." if is_directory(first) else ""
+            )
+            raise WrongWords(f"{word} is no file here; write './{word}' for one that may come{hint}")
+    places = [place_of(directory, watched) for directory in directories]
+    roots = list(dict.fromkeys(place.root for place in places))
+    if len(roots) > 1:
+        raise WrongWords(f"a trigger is of one root, and these directories are of several: {', '.join(roots)}")
+    return roots[0], any_of([expression_of(place, globs, options) for place in places])
+
+
+def named(words: List[str], example: str) -> Tuple[str, List[str]]:
+    """The name, which comes first whatever is on disk, and the other words."""
+    command = example.split()[0]
+    if not words or is_pattern(words[0]):
+        raise WrongWords(f"the name of the trigger is missing, such as in: wq {example}")
+    if is_path(words[0]):
+        form = shlex.join([words[1], words[0], *words[2:]]) if len(words) > 1 else f"NAME {words[0]}"
+        raise WrongWords(f"the name of the trigger comes first: wq {command} {form}")
+    return words[0], words[1:]
+
+
+def is_path(word: str) -> bool:
+    """Whether a word can only be meant as a directory."""
+    return word in (".", "..") or word.startswith(("/", "./", "../")) or word.endswith("/")
 
 
 def root_of(server: Server, word: str) -> str:
@@ -117,12 +128,12 @@ def command_of(found: Dict[str, Any]) -> str:
 
 
 def untrigger(options: argparse.Namespace, home: Home) -> int:
-    directory, name, others = named(options.words, "untrigger build")
-    if others:
-        raise WrongWords(f"untrigger takes one name: {' '.join(others)}")
+    name, words = named(options.words, "untrigger build")
+    if len(words) > 1:
+        raise WrongWords(f"untrigger takes a name and a directory, and no further words: {' '.join(words[1:])}")
     require_utf8(name, "the name")
     with reached(home, starts=False) as server:
-        root = root_of(server, directory)
+        root = root_of(server, words[0] if words else ".")
         found = server.ask("trigger-del", root, name)
         if not found["deleted"]:
             names = [one["name"] for one in server.look("trigger-list", root).get("triggers", [])]

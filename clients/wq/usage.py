@@ -1,36 +1,41 @@
 """The page of `wq --help`."""
 
 USAGE = """\
-usage: wq COMMAND [OPTION..] [WORD..]
+usage: wq COMMAND [OPTION]... [WORD]...
        wq COMMAND --help
        wq --help | --version
 
-  find [DIR|GLOB..]                 names that match, one a line
-  since [NAME] [DIR|GLOB..]         what changed since this was last asked:
-                                    + came, - went, ~ changed
-  follow [DIR|GLOB..]               changes as they come, until you stop it
-  run [DIR|GLOB..] -- COMMAND..     runs a command now and after each change
-  status                            the server, its roots, triggers, programs
-  watch [DIR..]                     watches directories
-  unwatch [DIR..]                   gives their places back
-  roots                             the directories that are watched
-  trigger [DIR] NAME [GLOB..] -- COMMAND..
-                                    has the server run a command on changes
-  triggers [DIR]                    the triggers of a root
-  untrigger [DIR] NAME              takes a trigger out
-  ask LINE..                        lines of the protocol as they are; - reads
-                                    them from standard input
-  start, stop, restart              the server; a command that needs one
-                                    starts it
-  explain EXPRESSION                what an expression means, its program and
-                                    what that costs
+Files:
+  find [DIR|GLOB]...                print the names that match, one a line
+  since [-n NAME] [DIR|GLOB]...     print what changed since this was last
+                                    asked: + came, - went, ~ changed
 
-Each word that is a directory is a DIR, in any place; without one it is the
+Commands on change:
+  run [DIR|GLOB]... -- COMMAND...   run a command now and after each change
+  follow [DIR|GLOB]...              print changes as they come
+  wait [DIR|GLOB]...                wait for the first change, and print it
+  trigger NAME [DIR|GLOB]... -- COMMAND...
+                                    have the server run a command on changes
+  triggers [DIR]                    print the triggers of a root
+  untrigger NAME [DIR]              remove a trigger
+
+Server:
+  status                            print what the server does and costs
+  watch, unwatch [DIR]...           watch directories, or stop watching them
+  roots                             print the directories that are watched
+  start, stop, restart              a command that needs a server starts one
+  log [-f]                          print what the server said
+  sockname [--start]                print the path of its socket
+  doctor [DIR]                      say whether wqd is right for a directory
+  ask LINE...                       send lines of the protocol as they are
+  explain EXPRESSION                say what an expression means and costs
+
+A word that is a directory is a DIR, in any place; without one it is the
 current directory. The root that is watched is the nearest directory at or
 above it with .git, .hg or .watchmanconfig, else DIR. A GLOB without a slash
 is for the last part of a name, as '*.c'; one with a slash is for the whole
-name below DIR, as 'src/**/*.c'. .git, .hg, node_modules, target and what git
-ignores are left out unless you say --all.
+name below DIR, as 'src/**/*.c'. What git ignores is left out, and outside of
+git node_modules and target; .git and .hg always. -u lists everything.
 
 The status is 0, or 1 if nothing is found, 2 for wrong options or words, 3 for
 an error, 130 if you stop it. `wq COMMAND --help` has examples:

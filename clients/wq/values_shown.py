@@ -23,11 +23,11 @@ def json_shown(value: Any) -> str:
 
 
 def print_lists_as_json(lists: List[Dict[str, Any]], options: argparse.Namespace) -> None:
-    """Each list as an object on a line; with --count its number of files in place of them, with --lines each file."""
+    """Each list as an object on a line; with --count its number of files in place of them, with --jsonl each file."""
     if getattr(options, "count", False):
         counted = ({**found, "count": len(found["files"])} for found in lists)
         show(json_line({key: found[key] for key in sorted(found) if key != "files"}) for found in counted)
-    elif options.lines:
+    elif options.jsonl:
         show(json_line(file) for found in lists for file in found["files"])
     else:
         show(json_line({key: found[key] for key in sorted(found)}) for found in lists)

@@ -1,9 +1,10 @@
 """`wq watch`, `wq unwatch` and `wq roots`: which directories the server watches."""
 
 import argparse
+import os
 
 from .home import Home
-from .roots import place_of, require_utf8, root_to_unwatch
+from .roots import is_own_root, place_of, real_path, require_utf8, root_to_unwatch, set_own_root
 from .server import reached
 from .terminal import name_shown, say, show
 from .trouble import FOUND, NOTHING
@@ -17,6 +18,8 @@ def watch(options: argparse.Namespace, home: Home) -> int:
     with reached(home) as server:
         for word in options.words or ["."]:
             watched = server.roots()
+            if options.root:
+                set_own_root(real_path(word), True)
             root = place_of(word, watched).root
             server.watch(root, watched)
             show([name_shown(root, None)])
@@ -32,6 +35,9 @@ def unwatch(options: argparse.Namespace, home: Home) -> int:
         for word in options.words or ["."]:
             watched = server.roots()
             root = root_to_unwatch(word, watched)
+            for path in {os.path.abspath(word), os.path.realpath(word)}:
+                if is_own_root(path):
+                    set_own_root(path, False)
             if root is None:
                 say(f"{word} is not watched{'; watched are ' + ', '.join(watched) if watched else '; no root is'}")
                 status = NOTHING

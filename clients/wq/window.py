@@ -4,8 +4,9 @@ watched for them."""
 import argparse
 import select
 import time
-from typing import Callable, Dict, List, Optional, Sequence
+from typing import Callable, Dict, List, Optional, Sequence, Set
 
+from wqclient.files import is_gone
 from wqclient.kept import STOPS, kept, log_of, run_of
 from wqclient.lines import Ended
 from wqclient.root_notes import WINDOW
@@ -58,6 +59,7 @@ class Window:
         self.began = self.lost = 0.0
         self.ends_soon = 0
         self.has_told = False
+        self.gone: Set[str] = set()
         # The files that match, when another server was reached.
         self.fresh: Optional[List[File]] = None
         try:
@@ -95,7 +97,7 @@ class Window:
         are dropped."""
         query = {"expression": self.places.expression(number), "fields": self.fields, "since": self.clocks[number]}
         server.ask("subscribe", self.places.places[number].root, name_of(number), query)
-        keep_lists(server, lambda one: one["subscription"] != name_of(number))
+        keep_lists(server, lambda one: bool(one["subscription"] != name_of(number)))
         server.client.take_lists()
 
     def later(self) -> List[File]:
@@ -130,7 +132,9 @@ class Window:
         """Says how many files are followed, and how often the server scans them."""
         count = f"{self.count:,} file{'' if self.count == 1 else 's'}"
         below = " and ".join(self.places.directories)
-        pace = f"; scans about each {seconds_shown(self.pace())}" if words_of(self.places.server.peer.process) else ""
+        # A change may come just after a scan looked there, and the next one has to end.
+        late = f"within about {seconds_shown(2 * self.pace())}, later under load"
+        pace = f"; changes show {late}" if words_of(self.places.server.peer.process) else ""
         return f"following {count} below {below}{pace}"
 
     def wait(self, others: Dict[int, int], seconds: Optional[float] = None) -> Dict[int, int]:
@@ -184,9 +188,14 @@ class Window:
             self.clocks[number] = found["clock"]
         ignored = self.places.ignored[number]
         has_changed = bool(found["files"]) if is_of_rules else ignored.is_stale()
+        before = ignored.said
         if has_changed and ignored.renew():
             self.subscribe(server, number)
-        return [] if is_of_rules else [self.places.told(number, found)]
+        lists = [] if is_of_rules else [self.places.told(number, found)]
+        files = self.places.told_by_rules(number, before, self.fields) if has_changed else []
+        place = self.places.places[number]
+        more = {"files": files, "root": place.root, "below": place.below, "subscription": names[number]}
+        return [*lists, {**found, **more}] if files else lists
 
     def drop_lists(self) -> None:
         """Takes no list of changes that came, so that they are there `later`."""
@@ -199,7 +208,13 @@ class Window:
         return found
 
     def look(self, server: Server) -> None:
-        """Says once that the server is stopped, if it is: nothing comes of it then, and nobody asks."""
+        """Says once that the server is stopped, or that a root is gone: nothing comes then, and nobody asks."""
+        for root in self.places.roots():
+            if not is_gone(root):
+                self.gone.discard(root)
+            elif root not in self.gone:
+                self.gone.add(root)
+                say(f"{root} is gone; waiting for it", "yellow")
         if not is_stopped(server.peer.process):
             self.has_told = False
         elif not self.has_told:
@@ -260,8 +275,6 @@ class Window:
 
     def close(self) -> None:
         """Gives the roots back that were watched for windows alone, if this is the last one."""
-        for ignored in self.places.ignored:
-            ignored.close()
         for ignored in self.places.ignored:
             ignored.close()
         self.places.open.close(self.server)

@@ -7,9 +7,14 @@ from .trouble import WrongWords
 
 NEEDS_DASHES = ("run", "trigger")
 # The commands that take one word, and its name.
-ONE_WORD = {"triggers": "directory", "explain": "expression"}
-EXECUTING = {"-x": "each", "--exec": "each", "-X": "batch", "--exec-batch": "batch"}
-
+ONE_WORD = {"triggers": "directory", "doctor": "directory", "explain": "expression"}
+# The options that take a command, by the commands of wq that have them.
+EXECUTING = {
+    "find": {"-x": "each", "--exec": "each", "-exec": "each", "-X": "batch", "--exec-batch": "batch"},
+    "since": {"-x": "each", "--exec": "each"},
+}
+# Options that other versions had, and what to write now.
+GONE = {"--all": "-u", "--lines": "--jsonl"}
 
 # How many columns a page of help has.
 COLUMNS = 78
@@ -43,9 +48,23 @@ def value(*names: str, help: str, metavar: str, **settings: Any) -> Option:
     return Option(names, {"help": help, "metavar": metavar, **settings})
 
 
-ALL = flag("--all", help="leave nothing out, neither .git, .hg, node_modules and target nor directories that changed")
-IGNORE_CASE = flag("--ignore-case", help="the case of A to Z does not count in globs")
-MAX_DEPTH = value("--max-depth", metavar="N", type=int, help="at most so deep; 1 is directly in DIR")
+def milliseconds(word: str) -> int:
+    """A number of milliseconds. `500ms` and `2s` are understood too."""
+    number, factor = (word[:-2], 1) if word.endswith("ms") else (word[:-1], 1000) if word.endswith("s") else (word, 1)
+    if not (number.isascii() and number.isdigit()):
+        raise argparse.ArgumentTypeError(f"{word} is no number of milliseconds from 0 on")
+    return int(number) * factor
+
+
+def whole(word: str) -> int:
+    if not (word.isascii() and word.isdigit()):
+        raise argparse.ArgumentTypeError(f"{word} is no whole number from 0 on")
+    return int(word)
+
+
+IGNORE_CASE = flag("--ignore-case", help="ignore the case of A to Z in globs")
+MAX_DEPTH = value("--max-depth", metavar="N", type=int, help="at most N levels deep; 1 is directly in DIR")
+HIDDEN = flag("-H", "--hidden", help="leave out no name: also .git, .hg and, outside of git, node_modules and target")
 OTHERS = [
     value(
         "-t",
@@ -53,16 +72,12 @@ OTHERS = [
         metavar="KINDS",
         dest="type",
         action="append",
-        help="kinds of files: f or file, d or dir, l or link, such as -t f,d",
+        help="kinds of files: f or file, d or dir, l or link, x (executable), e (empty), such as -t f,d",
     ),
-    value(
-        "-e", "--extension", metavar="EXT", dest="ext", action="append", help="suffixes, such as -e c,h or -e c -e h"
-    ),
-    value(
-        "-E", "--exclude", metavar="GLOB", dest="exclude", action="append", help="leave out what fits, and all below it"
-    ),
-    value("--min-depth", metavar="N", type=int, help="at least so deep"),
-    ALL,
+    value("-e", "--extension", metavar="EXT", dest="ext", action="append", help="suffixes, such as -e c,h"),
+    value("-E", "--exclude", metavar="GLOB", dest="exclude", action="append", help="leave out what fits, and below"),
+    value("--min-depth", metavar="N", type=int, help="at least N levels deep"),
+    HIDDEN,
 ]
 # To watchexec and entr, `-i` and `-d` are other things than to fd. So a command that runs another one has neither.
 NARROWING = [IGNORE_CASE, MAX_DEPTH, *OTHERS]
@@ -71,21 +86,42 @@ SEARCHING = [
     Option(("-d", *MAX_DEPTH.names), {**MAX_DEPTH.settings, "dest": "max_depth"}),
     *OTHERS,
 ]
-ABSOLUTE = flag("-a", "--absolute-path", dest="absolute", help="names from / on")
+ABSOLUTE = flag("-a", "--absolute-path", dest="absolute", help="print names from / on")
 IGNORING = [
-    Option(("--no-ignore",), {"dest": "ignore", "action": "store_false", "help": "lists also what git ignores"}),
-    flag("--gitignore", help="leaves out what .gitignore and .ignore say, also outside of repositories"),
+    Option(("-I", "--no-ignore"), {"dest": "ignore", "action": "store_false", "help": "list what git ignores too"}),
+    flag("-u", "--unrestricted", help="list everything: -H and -I together"),
+    flag("--gitignore", help="follow .gitignore and .ignore outside of repositories too"),
 ]
-ZEROS = flag("-0", dest="print0", help="a byte 0 after each name in place of a newline")
-JSON = flag("--json", help="the reply of the server")
-LINES = flag("--lines", help="with --json, an object for each file, each on a line of its own")
+DIRS = flag("--dirs", help="tell of directories too, also of those in which files came or went")
+COLOR = value("--color", metavar="WHEN", help="colours: auto, always or never [default: auto]")
+QUIET = flag("-q", "--quiet", help="print nothing: the status says whether something was found")
+ZEROS = flag("-0", dest="print0", help="end each name with a byte 0 in place of a newline")
+JSON = flag("--json", help="print the reply of the server")
+JSONL = flag("--jsonl", help="print each file as a JSON object on a line of its own")
+PRINTING = [ABSOLUTE, ZEROS, JSON, JSONL, COLOR]
 NUMBERS = [
-    value("--interval", metavar="MS", help="the pause between two rounds in milliseconds; 100 if left out"),
-    value("--share", metavar="P", help="how much of one processor rounds may take at most, in percent; 10 if left out"),
-    value("--workers", metavar="N", help="how many threads a query may use"),
+    value("--interval", metavar="MS", help="pause MS ms between two scans [default: 100]"),
+    value("--share", metavar="P", help="scans take at most P percent of one processor [default: 10]"),
+    value("--workers", metavar="N", help="use N threads for a query"),
 ]
 WORDS = value("words", metavar="WORD", nargs="*", default=[], help=argparse.SUPPRESS)
 DIRECTORY = value("directory", metavar="DIR", nargs="?", default=".", help="a directory of the root")
+EXECUTE_EACH = value(
+    "-x",
+    "--exec",
+    metavar="CMD",
+    dest="each",
+    help="run CMD, up to the end of the line or to ;, for each name: {} is the name, {/} the base name, {//} the "
+    "directory, {.} and {/.} the name and the base name without suffix",
+)
+EXECUTE_ONCE = value(
+    "-x",
+    "--exec",
+    metavar="CMD",
+    dest="each",
+    help="if something changed, run CMD once as `wq run` does ({} stands for the names), and count the changes as "
+    "told only if it ends with status 0",
+)
 
 
 class Form(NamedTuple):
@@ -98,15 +134,12 @@ class Form(NamedTuple):
 
 FORMS: Dict[str, Form] = {
     "find": Form(
-        "[DIR|GLOB..]",
-        "prints the names that match, one a line",
+        "[DIR|GLOB]...",
+        "print the names that match, one a line",
         [
             *SEARCHING,
             *IGNORING,
-            ABSOLUTE,
-            value(
-                "--size", metavar="SIZE", help="+1M at least, -10k at most, 0 exactly; k is 1,024 bytes, kB is 1,000"
-            ),
+            value("--size", metavar="SIZE", help="+10k: at least 10 KiB; -10k: at most; k is 1,024 bytes, kB 1,000"),
             value(
                 "--newer",
                 "--changed-within",
@@ -116,103 +149,123 @@ FORMS: Dict[str, Form] = {
             ),
             value("--older", "--changed-before", metavar="WHEN", dest="older", help="modified before that"),
             value("--expression", metavar="JSON", help="an expression of the protocol, beside the other words"),
-            value(
-                "--program",
-                metavar="NAME",
-                help="a stored program; globs or -e beside it say which files it is asked about",
-            ),
-            flag("-l", dest="long", help="the kind, size, time and name of each"),
-            ZEROS,
-            JSON,
-            LINES,
-            flag("--count", help="how many there are"),
-            Option(("--no-sync",), {"dest": "sync", "action": "store_false", "help": "as the last crawl saw it"}),
-            flag("--keep", help="goes on to watch a root that was not watched before"),
-            value(
-                "-x",
-                "--exec",
-                metavar="CMD",
-                dest="each",
-                help="runs CMD, which goes on to the end or to ;, for each name: {} is its place, {/} that of its last "
-                "part, "
-                "{//} of its directory, {.} and {/.} without a suffix",
-            ),
-            value("-X", "--exec-batch", metavar="CMD", dest="batch", help="runs CMD once, with all names"),
+            value("--program", metavar="NAME", help="a stored program; globs or -e say which files it is asked about"),
+            *PRINTING,
+            flag("-l", dest="long", help="print kind, size, time and name"),
+            flag("--count", help="print how many there are"),
+            value("--max-results", metavar="N", type=whole, help="print the first N names only"),
+            QUIET,
+            Option(("--no-sync",), {"dest": "sync", "action": "store_false", "help": "answer from the last scan"}),
+            flag("--keep", help="go on watching a root that was not watched before"),
+            EXECUTE_EACH,
+            value("-X", "--exec-batch", metavar="CMD", dest="batch", help="run CMD once, with all names"),
             WORDS,
         ],
     ),
     "since": Form(
-        "[NAME] [DIR|GLOB..]",
-        "prints what changed since this was last asked, under a name or without",
+        "[DIR|GLOB]...",
+        "print what changed since this was last asked: + came, - went, ~ changed",
         [
+            value("-n", "--name", metavar="NAME", default="", help="ask under a name, which has its own place in time"),
             *SEARCHING,
             *IGNORING,
-            ABSOLUTE,
-            ZEROS,
-            JSON,
-            LINES,
-            flag("--peek", help="by the clock that the last call wrote; the name does not move"),
+            DIRS,
+            *PRINTING,
+            QUIET,
+            flag("--peek", help="show what since would print, without marking it as seen"),
+            EXECUTE_ONCE,
             WORDS,
         ],
     ),
     "follow": Form(
-        "[DIR|GLOB..]",
-        "prints changes as they come, until you stop it",
-        [*SEARCHING, *IGNORING, ABSOLUTE, ZEROS, JSON, LINES, WORDS],
+        "[DIR|GLOB]...",
+        "print changes as they come, until you stop it",
+        [*SEARCHING, *IGNORING, DIRS, *PRINTING, flag("-q", "--quiet", help="print changes and errors only"), WORDS],
+    ),
+    "wait": Form(
+        "[DIR|GLOB]...",
+        "wait for the first change, and print it",
+        [
+            *SEARCHING,
+            *IGNORING,
+            DIRS,
+            *PRINTING,
+            QUIET,
+            value("--timeout", metavar="S", type=float, help="give up after S seconds, with status 1"),
+            WORDS,
+        ],
     ),
     "run": Form(
-        "[DIR|GLOB..] -- COMMAND..",
-        "runs a command now and after each change; {} is for the names",
+        "[DIR|GLOB]... -- COMMAND...",
+        "run a command now and after each change; {} stands for the names",
         [
             *NARROWING,
             *IGNORING,
-            value("--quiet", metavar="MS", type=int, default=100, help="a burst ends when it is so long quiet; 100"),
-            value("--delay", metavar="MS", type=int, default=0, help="waits so long before a run for a change"),
-            flag("--restart", help="a change ends the running one by SIGTERM, and after 5 seconds by SIGKILL"),
+            DIRS,
             value(
-                "--on-busy", metavar="HOW", help="what a change does to a running one: wait, restart, ignore, signal"
+                "--debounce",
+                metavar="MS",
+                type=milliseconds,
+                default=100,
+                help="wait until nothing has changed for MS ms [default: 100]",
+            ),
+            value("--delay", metavar="MS", type=milliseconds, default=0, help="wait MS ms longer [default: 0]"),
+            flag("--restart", help="a change ends a command that runs by SIGTERM, and after 5 seconds by SIGKILL"),
+            value(
+                "--on-busy",
+                metavar="HOW",
+                help="what a change does while the command runs: wait, restart, ignore, signal [default: wait]",
             ),
             value(
                 "--stop-signal",
                 metavar="SIG",
                 default="TERM",
-                help="the signal of restart and signal, such as INT; TERM",
+                help="the signal of restart and signal [default: TERM]",
             ),
-            flag("--no-self", help="leaves out what changes while the command runs"),
-            flag("--shell", help="the words are a text for sh, in which {} is for the names"),
-            flag("--notify", help="the terminal says that a run ended, or rings"),
-            flag("--once", help="ends after one run, with its status"),
-            flag("--postpone", help="waits for the first change"),
-            flag("--clear", help="clears the terminal before each run"),
-            flag("--stdin", help="the names are lines on its standard input"),
-            flag("-0", dest="print0", help="with --stdin a byte 0 after each name"),
+            flag("--no-self", help="leave out all that changes while the command runs"),
+            flag("--shell", help="the words are a text for sh, in which {} stands for the names"),
+            flag("--notify", help="the terminal shows a message or rings when a run ends"),
+            flag("--once", help="end after one run, with its status"),
+            flag("--postpone", help="wait for the first change"),
+            flag("--clear", help="clear the terminal before each run"),
+            flag("--stdin", help="the names are lines on standard input"),
+            flag("-0", dest="print0", help="with --stdin, end each name with a byte 0"),
+            flag("-q", "--quiet", help="print errors only"),
+            COLOR,
             WORDS,
         ],
     ),
-    "status": Form("", "prints what the server does and costs", [JSON]),
-    "watch": Form("[DIR..]", "watches the projects of directories, and prints their roots", [WORDS]),
-    "unwatch": Form("[DIR..]", "gives places of roots back, also of directories that are gone", [WORDS]),
-    "roots": Form("", "prints the roots that are watched", [ZEROS, JSON]),
     "trigger": Form(
-        "[DIR] NAME [GLOB..] -- COMMAND..",
-        "has the server run a command in the root after changes",
+        "NAME [DIR|GLOB]... -- COMMAND...",
+        "have the server run a command in the root after changes",
         [
             *NARROWING,
-            flag("--stdin", help="the names are lines on its input; {} as its last word is for the names"),
+            flag("--stdin", help="the names are lines on standard input; {} as the last word stands for the names"),
             WORDS,
         ],
     ),
-    "triggers": Form("[DIR]", "prints the triggers of a root", [JSON, DIRECTORY]),
-    "untrigger": Form("[DIR] NAME", "takes a trigger out", [WORDS]),
-    "ask": Form("LINE..", "sends lines of the protocol, and prints the replies", [WORDS]),
-    "start": Form("", "starts a server, unless one listens", NUMBERS),
-    "stop": Form("", "ends the server", []),
-    "restart": Form("", "ends the server and starts one with the same words", NUMBERS),
+    "triggers": Form("[DIR]", "print the triggers of a root", [JSON, COLOR, DIRECTORY]),
+    "untrigger": Form("NAME [DIR]", "remove a trigger", [WORDS]),
+    "watch": Form(
+        "[DIR]...",
+        "watch the projects of directories, and print their roots",
+        [flag("--root", help="make each DIR a root of its own, for every command below it until `wq unwatch`"), WORDS],
+    ),
+    "unwatch": Form("[DIR]...", "stop watching, also directories that are gone", [WORDS]),
+    "roots": Form("", "print the roots that are watched", [ZEROS, JSON]),
+    "status": Form("", "print what the server does and costs", [JSON, COLOR]),
+    "log": Form("", "print what the server said", [flag("-f", "--follow", help="go on printing what it says")]),
+    "sockname": Form("", "print the path of the socket", [flag("--start", help="start a server if none listens")]),
+    "doctor": Form("[DIR]", "say whether wqd is right for a directory, and what it costs there", [DIRECTORY]),
+    "ask": Form("LINE...", "send lines of the protocol, and print the replies", [WORDS]),
+    "start": Form("", "start a server, unless one listens", NUMBERS),
+    "stop": Form("", "end the server", []),
+    "restart": Form("", "end the server and start one with the same words", NUMBERS),
     "explain": Form(
         "EXPRESSION",
-        "says what an expression means, its program and what that costs",
+        "say what an expression means, its program and what that costs",
         [
-            flag("--terms", help="lists the terms and what they take"),
+            flag("--terms", help="list the terms and what they take"),
             value("expression", metavar="EXPRESSION", nargs="?", help=argparse.SUPPRESS),
         ],
     ),
@@ -221,7 +274,7 @@ FORMS: Dict[str, Form] = {
 
 def parser_of(command: str) -> Parser:
     form = FORMS[command]
-    usage = f"wq {command}{' [OPTION..]' if options_of(command) else ''} {form.usage}".rstrip()
+    usage = f"wq {command}{' [OPTION]...' if options_of(command) else ''} {form.usage}".rstrip()
     parser = Parser(
         prog=f"wq {command}",
         usage=usage,
@@ -241,46 +294,42 @@ def options_of(command: str) -> List[str]:
 
 def read(command: str, words: List[str]) -> argparse.Namespace:
     """The words of a command. Those after two dashes are the command that it runs, and else no options."""
-    refuse_foreign(command, words)
     rest: List[str] = []
     words, commands = without_commands(command, words)
     if "--" in words:
         place = words.index("--")
         words, rest = words[:place], words[place + 1 :]
-    words = with_joined_sizes(words)
+    words = with_joined_sizes(with_own_words(command, words))
     parser = parser_of(command)
+    found = read_any_order(parser, command, words, () if command in NEEDS_DASHES else rest)
     if command in NEEDS_DASHES:
-        found = read_any_order(parser, command, words)
         found.command = rest
-        return found
-    found = read_any_order(parser, command, words, rest)
     for name, given in commands.items():
         setattr(found, name, given)
+    if getattr(found, "unrestricted", False):
+        found.hidden, found.ignore = True, False
     return found
 
 
-def refuse_foreign(command: str, words: List[str]) -> None:
-    """Says what there is in place of an option that other tools have. argparse would take some for others."""
+def with_own_words(command: str, words: List[str]) -> List[str]:
+    """The words with those of wq in place of options of other tools."""
     known = options_of(command)
-    for word in words:
-        if word == "--" or command == "find" and word in EXECUTING:
-            return
-        if word.startswith("-") and word.partition("=")[0] not in known:
-            from .foreign import hint
+    if all(not word.startswith("-") or word.partition("=")[0] in known for word in words):
+        return words
+    from .other_words import own_words  # most people know those of wq
 
-            found = hint(command, word.partition("=")[0])
-            if found:
-                raise WrongWords(f"no option {word.partition('=')[0]}; {found}")
+    return own_words(command, words, known)
 
 
 def without_commands(command: str, words: List[str]) -> Tuple[List[str], Dict[str, List[str]]]:
     """The words without the command of `-x` or `-X`, which goes on to the end or to a semicolon; and that command."""
+    executing = EXECUTING.get(command, {})
     end = words.index("--") if "--" in words else len(words)
-    place = next((place for place in range(end) if words[place] in EXECUTING), None)
-    if command != "find" or place is None or place + 1 == len(words):
+    place = next((place for place in range(end) if words[place] in executing), None)
+    if place is None or place + 1 == len(words):
         return words, {}
     last = words.index(";", place) if ";" in words[place:] else len(words)
-    return words[:place] + words[last + 1 :], {EXECUTING[words[place]]: words[place + 1 : last]}
+    return words[:place] + words[last + 1 :], {executing[words[place]]: words[place + 1 : last]}
 
 
 def with_joined_sizes(words: List[str]) -> List[str]:
@@ -299,7 +348,10 @@ def no_option(command: str, word: str) -> str:
     import difflib  # few are mistyped
 
     given = word.partition("=")[0]
-    like = difflib.get_close_matches(given, [name for name in options_of(command) if name.startswith("--")], 1)
+    known = options_of(command)
+    if GONE.get(given) in known:
+        return f"there is no option {given}; write {GONE[given]}"
+    like = difflib.get_close_matches(given, [name for name in known if name.startswith("--")], 1)
     return f"there is no option {given}" + (f"; did you mean {like[0]}?" if like else "")
 
 

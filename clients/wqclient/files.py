@@ -44,6 +44,17 @@ def is_of_own_user(path: str) -> bool:
         return False
 
 
+def is_gone(path: str) -> bool:
+    """Whether nothing is there. What a file system does not answer is not gone."""
+    try:
+        os.lstat(path)
+    except (FileNotFoundError, NotADirectoryError):
+        return True
+    except OSError:
+        pass
+    return False
+
+
 def is_locked(file: IO[str]) -> bool:
     """Whether the file is locked now by this process, and no other had it."""
     try:

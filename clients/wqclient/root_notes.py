@@ -4,15 +4,16 @@ them a window has open. The server tells none of it."""
 import contextlib
 import fcntl
 import time
-from typing import IO, Any, Callable, Dict, List, Optional
+from typing import IO, Any, Callable, Dict, Iterator, List, Optional
 
-from .files import is_locked, opened_as_own
+from .files import is_gone, is_locked, opened_as_own
 from .kept import LOOKS, ROOTS, WINDOWS, keep, kept, path_of, room, run_of
 
-# The purposes of a watch, of which a later one wins: one query; a window; `find --keep`; `watch`, `since` and
-# triggers.
-MOMENT, WINDOW, KEPT, STAYS = "moment", "window", "kept", "stays"
-RANKS = ("", MOMENT, WINDOW, KEPT, STAYS)
+# The purposes of a watch, of which a later one wins: one query; a window; `find --keep`; `since`; `watch` and triggers.
+MOMENT, WINDOW, KEPT, SINCE, STAYS = "moment", "window", "kept", "since", "stays"
+RANKS = ("", MOMENT, WINDOW, KEPT, SINCE, STAYS)
+# A root makes room for another one in this order.
+FIRST_TO_GO = ((WINDOW, KEPT), (SINCE,))
 # Sends a command, and gives the reply; {} if none comes.
 Ask = Callable[..., Dict[str, Any]]
 
@@ -58,14 +59,18 @@ class Notes:
     def is_for_a_moment(self, root: str) -> bool:
         return self.purpose(root) in ("", MOMENT)
 
-    def droppable(self, roots: List[str]) -> List[str]:
-        """The roots that need not stay and that no window has open, the least lately asked first."""
-        found = [root for root in roots if self.purpose(root) in (KEPT, WINDOW) and not self.has_window(root)]
-        return sorted(found, key=lambda root: kept(ROOTS, self.sockname, root).get("asked", 0))
+    def droppable(self, roots: List[str]) -> Iterator[str]:
+        """The roots that make room, if no window has them open: those whose directory is gone, those that need not
+        stay, and those that `since` alone keeps. The least lately asked come first."""
+        roots = sorted(roots, key=lambda root: float(kept(ROOTS, self.sockname, root).get("asked", 0)))
+        roots = [root for root in roots if not self.has_window(root)]
+        yield from (root for root in roots if is_gone(root))
+        for purposes in FIRST_TO_GO:
+            yield from (root for root in roots if self.purpose(root) in purposes)
 
     def drop_one(self, roots: List[str], ask: Ask) -> Optional[str]:
-        """Ends the watch of the root that was least lately asked of those that need not stay, and gives its path;
-        nothing if each has to stay. A trigger was registered by somebody who needs its root."""
+        """Ends the watch of the first root that can make room, and gives its path; nothing if each has to stay. A
+        trigger was registered by somebody who needs its root."""
         for root in self.droppable(roots):
             if ask("trigger-list", root).get("triggers") == []:
                 self.end(root, ask)

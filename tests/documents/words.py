@@ -28,7 +28,7 @@ MOST = {
     "docs/STABILITY.md": 770,
     "docs/TROUBLESHOOTING.md": 1620,
     "docs/TUTORIAL.md": 1450,
-    "docs/WQ.md": 2750,
+    "docs/WQ.md": 3500,
     "docs/WQASM.md": 1000,
     "docs/crates": 3600,
     "tests/README.md": 1850,

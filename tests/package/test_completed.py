@@ -52,7 +52,7 @@ class Completed(Case):
             (["run", "--onc"], ["--once"]),
             (["run", "--on-busy", ""], ["wait", "restart", "ignore", "signal"]),
             (["run", "--stop-signal", "US"], ["USR1", "USR2"]),
-            (["since", "a", "-t", ""], ["f", "d", "l"]),
+            (["since", "a", "-t", ""], ["f", "d", "l", "x", "e"]),
             (["find", str(room) + "/a"], [str(room / "a file")]),
             (["stop", "-"], ["--help"]),
             (["run", "*.c", "--", "truncat"], ["truncate"]),

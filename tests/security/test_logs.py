@@ -65,7 +65,7 @@ class Logs(Beside):
         }
         for name in ("XDG_STATE_HOME", "WQD_SOCK"):
             environment.pop(name, None)
-        for words in (["find"], ["since", "a"], ["watch"], ["stop"]):
+        for words in (["find"], ["since", "-n", "a"], ["watch"], ["stop"]):
             ended = subprocess.run(
                 [COMMAND, *words],
                 cwd=self.room / "tree",

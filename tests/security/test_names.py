@@ -78,7 +78,7 @@ class Names(Beside):
             plant(scene)
             out = self.room / "out"
             script = f"printf '%s\\0' \"$@\" > {out}.new; mv {out}.new {out}"
-            scene.wq("trigger", ".", "t", "/*.c", "--", "sh", "-c", script, "sh", "-fixed", "{}")
+            scene.wq("trigger", "t", ".", "/*.c", "--", "sh", "-c", script, "sh", "-fixed", "{}")
             text_of(out, lambda text: text)
             expected = ["-fixed", *sorted(f"./{name}" for name in HOSTILE)]
             self.same("names of a trigger", sorted(names_in(out.read_bytes())), sorted(expected))

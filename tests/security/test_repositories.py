@@ -51,7 +51,7 @@ class Repositories(Beside):
                 shutil.copy(str(script), str(tree / ".git" / "hooks" / hook))
             self.same("files that are not ignored", scene.names("find", "cloned", "*.c"), ["cloned/a.c", "cloned/c.c"])
             for words in (
-                ["since", "n", "cloned"],
+                ["since", "-n", "n", "cloned"],
                 ["find", "cloned", "--no-ignore"],
                 ["run", "cloned", "--once", "--", "true"],
             ):

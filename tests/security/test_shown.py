@@ -38,8 +38,8 @@ class Shown(Beside):
                 ("find", str(root), "-l"),
                 ("find", str(root), "--json"),
                 ("status", "--json"),
-                ("since", "a", str(root)),
-                ("since", "b", str(root), "--json"),
+                ("since", "-n", "a", str(root)),
+                ("since", "-n", "b", str(root), "--json"),
                 ("ask", '["watch-list"]'),
                 ("trigger", str(root), ESCAPES, "--", "true", ESCAPES),
                 ("triggers", str(root)),
@@ -98,7 +98,7 @@ class Shown(Beside):
                 ["stop"],
                 ["roots"],
                 ["ask", '["version"]'],
-                ["trigger", ".", "t", "--", "true"],
+                ["trigger", "t", ".", "--", "true"],
             ):
                 found = at_terminal(scene, *words, NO_COLOR="1")
                 self.same(f"an error of wq {words[0]}", (harm_in(found), "E99" in found), ([], True))

@@ -226,7 +226,9 @@ def called_at_terminal(
     return AtTerminal(found.decode("utf-8", "backslashreplace").replace("\r\n", "\n"), code)
 
 
-FOLLOWING = re.compile(rb"wq: following [0-9,]+ files? below \S+; scans about each [0-9.]+ s\n")
+FOLLOWING = re.compile(
+    rb"wq: following [0-9,]+ files? below \S+; changes show within about [0-9.]+ s, later under load\n"
+)
 
 
 def following(going: Going) -> bytes:

@@ -13,53 +13,60 @@ from wq import vocabulary
 from wqclient import names
 
 
+ERRORS_OF_LINES = [
+    (
+        "[",
+        "E2: not JSON",
+        "the line, column 2: Expecting value; a text has double quotes, and the shell takes them away: put "
+        "single quotes around the whole",
+    ),
+    ('["watch" "x"]', "E2: not JSON", "the line, column 10: Expecting ',' delimiter"),
+    (
+        '["watch","\\ud800"]',
+        "E2: not JSON",
+        "the line: half a surrogate pair is no letter, and bytes that are not UTF-8 are none " "either",
+    ),
+    (
+        "[" * 128 + "]" * 128,
+        "E2: not JSON",
+        "values may be 127 deep inside one another, and a number has to fit a float of 64 bits",
+    ),
+    (
+        "7",
+        "E3: not a command array",
+        'a line is a list that begins with the name of a command, such as ["watch-list"], and this ' "is the number 7",
+    ),
+    ('["qurey","@"]', "E4: unknown command", '"qurey" is no command; did you mean "query"?'),
+    (
+        '["query","@"]',
+        "E5: wrong arguments",
+        '"query" takes 2 arguments (root, object), and there are 1: ' '["query","/home/me/src",{"suffix":"c"}]',
+    ),
+    (
+        '["watch",7]',
+        "E5: wrong arguments",
+        'argument 1 of "watch" is the root, a text, and not the number 7: ' '["watch","/home/me/src"]',
+    ),
+    (
+        '["query","@",null]',
+        "E5: wrong arguments",
+        'argument 2 of "query" is the object, an object, and not null: ' '["query","/home/me/src",{"suffix":"c"}]',
+    ),
+    (
+        '["watch-list",{}]',
+        "E5: wrong arguments",
+        '"watch-list" takes 0 arguments (none), and there are 1: ["watch-list"]',
+    ),
+]
+
+
 def errors_of(root: str) -> List[Tuple[str, str, str]]:
     """Lines, the errors that they are answered, and the lines that name the culprit. `@` is the root."""
+    return [*ERRORS_OF_LINES, *errors_of_roots(root)]
+
+
+def errors_of_roots(root: str) -> List[Tuple[str, str, str]]:
     return [
-        (
-            "[",
-            "E2: not JSON",
-            "the line, column 2: Expecting value; a text has double quotes, and the shell takes them away: put "
-            "single quotes around the whole",
-        ),
-        ('["watch" "x"]', "E2: not JSON", "the line, column 10: Expecting ',' delimiter"),
-        (
-            '["watch","\\ud800"]',
-            "E2: not JSON",
-            "the line: half a surrogate pair is no letter, and bytes that are not UTF-8 are none " "either",
-        ),
-        (
-            "[" * 128 + "]" * 128,
-            "E2: not JSON",
-            "values may be 127 deep inside one another, and a number has to fit a float of 64 bits",
-        ),
-        (
-            "7",
-            "E3: not a command array",
-            'a line is a list that begins with the name of a command, such as ["watch-list"], and this '
-            "is the number 7",
-        ),
-        ('["qurey","@"]', "E4: unknown command", '"qurey" is no command; did you mean "query"?'),
-        (
-            '["query","@"]',
-            "E5: wrong arguments",
-            '"query" takes 2 arguments (root, object), and there are 1: ' '["query","/home/me/src",{"suffix":"c"}]',
-        ),
-        (
-            '["watch",7]',
-            "E5: wrong arguments",
-            'argument 1 of "watch" is the root, a text, and not the number 7: ' '["watch","/home/me/src"]',
-        ),
-        (
-            '["query","@",null]',
-            "E5: wrong arguments",
-            'argument 2 of "query" is the object, an object, and not null: ' '["query","/home/me/src",{"suffix":"c"}]',
-        ),
-        (
-            '["watch-list",{}]',
-            "E5: wrong arguments",
-            '"watch-list" takes 0 arguments (none), and there are 1: ["watch-list"]',
-        ),
         (
             '["watch","src"]',
             "E10: root is not absolute",
@@ -219,39 +226,43 @@ class Asking(Beside):
                 subprocess.run([tool, "explain", str(file)], stdout=subprocess.PIPE).stdout.decode().splitlines()
             )
             self.same("its program", lines[9:], explained)
-            for words, sentence in SENTENCES:
-                self.same(f"explain {words}", scene.names("explain", words)[1], f"  {sentence}")
-            self.same(
-                "explain -",
-                scene.call(["explain", "-"], b'["type","f"]').output.splitlines()[1],
-                b"  it is a regular file",
-            )
-            terms = [line.split()[0] for line in scene.names("explain", "--terms")]
-            self.same("explain --terms", sorted(terms), sorted(names.TERMS))
-            self.same("each command has a shape", sorted(vocabulary.COMMANDS), sorted(names.COMMANDS))
-            self.same("no server was started", Path(scene.sockname).exists(), False)
-            wrong(
-                self,
-                scene,
-                ["explain", '["sufix"]'],
-                "E24: unknown term",
-                'at expression: "sufix" is no term; did you mean "suffix"?',
-                status=3,
-            )
-            wrong(
-                self,
-                scene,
-                ["explain", "exsts"],
-                "E24: unknown term",
-                'at expression: "exsts" is no term; did you mean "exists"?',
-                status=3,
-            )
-            wrong(
-                self,
-                scene,
-                ["explain"],
-                'explain takes an expression, such as \'["suffix","c"]\', or - for that of standard input',
-            )
-            warned = scene.wq("explain", '["suffix",".c"]')
-            note = said('at expression: ".c" can match nothing: a suffix has no dot: "c"')
-            self.same("a warning of explain", (warned.status, warned.errors), (0, note))
+            self.check_sentences(scene)
+
+    def check_sentences(self, scene: Scene) -> None:
+        """What single terms mean, and what is wrong with a term."""
+        for words, sentence in SENTENCES:
+            self.same(f"explain {words}", scene.names("explain", words)[1], f"  {sentence}")
+        self.same(
+            "explain -",
+            scene.call(["explain", "-"], b'["type","f"]').output.splitlines()[1],
+            b"  it is a regular file",
+        )
+        terms = [line.split()[0] for line in scene.names("explain", "--terms")]
+        self.same("explain --terms", sorted(terms), sorted(names.TERMS))
+        self.same("each command has a shape", sorted(vocabulary.COMMANDS), sorted(names.COMMANDS))
+        self.same("no server was started", Path(scene.sockname).exists(), False)
+        wrong(
+            self,
+            scene,
+            ["explain", '["sufix"]'],
+            "E24: unknown term",
+            'at expression: "sufix" is no term; did you mean "suffix"?',
+            status=3,
+        )
+        wrong(
+            self,
+            scene,
+            ["explain", "exsts"],
+            "E24: unknown term",
+            'at expression: "exsts" is no term; did you mean "exists"?',
+            status=3,
+        )
+        wrong(
+            self,
+            scene,
+            ["explain"],
+            'explain takes an expression, such as \'["suffix","c"]\', or - for that of standard input',
+        )
+        warned = scene.wq("explain", '["suffix",".c"]')
+        note = said('at expression: ".c" can match nothing: a suffix has no dot: "c"')
+        self.same("a warning of explain", (warned.status, warned.errors), (0, note))

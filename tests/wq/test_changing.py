@@ -9,36 +9,51 @@ import built
 from case import Beside
 from scene import Going, Scene, following, said, wrong
 
-FIRST = b"+ Makefile\n+ src\n+ src/a.c\n+ src/b b.c\n+ src/deep\n+ src/deep/c.h\n"
+FIRST = b"+ Makefile\n+ src/a.c\n+ src/b b.c\n+ src/deep/c.h\n"
+
+
+# Questions, and what each is told of src/deep/d.h, src/e.c and dir/f.c.
+QUESTIONS = (
+    (["-n", "q", "src"], ["+ src/deep/d.h", "+ src/e.c"]),
+    (["-n", "q", "dir"], ["+ dir/f.c"]),
+    (["-n", "q", "src", "*.h"], ["+ src/deep/d.h"]),
+    (["-n", "q", "-e", "h"], ["+ src/deep/d.h"]),
+    (["-n", "q", ".", "src/*"], ["+ src/e.c"]),
+    ([], ["+ dir/f.c", "+ src/deep/d.h", "+ src/e.c"]),
+    (["*.h"], ["+ src/deep/d.h"]),
+    (["-n", "q", "dir", "src"], ["+ dir/f.c", "+ src/deep/d.h", "+ src/e.c"]),
+)
 
 
 class Changing(Beside):
     def test_since(self) -> None:
         with Scene(self.room) as scene:
-            new = said("this was not asked as a before, so all files are listed")
-            self.same("a first since", scene.wq("since", "a"), built.Ended(FIRST, new, 0))
-            self.same("nothing since", scene.wq("since", "a"), built.Ended(b"", b"", 1))
+            new = said("first since as a: listing everything")
+            self.same("a first since", scene.wq("since", "-n", "a"), built.Ended(FIRST, new, 0))
+            self.same("nothing since", scene.wq("since", "-n", "a"), built.Ended(b"", b"", 1))
             scene.write("src/a.c", "changed")
-            self.same("since with --peek", scene.wq("since", "a", "--peek"), built.Ended(b"~ src/a.c\n", b"", 0))
-            self.same("the name has not moved", scene.wq("since", "a"), built.Ended(b"~ src/a.c\n", b"", 0))
-            self.same("--peek after it", scene.wq("since", "a", "--peek"), built.Ended(b"", b"", 1))
+            self.same("since with --peek", scene.wq("since", "-n", "a", "--peek"), built.Ended(b"~ src/a.c\n", b"", 0))
+            self.same("the name has not moved", scene.wq("since", "-n", "a"), built.Ended(b"~ src/a.c\n", b"", 0))
+            self.same("--peek after it", scene.wq("since", "-n", "a", "--peek"), built.Ended(b"", b"", 1))
             scene.write("src/new", "new")
             (scene.tree / "Makefile").unlink()
             scene.write("node_modules/more", "left out")
-            self.same("what came and went", scene.wq("since", "a"), built.Ended(b"- Makefile\n+ src/new\n", b"", 0))
-            self.same("another name", scene.wq("since", "b").output.count(b"\n"), 6)
+            self.same(
+                "what came and went", scene.wq("since", "-n", "a"), built.Ended(b"- Makefile\n+ src/new\n", b"", 0)
+            )
+            self.same("another name", scene.wq("since", "-n", "b").output.count(b"\n"), 4)
             scene.write("dir/in", "x")
-            self.same("a directory that came", scene.names("since", "a"), ["+ dir", "+ dir/in"])
+            self.same("a directory that came is not told", scene.names("since", "-n", "a"), ["+ dir/in"])
             scene.write("dir/other", "x")
-            self.same("a directory that changed is not told", scene.names("since", "a"), ["+ dir/other"])
-            scene.wq("since", "a", "--all")
+            self.same("nor one that changed", scene.names("since", "-n", "a"), ["+ dir/other"])
+            scene.wq("since", "-n", "a", "--dirs")
             scene.write("dir/third", "x")
-            self.same("unless it is asked for", scene.names("since", "a", "--all"), ["~ dir", "+ dir/third"])
-            self.same("another question has a place of its own", scene.names("since", "a"), ["+ dir/third"])
+            self.same("unless it is asked for", scene.names("since", "-n", "a", "--dirs"), ["~ dir", "+ dir/third"])
+            self.same("another question has a place of its own", scene.names("since", "-n", "a"), ["+ dir/third"])
             self.same(
                 "two names do not disturb each other",
-                scene.names("since", "b"),
-                ["+ dir", "+ dir/in", "+ dir/other", "+ dir/third"],
+                scene.names("since", "-n", "b"),
+                ["+ dir/in", "+ dir/other", "+ dir/third"],
             )
             self.check_since_questions(scene)
             self.check_since_narrowed(scene)
@@ -47,17 +62,8 @@ class Changing(Beside):
 
     def check_since_questions(self, scene: Scene) -> None:
         """A directory, globs and options make questions of their own, and none forgets what another one was told."""
-        questions = (
-            ["q", "src"],
-            ["q", "dir"],
-            ["q", "src", "*.h"],
-            ["q", "-e", "h"],
-            ["q", ".", "src/*"],
-            [],
-            ["*.h"],
-            ["q", "dir", "src"],
-        )
-        first = said("this was not asked as q before, so all files are listed")
+        first = said("first since as q: listing everything")
+        questions = [words for words, _ in QUESTIONS]
         for words in questions[:5]:
             self.same(f"a first since {words}", scene.wq("since", *words).errors, first)
         for words in questions[5:7]:
@@ -66,35 +72,25 @@ class Changing(Beside):
         scene.write("src/deep/d.h")
         scene.write("src/e.c")
         scene.write("dir/f.c")
-        for words, expected in zip(
-            questions,
-            (
-                ["+ src/deep/d.h", "+ src/e.c"],
-                ["+ dir/f.c"],
-                ["+ src/deep/d.h"],
-                ["+ src/deep/d.h"],
-                ["+ src/e.c"],
-                ["+ dir/f.c", "+ src/deep/d.h", "+ src/e.c"],
-                ["+ src/deep/d.h"],
-                ["+ dir/f.c", "+ src/deep/d.h", "+ src/e.c"],
-            ),
-        ):
+        for words, expected in QUESTIONS:
             self.same(f"since {words}", scene.names("since", *words), expected)
             self.same(f"since {words} once more", scene.wq("since", *words), built.Ended(b"", b"", 1))
         self.same(
-            "one question in other words", scene.wq("since", "q", "*.h", "./src/", "*.h"), built.Ended(b"", b"", 1)
+            "one question in other words",
+            scene.wq("since", "-n", "q", "*.h", "./src/", "*.h"),
+            built.Ended(b"", b"", 1),
         )
 
     def check_since_narrowed(self, scene: Scene) -> None:
-        scene.wq("since", "c")
+        scene.wq("since", "-n", "c")
         scene.write("src/f g.c")
-        self.same("since -0", scene.wq("since", "c", "-0").output, b"+ src/f g.c\0")
+        self.same("since -0", scene.wq("since", "-n", "c", "-0").output, b"+ src/f g.c\0")
         scene.write("src/h.c")
-        reply = json.loads(scene.wq("since", "c", "--json").output)
+        reply = json.loads(scene.wq("since", "-n", "c", "--json").output)
         self.same("since --json", [file["name"] for file in reply["files"]], ["src/h.c"])
-        scene.wq("since", "c", "src")
+        scene.wq("since", "-n", "c", "src")
         scene.write("src/i.c")
-        reply = json.loads(scene.wq("since", "c", "src", "--json").output)
+        reply = json.loads(scene.wq("since", "-n", "c", "src", "--json").output)
         self.same(
             "since DIR --json",
             (reply["root"], reply["below"], [file["name"] for file in reply["files"]]),
@@ -102,51 +98,50 @@ class Changing(Beside):
         )
         scene.write("src/j.c")
         self.same(
-            "since --json --lines",
-            scene.names("since", "c", "src", "--json", "--lines"),
+            "since --json --jsonl",
+            scene.names("since", "-n", "c", "src", "--json", "--jsonl"),
             ['{"exists":true,"name":"src/j.c","new":true,"type":"f"}'],
         )
 
     def check_since_restarted(self, scene: Scene) -> None:
         """All files are listed, and why is said."""
-        scene.wq("since", "a")
+        scene.wq("since", "-n", "a")
         scene.wq("unwatch")
-        ended = scene.wq("since", "a")
-        words = f"{scene.tree} was unwatched since, and is watched anew, so all files are listed"
-        self.same("since after unwatch", (ended.errors, ended.output.startswith(b"+ dir\n")), (said(words), True))
+        ended = scene.wq("since", "-n", "a")
+        words = f"{scene.tree} was unwatched since the last call: listing everything"
+        self.same("since after unwatch", (ended.errors, ended.output.startswith(b"+ dir/f.c\n")), (said(words), True))
         with scene.client() as client:
             start = client.ask("clock", str(scene.tree))["clock"]
         scene.wq("restart")
-        ended = scene.wq("since", "a")
-        self.same("since after a restart", (ended.status, ended.output.startswith(b"+ dir\n")), (0, True))
+        ended = scene.wq("since", "-n", "a")
+        self.same("since after a restart", (ended.status, ended.output.startswith(b"+ dir/f.c\n")), (0, True))
         text = ended.errors.decode()
-        is_said = text.startswith("wq: the server was restarted since: it is of 2") and text.endswith(
-            ", so all files are listed\n"
+        is_said = text.startswith("wq: the server was restarted at 2") and text.endswith(
+            ", after the last call: listing everything\n"
         )
         self.check("what is said of a restart", is_said, [text, start])
-        self.same("since after that", scene.wq("since", "a"), built.Ended(b"", b"", 1))
+        self.same("since after that", scene.wq("since", "-n", "a"), built.Ended(b"", b"", 1))
 
     def check_since_words(self, scene: Scene) -> None:
-        wrong(self, scene, ["since", "."], ". is a directory, and a name comes before it: wq since NAME .")
         wrong(
             self,
             scene,
-            ["since", "src", "*.c"],
-            "src is a directory, and a name comes before it: wq since NAME src '*.c'",
+            ["since", "build", "src", "*.c"],
+            "build is no directory here; write '*build*' for names that contain it, or './build' for a file of that "
+            "name; for a name write: wq since -n build src '*.c'",
         )
         scene.wq("since")
-        first = said("this was not asked here before, so all files are listed")
+        first = said("first since here: listing everything")
         self.same("a first glob without a name", scene.wq("since", "*.d").errors, first)
-        wrong(self, scene, ["since", ""], "the name has 0 bytes, and 1 to 255 may be")
-        wrong(self, scene, ["since", "x" * 256], "the name has 256 bytes, and 1 to 255 may be")
-        self.same("a name with blanks", scene.wq("since", "a b:ü").status, 0)
+        wrong(self, scene, ["since", "-n", "x" * 256], "the name has 256 bytes, and 1 to 255 may be")
+        self.same("a name with blanks", scene.wq("since", "-n", "a b:ü").status, 0)
         (scene.room / "state" / "wq" / "clocks").rename(scene.room / "kept")
         (scene.room / "state" / "wq" / "clocks").write_text("no directory")
-        ended = scene.wq("since", "d", "*.h")
+        ended = scene.wq("since", "-n", "d", "*.h")
         self.same(
             "clocks that cannot be kept",
-            (ended.status, ended.output, b"so --peek does not know" in ended.errors),
-            (0, b"+ src/deep/c.h\n+ src/deep/d.h\n", True),
+            (ended.status, ended.output, b"so the next call tells this again" in ended.errors),
+            (3, b"+ src/deep/c.h\n+ src/deep/d.h\n", True),
         )
 
     def test_follow(self) -> None:
@@ -174,10 +169,10 @@ class Changing(Beside):
             lists = [json.loads(line) for line in going.output.splitlines()]
             found = (lists[0]["below"], lists[0]["files"][0]["name"], lists[0]["files"][0]["exists"])
             self.same("follow --json", found, ("src", "src/a.c", True))
-        with scene.begin("follow", "*.c", "src", "dir", "--json", "--lines") as going:
+        with scene.begin("follow", "*.c", "src", "dir", "--json", "--jsonl") as going:
             touch_until(scene, going, "src/a.c")
             self.same(
-                "follow --json --lines",
+                "follow --json --jsonl",
                 going.output.splitlines()[0],
                 b'{"exists":true,"name":"src/a.c","new":false,"type":"f"}',
             )

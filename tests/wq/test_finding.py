@@ -4,9 +4,11 @@ import json
 import os
 import subprocess
 import time
+from typing import Callable
 
 import built
 from case import Beside
+from client import Client
 from scene import Scene, said, wrong
 
 C_FILES = ["src/a.c", "src/b b.c"]
@@ -55,7 +57,7 @@ class Finding(Beside):
             (["node_modules/x", "*.c"], ["node_modules/x/y.c"]),
             (["target"], ["target/z.c"]),
             ([".git"], [".git/HEAD"]),
-            (["--all", "*.c"], ["node_modules/x/y.c", *C_FILES, "target/z.c"]),
+            (["-H", "*.c"], ["node_modules/x/y.c", *C_FILES, "target/z.c"]),
             (["--exclude", "*.c", "-t", "f"], ["Makefile", "src/deep/c.h"]),
             (["--exclude", "deep", "--exclude", "Make*"], ["src", *C_FILES]),
             (["--exclude", "src/deep"], ["Makefile", "src", *C_FILES]),
@@ -76,8 +78,8 @@ class Finding(Beside):
             (["-e", "h"], ["src/deep/c.h"]),
             (["-e", "C", "-e", "h"], [*C_FILES, "src/deep/c.h"]),
             (["--size", "+4k", "-t", "f"], ["large"]),
-            (["--size", "5000"], ["large"]),
-            (["--size", "0", "-t", "f"], ["empty"]),
+            (["-t", "e"], ["empty"]),
+            (["-t", "f,empty"], ["empty"]),
             (["--size", "-0b", "-t", "f"], ["empty"]),
             (["--newer", "1h", "large", "empty"], ["empty"]),
             (["--newer", "10000d", "large"], ["large"]),
@@ -117,7 +119,7 @@ class Finding(Beside):
         )
 
     def check_json(self, scene: Scene) -> None:
-        """The names are those that find prints, also in JSON; each directory is one line, or each file with --lines."""
+        """The names are those that find prints, also in JSON; each directory is one line, or each file with --jsonl."""
         reply = json.loads(scene.wq("find", "src", "*.h", "--json").output)
         self.same(
             "find DIR --json",
@@ -131,12 +133,12 @@ class Finding(Beside):
             [("src", C_FILES), ("target", ["target/z.c"])],
         )
         self.same(
-            "find --json --lines",
-            scene.names("find", "src", "target", "*.c", "--json", "--lines"),
+            "find --json --jsonl",
+            scene.names("find", "src", "target", "*.c", "--json", "--jsonl"),
             [f'{{"name":"{name}","type":"f"}}' for name in [*C_FILES, "target/z.c"]],
         )
         self.same(
-            "find --lines alone", scene.names("find", "src", "*.h", "--lines"), ['{"name":"src/deep/c.h","type":"f"}']
+            "find --jsonl alone", scene.names("find", "src", "*.h", "--jsonl"), ['{"name":"src/deep/c.h","type":"f"}']
         )
         counts = [json.loads(line) for line in scene.names("find", "src", "target", "*.c", "--json", "--count")]
         self.same(
@@ -148,15 +150,13 @@ class Finding(Beside):
 
     def check_unknown(self, scene: Scene) -> None:
         """A word that names nothing is a mistake; one that names a file that is gone is none."""
-        for command in (["find"], ["since", "name"], ["follow"], ["run"]):
+        unknown = (
+            "scr is no directory here; write '*scr*' for names that contain it, or './scr' for a file of that name"
+        )
+        for command in (["find"], ["since", "-n", "name"], ["follow"], ["wait"], ["run"]):
             ends = ["--", "true"] if command == ["run"] else []
             for words in (["scr", "*.c"], ["*.c", "scr"], ["src", "scr"]):
-                wrong(
-                    self,
-                    scene,
-                    [*command, *words, *ends],
-                    "scr is no directory here; write './scr' for a file of that name",
-                )
+                wrong(self, scene, [*command, *words, *ends], unknown)
         wrong(
             self, scene, ["find", "src/b.c"], "src/b.c is no directory here; write './src/b.c' for a file of that name"
         )
@@ -188,10 +188,10 @@ class Finding(Beside):
         scene.write("[x]/y/target/in")
         self.same(
             "a directory like a pattern",
-            scene.names("find", "[x]", "--all"),
+            scene.names("find", "[x]", "-H"),
             ["[x]/y", "[x]/y/target", "[x]/y/target/in"],
         )
-        self.same("a glob below it", scene.names("find", "[x]", "y/*", "--all"), ["[x]/y/target"])
+        self.same("a glob below it", scene.names("find", "[x]", "y/*", "-H"), ["[x]/y/target"])
         for words in (
             ["find", b"\xff"],
             ["since", b"\xff"],
@@ -210,11 +210,13 @@ class Finding(Beside):
         self.same("a locale without UTF-8", scene.wq("find", "odd", "ü", **other).output, "odd/ü\n".encode())
 
     def check_wrong_words(self, scene: Scene) -> None:
-        letters = "-t takes letters of f (file), d (directory), l (link), b, c, p, s and D, and not"
-        size = "--size takes a number with a unit, such as +1M (at least), -10k (at most) or 0, and not"
+        letters = "-t takes f (file), d (directory), l (link), x (executable), e (empty), b, c, p, s or D, and not"
+        size = "--size takes +1M (at least) or -10k (at most), and not"
         for words, reason in (
-            (["-t", "x"], f'{letters} "x"; the server sees no permissions'),
+            (["-t", "y"], f'{letters} "y"'),
             (["--size", "big"], f'{size} "big"'),
+            (["--size", "10k"], "--size takes +10k for at least so much, or -10k for at most"),
+            (["--color", "blue"], "--color takes auto, always or never, and not blue"),
             (
                 ["--newer", "soon"],
                 "--newer takes an age, such as 30s, 10min, 2h, 3d or 1w, or a date, such as 2026-11-28 or '2026-11-28 "
@@ -226,9 +228,8 @@ class Finding(Beside):
             (["/not/there"], "/not/there: No such file or directory"),
             (
                 ["--program", "p", "-t", "f"],
-                "--program takes the place of -i, -t, --size, --newer, --older, --exclude, --max-depth, --min-depth and "
-                "--expression; "
-                "take them out",
+                "--program takes the place of -i, -t, --size, --newer, --older, --exclude, --max-depth, --min-depth "
+                "and --expression; take them out",
             ),
             (["--program", "p", "*.c", "-e", "c"], "--program takes globs or -e beside it, and not both"),
         ):
@@ -254,39 +255,41 @@ class Finding(Beside):
             self.same("wqasm add at the default socket", added.returncode, 0)
             scene.write("huge/h", "x" * 1_048_577)
             scene.write("target/t", "x" * 1_048_577)
-            self.same("find --program", scene.names("find", "--program", "large"), ["huge/h"])
-            self.same("find DIR --program", scene.names("find", "huge", "--program", "large"), ["huge/h"])
-            for globs, expected in (
-                (["h*"], "huge/h\n"),
-                (["*.c"], ""),
-                (["huge/*"], "huge/h\n"),
-                (["./h"], ""),
-                (["*.c", "h*"], "huge/h\n"),
-                (["huge", "h"], "huge/h\n"),
-                (["huge", "./h"], "huge/h\n"),
-                (["src", "h*"], ""),
-                (["-e", "c"], ""),
-            ):
-                found = scene.wq("find", "--program", "large", *globs)
-                self.same(f"find --program {globs}", found, built.Ended(expected.encode(), b"", 0 if expected else 1))
-            wrong(
-                self,
-                scene,
-                ["find", "huge", "--program", "large", "-e", "c"],
-                "-e beside --program is for a whole root; take a glob for a directory below it",
-            )
-            self.same(
-                "find --program --all", scene.names("find", "--program", "large", "--all"), ["huge/h", "target/t"]
-            )
-            wrong(
-                self,
-                scene,
-                ["find", "--program", "lage"],
-                "E34: no such program",
-                'no program is stored as "lage"; did you mean "large"?',
-                status=3,
-            )
-            self.same("the programs", client.ask("program-list")["programs"], ["large"])
+            self.check_lists_of_program(scene, client)
+
+    def check_lists_of_program(self, scene: Scene, client: Client) -> None:
+        """A stored program is asked about the files of globs, suffixes and directories."""
+        self.same("find --program", scene.names("find", "--program", "large"), ["huge/h"])
+        self.same("find DIR --program", scene.names("find", "huge", "--program", "large"), ["huge/h"])
+        for globs, expected in (
+            (["h*"], "huge/h\n"),
+            (["*.c"], ""),
+            (["huge/*"], "huge/h\n"),
+            (["./h"], ""),
+            (["*.c", "h*"], "huge/h\n"),
+            (["huge", "h"], "huge/h\n"),
+            (["huge", "./h"], "huge/h\n"),
+            (["src", "h*"], ""),
+            (["-e", "c"], ""),
+        ):
+            found = scene.wq("find", "--program", "large", *globs)
+            self.same(f"find --program {globs}", found, built.Ended(expected.encode(), b"", 0 if expected else 1))
+        wrong(
+            self,
+            scene,
+            ["find", "huge", "--program", "large", "-e", "c"],
+            "-e beside --program is for a whole root; take a glob for a directory below it",
+        )
+        self.same("find --program -H", scene.names("find", "--program", "large", "-H"), ["huge/h", "target/t"])
+        wrong(
+            self,
+            scene,
+            ["find", "--program", "lage"],
+            "E34: no such program",
+            'no program is stored as "lage"; did you mean "large"?',
+            status=3,
+        )
+        self.same("the programs", client.ask("program-list")["programs"], ["large"])
 
     def test_roots(self) -> None:
         """The root of a project is watched, and find gives it back."""
@@ -324,19 +327,23 @@ class Finding(Beside):
                 scene.names("watch", self.room / "plain" / "below"),
                 [str(self.room / "plain")],
             )
-            (self.room / "link").symlink_to(scene.tree / "src")
-            self.same(
-                "a link to a directory", scene.names("find", self.room / "link", "*.h"), [f"{self.room}/link/deep/c.h"]
-            )
-            self.same(
-                "ten directories of a project are one root",
-                watched(),
-                [str(scene.tree), str(self.room / "hg"), str(self.room / "watchmanconfig"), str(self.room / "plain")],
-            )
-            # As if another command had begun to need the root while find had it watched.
-            client.ask("watch-del", str(scene.tree))
-            scene.names("find", "src")
-            self.same("find leaves a root that others need", str(scene.tree) in watched(), True)
-            scene.names("unwatch")
-            scene.names("find", "src")
-            self.same("but not after unwatch", str(scene.tree) in watched(), False)
+            self.check_shared_roots(scene, client, watched)
+
+    def check_shared_roots(self, scene: Scene, client: Client, watched: Callable[[], object]) -> None:
+        """Directories of one project share a root, which others may need."""
+        (self.room / "link").symlink_to(scene.tree / "src")
+        self.same(
+            "a link to a directory", scene.names("find", self.room / "link", "*.h"), [f"{self.room}/link/deep/c.h"]
+        )
+        self.same(
+            "ten directories of a project are one root",
+            watched(),
+            [str(scene.tree), str(self.room / "hg"), str(self.room / "watchmanconfig"), str(self.room / "plain")],
+        )
+        # As if another command had begun to need the root while find had it watched.
+        client.ask("watch-del", str(scene.tree))
+        scene.names("find", "src")
+        self.same("find leaves a root that others need", str(scene.tree) in watched(), True)
+        scene.names("unwatch")
+        scene.names("find", "src")
+        self.same("but not after unwatch", str(scene.tree) in watched(), False)

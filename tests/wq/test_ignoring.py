@@ -130,6 +130,8 @@ class Ignoring(Beside):
             "src/keep.o",
             "src/out",
         ]
+        # Git does not ignore these, so they are listed here.
+        left = sorted([*left, "node_modules/x/y.c", "target/z.c"])
         ignored = ["dist/in/y.js", "dist/x.js", "out", "src/a.o", "src/dist/z.js"]
         for words, expected in (
             ([], left),
@@ -138,10 +140,11 @@ class Ignoring(Beside):
             (["*.o"], ["src/keep.o"]),
             (["src", "*.o"], ["src/keep.o"]),
             (["*.js", "--no-ignore"], ["dist/in/y.js", "dist/x.js", "src/dist/z.js"]),
-            (["*.js", "--all"], ["dist/in/y.js", "dist/x.js", "src/dist/z.js"]),
+            (["*.js", "-u"], ["dist/in/y.js", "dist/x.js", "src/dist/z.js"]),
             (["dist"], ["dist/in/y.js", "dist/x.js"]),
             (["dist/in", "*.c", "*.js"], ["dist/in/y.js"]),
-            (["--all", "--gitignore", "*.c"], ["node_modules/x/y.c", "src/a.c", "src/b b.c", "target/z.c"]),
+            (["description", "-H"], [".git/description"]),
+            (["-H", "--gitignore", "keep.*", "*.js"], ["src/keep.o"]),
             (["--count"], [str(len(left))]),
         ):
             self.same(f"find {words} in a repository", scene.names("find", "-t", "f", *words), expected)
@@ -199,26 +202,55 @@ class Ignoring(Beside):
         self.same("once they are not", scene.names("find", "*.o", "dist/**"), ["src/keep.o"])
 
     def check_ignored_since(self, scene: Scene) -> None:
-        scene.wq("since", "a", ".")
-        scene.wq("since", "a", ".", "--no-ignore")
+        scene.wq("since", "-n", "a", ".")
+        scene.wq("since", "-n", "a", ".", "--no-ignore")
         for name in ("src/new.o", "dist/new.js", "src/new.c", "later/dist/new.js", "gone/dist/new"):
             scene.write(name)
-        self.same("since in a repository", scene.names("since", "a", "."), ["+ gone", "+ later", "+ src/new.c"])
+        self.same("since in a repository", scene.names("since", "-n", "a", "."), ["+ gone", "+ later", "+ src/new.c"])
         shutil.rmtree(scene.tree / "gone")
         (scene.tree / "src" / "new.o").unlink()
         (scene.tree / "src" / "new.c").unlink()
-        self.same("files that went", scene.names("since", "a", "."), ["- gone", "- src/new.c"])
+        self.same("files that went", scene.names("since", "-n", "a", "."), ["- gone", "- src/new.c"])
         shutil.rmtree(scene.tree / "later" / "dist")
         (scene.tree / "later").rmdir()
         (scene.tree / "later").symlink_to("src")
-        self.same("a link in place of a directory", scene.names("since", "a", ".")[0], "~ later")
+        self.same("a link in place of a directory", scene.names("since", "-n", "a", ".")[0], "~ later")
         (scene.tree / "later").unlink()
         for number in range(600):
             scene.write(f"many/{number}.o")
             scene.write(f"many/{number}.c")
-        self.same("many files", len(scene.names("since", "a", ".")), 602)
+        self.same("many files", len(scene.names("since", "-n", "a", ".")), 602)
         shutil.rmtree(scene.tree / "many")
-        self.same("many that went", len(scene.names("since", "a", ".")), 601)
+        self.same("many that went", len(scene.names("since", "-n", "a", ".")), 601)
+
+    def test_rules_that_change(self) -> None:
+        """What a changed rule shuts out goes, and what it no longer shuts out comes."""
+        with Scene(self.room) as scene:
+            shutil.rmtree(scene.tree / ".git")
+            git(scene.tree, "init", "--quiet")
+            scene.write(".gitignore", "*.o\n")
+            for name in ("src/a.o", "dist/x.js", "dist/in/y.js"):
+                scene.write(name)
+            scene.wq("since", "src", "dist")
+            scene.write(".gitignore", "dist/\n")
+            for name in ("src/b.o", "dist/new.js"):
+                scene.write(name)
+            told = ["+ src/a.o", "+ src/b.o", "- dist/in/y.js", "- dist/x.js"]
+            self.same("since by another rule", sorted(scene.names("since", "src", "dist")), sorted(told))
+            self.same("told once", scene.wq("since", "src", "dist"), built.Ended(b"", b"", 1))
+            (scene.tree / ".gitignore").unlink()
+            told = ["+ dist/in/y.js", "+ dist/new.js", "+ dist/x.js"]
+            self.same("since without rules", scene.names("since", "src", "dist"), told)
+            scene.write(".git/info/exclude", "*.o\n")
+            self.same("a rule of the repository", scene.names("since", "src", "dist"), ["- src/a.o", "- src/b.o"])
+            with scene.begin("follow", "src", "dist") as going:
+                touch_until(scene, going, "src/a.c")
+                scene.write(".gitignore", "dist/\n!a.o\n")
+                for line in ("- dist/in/y.js\n", "- dist/x.js\n", "+ src/a.o\n"):
+                    self.check(f"follow tells {line!r}", going.prints(line))
+                (scene.tree / ".gitignore").unlink()
+                for line in ("+ dist/in/y.js\n", "- src/a.o\n"):
+                    self.check(f"follow tells {line!r}", going.prints(line))
 
     def check_ignored_in_windows(self, scene: Scene) -> None:
         """follow and run leave out what is ignored, also by rules that come while they go on."""

@@ -48,7 +48,8 @@ LONG_ONES: List[Wrong] = [
     (
         '"expression":["allof"' + ',"true"' * 21_846 + "]",
         "E30: program too large",
-        "the program of an expression has at most 65,536 instructions, and a list of it as many texts; name many files by "
+        "the program of an expression has at most 65,536 instructions, and a list of it as many texts; name many files "
+        "by "
         'one list: ["name",[..]]',
     ),
 ]

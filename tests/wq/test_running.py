@@ -69,7 +69,7 @@ class Running(Beside):
         log.clear()
 
     def check_bursts(self, scene: Scene, log: Log) -> None:
-        with scene.begin("run", "--quiet", "900", *command()) as going:
+        with scene.begin("run", "--debounce", "900", *command()) as going:
             self.check("a run before the burst", going.waits_for(has_runs(log, 1)))
             time.sleep(0.2)
             for number in range(20):
@@ -166,10 +166,9 @@ class Running(Beside):
             wrong(
                 self,
                 scene,
-                ["run", "--quiet", "x", "--", "true"],
-                "argument --quiet: invalid int value: 'x'; see `wq run --help`",
+                ["run", "--debounce=-1", "--", "true"],
+                "argument --debounce: -1 is no number of milliseconds from 0 on; see `wq run --help`",
             )
-            wrong(self, scene, ["run", "--quiet=-1", "--", "true"], "--quiet takes a number of milliseconds from 0 on")
 
 
 def command(*words: str) -> List[str]:

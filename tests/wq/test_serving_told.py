@@ -10,6 +10,7 @@ import time
 from pathlib import Path
 from threading import Timer
 from types import SimpleNamespace
+from typing import Any, Dict
 from unittest import mock
 
 import built
@@ -17,8 +18,11 @@ from case import Beside
 from client import PATIENCE
 from scene import COMMAND, Scene, said, wrong
 from waiting import wait_until
+from wq.answering import require_answers
+from wq.file_systems import hearing_of, mount_of
 from wq.processes import is_of_unit, names_unit
 from wq.server_log import Failures, Log
+from wq.trouble import WrongWords
 from wqclient.unit import listens_soon
 
 A_HOUR = 3_600
@@ -28,7 +32,7 @@ class ServingTold(Beside):
     def test_server(self) -> None:
         with Scene(self.room, starts=False) as scene:
             nobody = f"no server listens on {scene.sockname}; `wq start` starts one"
-            for words in (["status"], ["stop"], ["roots"], ["unwatch"], ["triggers"], ["untrigger", ".", "t"]):
+            for words in (["status"], ["stop"], ["roots"], ["unwatch"], ["triggers"], ["untrigger", "t", "."]):
                 wrong(self, scene, words, nobody, status=1)
             started = said(f"started a server at {scene.sockname}")
             self.same("start", scene.wq("start", "--interval", "50", "--workers=2"), built.Ended(b"", started, 0))
@@ -179,7 +183,7 @@ class ServingTold(Beside):
     def test_status(self) -> None:
         with Scene(self.room) as scene, scene.client() as other:
             scene.wq("watch")
-            scene.wq("trigger", ".", "build", "--", "make", "all targets")
+            scene.wq("trigger", "build", ".", "--", "make", "all targets")
             (self.room / "gone").mkdir()
             scene.wq("watch", self.room / "gone")
             (self.room / "gone").rmdir()
@@ -210,18 +214,22 @@ class ServingTold(Beside):
             )
             programs = [{"name": "large", "budget": 7}, {"name": "other", "budget": None}]
             self.same("the programs", found["programs"], programs)
-            text = scene.wq("status").output.decode()
-            for part in (
-                f"socket    {scene.sockname}\n",
-                "clients   1 beside this one",
-                "7 files and 6 directories, tick 1, a crawl takes",
-                "trigger build: make 'all targets'",
-                "E11: root cannot be read",
-                "program   large, budget 7 steps a file",
-                "program   other, budget unknown",
-                f"process   {found['process']}, ",
-            ):
-                self.check(f"status has {part!r}", part in text, text.splitlines())
+            self.check_status_text(scene, found)
+
+    def check_status_text(self, scene: Scene, found: Dict[str, Any]) -> None:
+        """The same in words."""
+        text = scene.wq("status").output.decode()
+        for part in (
+            f"socket    {scene.sockname}\n",
+            "clients   1 beside this one",
+            "7 files and 6 directories, tick 1, a crawl takes",
+            "trigger build: make 'all targets'",
+            "E11: root cannot be read",
+            "program   large, budget 7 steps a file",
+            "program   other, budget unknown",
+            f"process   {found['process']}, ",
+        ):
+            self.check(f"status has {part!r}", part in text, text.splitlines())
 
     def test_watches(self) -> None:
         with Scene(self.room) as scene:
@@ -249,12 +257,77 @@ class ServingTold(Beside):
             self.same("unwatch of one that is gone", scene.names("unwatch", names[3]), [names[3]])
             self.same("a place that was given back", scene.names("watch", names[16]), [names[16]])
 
+    def test_own_roots(self) -> None:
+        """A directory that a person made a root of its own is one for each command below it."""
+        with Scene(self.room) as scene:
+            (scene.tree / ".git" / "objects").mkdir()
+            src, deep = str(scene.tree / "src"), str(scene.tree / "src" / "deep")
+            self.same("watch --root", scene.names("watch", "--root", "src"), [src])
+            self.same("below it", scene.names("watch", "src/deep"), [src])
+            self.same("above it", scene.names("watch"), [str(scene.tree)])
+            scene.wq("restart")
+            self.same("another server", scene.names("watch", deep), [src])
+            self.same("unwatch", scene.names("unwatch", "src"), [src])
+            self.same("a part of the project again", scene.names("watch", "src/deep"), [str(scene.tree)])
+
+    def test_places_of_a_server(self) -> None:
+        """The socket, the log, and whether wqd is right for a place."""
+        with Scene(self.room, starts=False) as scene:
+            path = f"{scene.sockname}\n".encode()
+            self.same("sockname of none", scene.wq("sockname"), built.Ended(path, b"", 1))
+            self.same("sockname --start", scene.wq("sockname", "--start").output, path)
+            self.same("get-sockname", scene.wq("get-sockname"), built.Ended(path, b"", 0))
+            self.same("log", scene.wq("log").output, f"listening on {scene.sockname}\n".encode())
+            with scene.begin("log", "-f") as going:
+                self.check("what was said", going.prints("listening on "))
+                scene.wq("stop")
+                scene.wq("start")
+                self.check("and what is said", going.waits_for(lambda one: one.output.count(b"listening on") == 2))
+            lines = scene.names("doctor", "src")
+            for front in (
+                "socket    ",
+                f"root      {scene.tree}",
+                "on        ",
+                "kernel    ",
+                "size      ",
+                "scan      ",
+            ):
+                self.check(f"doctor has {front!r}", any(line.startswith(front) for line in lines), lines)
+            self.same("it leaves no root", scene.wq("roots").status, 1)
+
+    def test_file_systems(self) -> None:
+        """The mount of a path, and what the kernel does not tell of there."""
+        mounts = (
+            "22 1 8:1 / / rw,relatime - ext4 /dev/sda1 rw\n"
+            "30 22 0:40 / /mnt/with\\040space rw - nfs4 host:/ rw,vers=4.2\n"
+            "31 22 0:41 / /mnt/with\\040space/in rw - fuse.sshfs host: rw\n"
+        )
+        for path, kind, silent in (
+            ("/home", "ext4", None),
+            ("/mnt/with space/x", "nfs4", "other machines"),
+            ("/mnt/with space/in", "fuse.sshfs", "other machines"),
+            ("/mnt/with spaces", "ext4", None),
+        ):
+            mount = mount_of(path, mounts)
+            found = hearing_of(mount.kind)
+            self.same(f"the mount of {path}", (mount.kind, found and found.silent_about), (kind, silent))
+        for kind in ("9p", "virtiofs", "cifs", "fuse.unknown"):
+            self.check(f"{kind} is not heard", hearing_of(kind) is not None)
+
+    def test_answers(self) -> None:
+        """A file system that does not answer is named, and nothing waits for it."""
+        began = time.monotonic()
+        with self.assertRaisesRegex(WrongWords, "^hangs: its file system does not answer$"):
+            require_answers(["good", "hangs", "later"], lambda path: time.sleep(60 if path == "hangs" else 0), 8.0)
+        self.check("it does not take long", time.monotonic() - began < 40)
+        require_answers(["good", "not there"])
+
     def test_triggers(self) -> None:
         with Scene(self.room) as scene:
             self.same("the root of a trigger is watched", scene.wq("triggers").status, 3)
             made = said(f"trigger t of {scene.tree} is created; its command runs there")
             script = 'pwd > ../ran; echo "$@" >> ../ran'
-            call = scene.wq("trigger", "src", "t", "*.h", "--", "sh", "-c", script, "sh", "{}")
+            call = scene.wq("trigger", "t", "src", "*.h", "--", "sh", "-c", script, "sh", "{}")
             self.same("trigger", call, built.Ended(b"", made, 0))
             self.check("its command runs", reads(self.room / "ran", f"{scene.tree}\n./src/deep/c.h\n"))
             lines = scene.names("triggers", "src")
@@ -262,61 +335,74 @@ class ServingTold(Beside):
             asked = json.loads(scene.wq("triggers", "--json").output)["triggers"][0]
             self.same("triggers --json", (asked["append_files"], asked["expression"][0]), (True, "allof"))
             again = said(f"trigger t of {scene.tree} is replaced; its command runs there")
-            call = scene.wq("trigger", ".", "t", "Makefile", "--stdin", "--", "sh", "-c", "cat > ../names")
+            call = scene.wq("trigger", "t", ".", "Makefile", "--stdin", "--", "sh", "-c", "cat > ../names")
             self.same("a second one", call, built.Ended(b"", again, 0))
             self.check("names on its input", reads(self.room / "names", "Makefile\n"))
             self.check_names_of_triggers(scene)
-            self.same("untrigger", scene.wq("untrigger", ".", "t"), built.Ended(b"", b"", 0))
-            wrong(self, scene, ["untrigger", ".", "t"], f"{scene.tree} has no trigger t", status=1)
-            self.same("no triggers", scene.wq("triggers"), built.Ended(b"", b"", 1))
+            self.check_wrong_triggers(scene)
+
+    def check_wrong_triggers(self, scene: Scene) -> None:
+        """A trigger is removed, and wrong ones are refused."""
+        self.same("untrigger", scene.wq("untrigger", "t", "."), built.Ended(b"", b"", 0))
+        wrong(self, scene, ["untrigger", "t", "."], f"{scene.tree} has no trigger t", status=1)
+        self.same("no triggers", scene.wq("triggers"), built.Ended(b"", b"", 1))
+        wrong(
+            self,
+            scene,
+            ["trigger", "t", "."],
+            "trigger takes `--` and a command after it, such as: wq trigger build '*.c' -- make",
+        )
+        for command in (["echo", "{}", "x"], ["{}"]):
             wrong(
                 self,
                 scene,
-                ["trigger", ".", "t"],
-                "trigger takes `--` and a command after it, such as: wq trigger build '*.c' -- make",
+                ["trigger", "t", ".", "--", *command],
+                "the names of files come last in the command of a trigger, so {} may be its last word alone",
             )
-            for command in (["echo", "{}", "x"], ["{}"]):
-                wrong(
-                    self,
-                    scene,
-                    ["trigger", ".", "t", "--", *command],
-                    "the names of files come last in the command of a trigger, so {} may be its last word alone",
-                )
-            wrong(
-                self,
-                scene,
-                ["trigger", ".", "n" * 256, "--", "true"],
-                "E36: bad name",
-                f'the name has 256 bytes, and at most 255 may be: "{"n" * 59}..',
-                status=3,
-            )
-            wrong(
-                self,
-                scene,
-                ["triggers", self.room],
-                "E14: root is not watched",
-                f'"{self.room}" is not watched; did you mean "{scene.tree}"?. ["watch","{self.room}"] watches it',
-                status=3,
-            )
+        wrong(
+            self,
+            scene,
+            ["trigger", "n" * 256, "--", "true"],
+            "E36: bad name",
+            f'the name has 256 bytes, and at most 255 may be: "{"n" * 59}..',
+            status=3,
+        )
+        wrong(
+            self,
+            scene,
+            ["triggers", self.room],
+            "E14: root is not watched",
+            f'"{self.room}" is not watched; did you mean "{scene.tree}"?. ["watch","{self.room}"] watches it',
+            status=3,
+        )
 
     def check_names_of_triggers(self, scene: Scene) -> None:
-        """The directory may come before the name, and is the current one without. What is neither is refused."""
+        """The name comes first, whatever is on disk; a directory may come after it."""
         made = said(f"trigger u of {scene.tree} is created; its command runs there")
         self.same("a trigger here", scene.wq("trigger", "u", "*.none", "--", "true"), built.Ended(b"", made, 0))
         self.same("untrigger here", scene.wq("untrigger", "u"), built.Ended(b"", b"", 0))
         for words, sentence in (
             (["trigger", "srk", "build", "--", "true"], "build is no file here; write './build' for one that may come"),
             (
-                ["trigger", "build", "src", "--", "true"],
-                "src is a directory; a trigger has one, which comes before its name",
+                ["trigger", "src", "build", "*.c", "--", "true"],
+                "build is no file here; write './build' for one that may come; the name comes first: wq trigger build "
+                "src -- ..",
             ),
-            (["trigger", "src", "*.c", "--", "true"], "src is a directory, and the name of the trigger comes after it"),
+            (
+                ["trigger", ".", "build", "*.c", "--", "true"],
+                "the name of the trigger comes first: wq trigger build . '*.c'",
+            ),
+            (
+                ["trigger", "*.c", "--", "true"],
+                "the name of the trigger is missing, such as in: wq trigger build '*.c' -- make",
+            ),
+            (["untrigger", ".", "build"], "the name of the trigger comes first: wq untrigger build ."),
             (
                 ["trigger", "--", "true"],
                 "the name of the trigger is missing, such as in: wq trigger build '*.c' -- make",
             ),
             (["untrigger"], "the name of the trigger is missing, such as in: wq untrigger build"),
-            (["untrigger", ".", "t", "u"], "untrigger takes one name: u"),
+            (["untrigger", "t", ".", "u"], "untrigger takes a name and a directory, and no further words: u"),
         ):
             wrong(self, scene, words, sentence)
 
@@ -353,23 +439,28 @@ class ServingTold(Beside):
                 scene.names("triggers")[:2],
                 ["fails: true", "killed: sh -c 'kill -9 $$'"],
             )
-            (scene.tree / os.fsdecode(b"not\xffutf8")).touch()
-            (scene.tree / "closed").mkdir(mode=0)
-            shown = "          left out: names that are not UTF-8: 1"
-            self.check(
-                "names that are left out", wait_until(lambda: shown in scene.names("status")), scene.names("status")
-            )
-            found = facts(scene)
-            closed = 0 if os.getuid() == 0 else 1
-            self.same("what is left out", found["roots"][0]["left_out"], {"names": 1, "directories": closed})
-            text = scene.names("status")
-            for line in (
-                f"log       {found['log']}",
-                "          trigger killed: sh -c 'kill -9 $$'",
-                "            last failure: could not be started: No such file or directory (os error 2)",
-            ):
-                self.check(f"status has {line!r}", line in text, text)
-            self.same("the log is a file", "listening on" in Path(found["log"]).read_text(), True)
+            self.check_left_out(scene)
+
+    def check_left_out(self, scene: Scene) -> None:
+        """Names and directories that are left out are counted."""
+        (scene.tree / os.fsdecode(b"not\xffutf8")).touch()
+        (scene.tree / "closed").mkdir(mode=0)
+        shown = "          left out: names that are not UTF-8: 1"
+        self.check("names that are left out", wait_until(lambda: shown in scene.names("status")), scene.names("status"))
+        left = said(f"{scene.tree}: names that are not UTF-8 are left out: 1")
+        self.check("find says so", scene.wq("find", "*.h").errors.startswith(left))
+        self.check("since says so", left in scene.wq("since", "*.h").errors)
+        found = facts(scene)
+        closed = 0 if os.getuid() == 0 else 1
+        self.same("what is left out", found["roots"][0]["left_out"], {"names": 1, "directories": closed})
+        text = scene.names("status")
+        for line in (
+            f"log       {found['log']}",
+            "          trigger killed: sh -c 'kill -9 $$'",
+            "            last failure: could not be started: No such file or directory (os error 2)",
+        ):
+            self.check(f"status has {line!r}", line in text, text)
+        self.same("the log is a file", "listening on" in Path(found["log"]).read_text(), True)
 
 
 def words_of(process: int) -> list:

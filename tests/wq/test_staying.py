@@ -16,7 +16,7 @@ from client import PATIENCE
 from scene import Going, Scene, said
 from test_serving_told import facts
 
-FOLLOWING = r"following ([0-9,]+) files? below (\S+); scans about each [0-9.]+ s"
+FOLLOWING = r"following ([0-9,]+) files? below (\S+); changes show within about [0-9.]+ s, later under load"
 # Listen and answer nothing. The one hears no SIGTERM, the other is busy.
 SILENT = """
 import signal, socket, sys, time
@@ -47,7 +47,9 @@ class Staying(Beside):
     def check_follow_after(self, scene: Scene) -> None:
         """A server that is killed is started again, one that is restarted is asked on."""
         with scene.begin("follow", ".", "*.c") as going:
-            self.check("follow says what it follows", going.says("following 2 files below .; scans about each 0.0"))
+            self.check(
+                "follow says what it follows", going.says("following 2 files below .; changes show within about 0.")
+            )
             os.kill(facts(scene)["process"], signal.SIGKILL)
             self.check("another server", going.says("was started"))
             scene.write("src/a.c", "after the kill")
@@ -84,6 +86,17 @@ class Staying(Beside):
             os.kill(facts(scene)["process"], signal.SIGKILL)
             self.check("is not ended", going.prints("begun\ndone\n"))
             self.check("and another one follows", going.prints("begun\ndone\nbegun\n"))
+
+    def test_gone_root(self) -> None:
+        """A root that goes is waited for, and a command runs in the directory that came in its place."""
+        with Scene(self.room) as scene:
+            with scene.begin("run", "*.h", "--", "sh", "-c", "pwd; ls Makefile new 2> /dev/null") as going:
+                self.check("a first run", going.prints("Makefile\n"))
+                scene.tree.rename(scene.room / "old")
+                self.check("a root that is gone", going.says(f"{scene.tree} is gone; waiting for it"))
+                scene.write("new")
+                scene.write("a.h")
+                self.check("a run in the new directory", going.prints("new\n"))
 
     def check_stop_beside(self, scene: Scene) -> None:
         """A window does not start a server that somebody stopped, and goes on with the next one."""
@@ -175,8 +188,8 @@ class Staying(Beside):
                     second.ends(signal.SIGTERM)
             self.same("and is given back by it", scene.wq("roots").status, 1)
             self.check_stays(scene, ["watch"], is_before=False)
-            self.check_stays(scene, ["since", "a"], is_before=True)
-            self.check_stays(scene, ["trigger", ".", "t", "--", "true"], is_before=False)
+            self.check_stays(scene, ["since", "-n", "a"], is_before=True)
+            self.check_stays(scene, ["trigger", "t", ".", "--", "true"], is_before=False)
             self.check_stays(scene, ["find", "--keep"], is_before=True)
             scene.wq("ask", f'["watch","{scene.tree}"]')
             with scene.begin("follow") as going:
@@ -210,8 +223,8 @@ class Staying(Beside):
             for name in names:
                 os.mkdir(name)
             scene.wq("watch", names[0])
-            scene.wq("since", "a", names[1])
-            scene.wq("trigger", names[2], "t", "--", "true")
+            scene.wq("since", "-n", "a", names[1])
+            scene.wq("trigger", "t", names[2], "--", "true")
             with Going(scene, ["follow", names[3]]) as window:
                 self.check("a window of a root", window.says("following"))
                 for name in names[4:16]:
@@ -230,10 +243,20 @@ class Staying(Beside):
                     self.same("run drops one", ended, built.Ended(b"", said(dropped[7], "true ended with status 0"), 0))
             kept = [*names[:5], *names[8:17], names[17]]
             self.same("the others stay", scene.names("roots"), kept)
-            scene.wq("watch", *kept)
-            scene.wq("watch", names[18])
-            first = scene.wq("find", names[19]).errors.split(b"\n")[0]
+            self.check_gone(scene, names)
+            first = scene.wq("find", names[6]).errors.split(b"\n")[0]
             self.same("none that must stay is dropped", first, b"wq: E13: too many roots")
+
+    def check_gone(self, scene: Scene, names: List[str]) -> None:
+        """A root whose directory is gone makes room first, and one that `since` alone keeps last."""
+        os.rmdir(names[9])
+        scene.wq("since", names[18])
+        gone = f"{names[9]} is gone, and is watched no longer: 16 roots may be"
+        ended = scene.wq("since", names[19])
+        self.same("since drops one", ended, built.Ended(b"", said(gone, "first since here: listing everything"), 1))
+        scene.wq("watch", *(name for name in scene.names("roots") if name != names[1]))
+        least = said(f"{names[1]} was asked about least lately, and is watched no longer: 16 roots may be")
+        self.same("watch drops what since keeps", scene.wq("watch", names[5]).errors, least)
 
 
 @contextlib.contextmanager

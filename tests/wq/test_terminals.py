@@ -45,33 +45,37 @@ class Terminals(Beside):
             self.same(
                 "an empty NO_COLOR is none", at_terminal(scene, "find", "link", NO_COLOR=""), "\x1b[36mlink\x1b[0m\n"
             )
+            self.same("--color", at_terminal(scene, "find", "link", "--color", "never"), "link\n")
+            self.same("--color in a pipe", scene.wq("find", "link", "--color=always").output, b"\x1b[36mlink\x1b[0m\n")
+            forced = scene.wq("find", "link", CLICOLOR_FORCE="1").output
+            self.same("CLICOLOR_FORCE", forced, b"\x1b[36mlink\x1b[0m\n")
             self.same("a dumb terminal", at_terminal(scene, "find", "link", TERM="dumb"), "link\n")
             scene.write("new\nline\x1b[31m")
             self.same("control characters", at_terminal(scene, "find", "new*"), "new\\x0aline\\x1b[31m\n")
             self.same("byte 0 and no colours", at_terminal(scene, "find", "-0", "link"), "link\0")
-            scene.wq("since", "a")
-            scene.write("Makefile", "changed")
-            (scene.tree / "link").unlink()
-            scene.write("added", "x")
-            marks = "\x1b[33m~ Makefile\x1b[0m\n\x1b[32m+ added\x1b[0m\n\x1b[31m- link\x1b[0m\n"
-            self.same("marks in their colours", at_terminal(scene, "since", "a"), marks)
-            error = at_terminal(scene, "find", "-t", "x")
-            self.same("an error in red", (error[:9], error[-5:]), ("\x1b[31mwq: ", "\x1b[0m\n"))
-            self.same("a reply laid out", at_terminal(scene, "ask", '["version"]'), '{\n  "version": "wq-1"\n}\n')
-            ran = at_terminal(scene, "run", "--once", "--clear", "--", "echo", "done")
-            self.same(
-                "a run at a terminal", ran, "\x1b[H\x1b[2J\x1b[3Jdone\n\x1b[32mwq: echo ended with status 0\x1b[0m\n"
-            )
-            self.same(
-                "a run that fails",
-                at_terminal(scene, "run", "--once", "--", "false"),
-                "\x1b[31mwq: false ended with status 1\x1b[0m\n",
-            )
-            self.check_keys(scene)
-            self.same("status at a terminal", "\x1b[36msocket    \x1b[0m" in at_terminal(scene, "status"), True)
-            self.same(
-                "status --json at a terminal", json.loads(at_terminal(scene, "status", "--json"))["protocol"], "wq-1"
-            )
+            self.check_marks_and_runs(scene)
+
+    def check_marks_and_runs(self, scene: Scene) -> None:
+        """Marks, errors and ends of runs have colours, and values are laid out."""
+        scene.wq("since", "-n", "a")
+        scene.write("Makefile", "changed")
+        (scene.tree / "link").unlink()
+        scene.write("added", "x")
+        marks = "\x1b[33m~ Makefile\x1b[0m\n\x1b[32m+ added\x1b[0m\n\x1b[31m- link\x1b[0m\n"
+        self.same("marks in their colours", at_terminal(scene, "since", "-n", "a"), marks)
+        error = at_terminal(scene, "find", "-t", "y")
+        self.same("an error in red", (error[:9], error[-5:]), ("\x1b[31mwq: ", "\x1b[0m\n"))
+        self.same("a reply laid out", at_terminal(scene, "ask", '["version"]'), '{\n  "version": "wq-1"\n}\n')
+        ran = at_terminal(scene, "run", "--once", "--clear", "--", "echo", "done")
+        self.same("a run at a terminal", ran, "\x1b[H\x1b[2J\x1b[3Jdone\n\x1b[32mwq: echo ended with status 0\x1b[0m\n")
+        self.same(
+            "a run that fails",
+            at_terminal(scene, "run", "--once", "--", "false"),
+            "\x1b[31mwq: false ended with status 1\x1b[0m\n",
+        )
+        self.check_keys(scene)
+        self.same("status at a terminal", "\x1b[36msocket    \x1b[0m" in at_terminal(scene, "status"), True)
+        self.same("status --json at a terminal", json.loads(at_terminal(scene, "status", "--json"))["protocol"], "wq-1")
 
     def check_keys(self, scene: Scene) -> None:
         """Ctrl-C at a terminal ends a command and what it runs; a command that runs may read the terminal."""
@@ -90,6 +94,8 @@ class Terminals(Beside):
                 self.same(f"wq {words}", scene.wq(*words), built.Ended(USAGE.encode(), b"", 0))
             version = (built.TOP / "CHANGELOG.md").read_text().split("\n## ")[1].split(",")[0]
             self.same("wq --version", scene.wq("--version"), built.Ended(f"wq {version}\n".encode(), b"", 0))
+            page = scene.wq("find", "--help")
+            self.same("wq help find", scene.wq("help", "find"), page)
             wrong(self, scene, [], "there is no command; `wq --help` says which there are")
             wrong(self, scene, ["frobnicate"], "there is no command frobnicate; `wq --help` says which there are")
             wrong(

@@ -92,14 +92,15 @@ class Typed(Beside):
         """As GNU's tools have it, k is 1,024 bytes, and kB 1,000."""
         scene.write("size", "x" * 1_024)
         for size, expected in (
-            ("1k", 1),
-            ("1KiB", 1),
             ("+1k", 1),
-            ("1kB", 0),
+            ("-1k", 1),
+            ("-1ki", 1),
+            ("+1Ki", 1),
+            ("-1KiB", 1),
             ("+1kB", 1),
             ("-1kB", 0),
-            ("1024", 1),
-            ("1024b", 1),
+            ("+1024", 1),
+            ("-1024b", 1),
         ):
             found = scene.wq("find", "size", "--size", size)
             self.same(f"find --size {size}", (found.output.count(b"\n"), found.errors), (expected, b""))
@@ -146,35 +147,45 @@ class Typed(Beside):
         ):
             ended = scene.wq(*words)
             self.same(f"wq {words}", (ended.status == 2, ended.output), (not output, output))
-        self.same("since -- -x", scene.wq("since", "--", "name", "-x").output, b"+ -x/in\n")
+        self.same("since -- -x", scene.wq("since", "-n", "name", "--", "-x").output, b"+ -x/in\n")
         (scene.tree / "-x" / "in").unlink()
         (scene.tree / "-x").rmdir()
 
     def check_foreign(self, scene: Scene) -> None:
-        """An option or a command that others have gets the one that there is."""
+        """An option or a command that others have is taken, if it is understood."""
+        (scene.tree / "src" / "tool").touch(0o755)
+        (scene.tree / "src" / "empty").touch(0o644)
+        for words, expected in (
+            (["find", "-name", "*.c"], C_FILES),
+            (["find", ".", "-type", "f", "-name", "*.h"], ["src/deep/c.h"]),
+            (["find", "-iname", "*.H"], ["src/deep/c.h"]),
+            (["find", "-maxdepth", "1"], ["Makefile", "src"]),
+            (["find", "--search-path", "src", "-g", "*.c", "-s"], C_FILES),
+            (["find", "-empty"], ["src/empty", "src/tool"]),
+            (["find", "-t", "x"], ["src/tool"]),
+            (["find", "-1"], ["Makefile"]),
+            (["find", "--max-results", "2", "*.c", "src"], C_FILES),
+            (["find", "*.h", "-exec", "echo", "{}", ";"], ["./src/deep/c.h"]),
+            (["ls", "*.h"], ["src/deep/c.h"]),
+        ):
+            self.same(f"wq {words}", scene.names(*words), expected)
+        self.same("find --print0", scene.wq("find", "*.h", "--print0").output, b"src/deep/c.h\0")
+        self.same("find -q", scene.wq("find", "*.h", "-q"), built.Ended(b"", b"", 0))
+        self.same("find -q of nothing", scene.wq("find", "*.none", "-q"), built.Ended(b"", b"", 1))
+        once = ["--once", "-q", "--on-busy", "queue", "--debounce", "50ms", "-w", "src", "--", "echo", "ran"]
+        self.same("run as watchexec has it", scene.names("run", *once), ["ran"])
+        for name in ("tool", "empty"):
+            (scene.tree / "src" / name).unlink()
         for words, reason in (
-            (["run", "--debounce", "500", "--", "true"], "no option --debounce; use --quiet MS"),
-            (["run", "-r", "--", "true"], "no option -r; use --restart"),
-            (["run", "-i", "*.md", "--", "true"], "no option -i; use --exclude GLOB, or --ignore-case"),
-            (["run", "-d", "500", "--", "true"], "no option -d; use --quiet MS"),
-            (["run", "-s", "--", "true"], "no option -s; use --shell"),
-            (["follow", "-x", "echo"], "no option -x; use `wq run`"),
-            (["trigger", "-maxdepth", "1", "t", "--", "true"], "no option -maxdepth; use --max-depth N"),
-            (["run", "-w", "src", "--", "true"], "no option -w; a word that is a directory is watched"),
-            (["find", "-name", "*.c"], "no option -name; a word is a glob, such as '*.c'"),
-            (["find", "-type", "f"], "no option -type; use -t KINDS"),
-            (["find", "-H"], "no option -H; hidden files are listed as others"),
-            (["find", "-maxdepth", "1"], "no option -maxdepth; use --max-depth N"),
-            (["find", "--print0"], "no option --print0; use -0"),
-            (["find", "--color=never"], "no option --color; the variable NO_COLOR takes colours away"),
-            (["follow", "-m"], "no option -m; it goes on until you stop it"),
+            (["run", "-d", "500", "--", "true"], "there is no option -d; see `wq run --help`"),
+            (["follow", "-x", "echo"], "there is no option -x; see `wq follow --help`"),
+            (["find", "--all"], "there is no option --all; write -u; see `wq find --help`"),
+            (["find", "--lines"], "there is no option --lines; write --jsonl; see `wq find --help`"),
             (["find", "--frob"], "there is no option --frob; see `wq find --help`"),
             (
                 ["find", "--expresion", "7"],
                 "there is no option --expresion; did you mean --expression?; see `wq find --help`",
             ),
             (["--hlep"], "there is no option --hlep; did you mean --help?; `wq --help` says which there are"),
-            (["watch-del", "."], "there is no command watch-del; use `wq unwatch`; `wq --help` says which there are"),
-            (["version"], "there is no command version; use `wq --version`; `wq --help` says which there are"),
         ):
             wrong(self, scene, words, reason)

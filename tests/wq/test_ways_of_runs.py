@@ -115,7 +115,7 @@ class WaysOfRuns(Beside):
             self.same("it is ended with this", (going.ends(signal.SIGTERM), going.output.count(b"begun")), (143, 1))
 
     def check_delay(self, scene: Scene, log: Log) -> None:
-        with scene.begin("run", "*.c", "--delay", "700", "--quiet", "0", *command()) as going:
+        with scene.begin("run", "*.c", "--delay", "700", "--debounce", "0", *command()) as going:
             self.check("a first run without a delay", going.waits_for(has_runs(log, 1)))
             time.sleep(0.2)
             began = time.monotonic()
@@ -126,18 +126,18 @@ class WaysOfRuns(Beside):
 
     def check_ways(self, scene: Scene) -> None:
         for words, line in (
-            (["--on-busy", "queue"], "--on-busy takes wait, restart, ignore or signal, and not queue"),
+            (["--on-busy", "skip"], "--on-busy takes wait, restart, ignore or signal, and not skip"),
             (
                 ["--restart", "--on-busy", "wait"],
                 "--restart is --on-busy restart, and --on-busy wait is beside it: take one out",
             ),
             (
                 ["--no-self", "--restart"],
-                "--no-self leaves out what changes while the command runs, and --on-busy restart goes by that: take one "
-                "out",
+                "--no-self leaves out what changes while the command runs, and --on-busy restart goes by that: take "
+                "one out",
             ),
             (["--stop-signal", "never"], "--stop-signal takes a signal, such as INT, HUP or 15, and not never"),
-            (["--delay=-1"], "--delay takes a number of milliseconds from 0 on"),
+            (["--delay=-1"], "argument --delay: -1 is no number of milliseconds from 0 on; see `wq run --help`"),
         ):
             wrong(self, scene, ["run", *words, "--", "true"], line)
 
@@ -147,13 +147,14 @@ class WaysOfRuns(Beside):
             log = Log(scene)
             writes = ["--", "sh", "-c", 'echo run >> "$LOG"; date +%N > src/out.o; date +%N > made.txt']
             with scene.begin("run", *writes) as going:
-                self.check("its own changes", going.says("which causes the next one"))
+                self.check("its own changes", going.says("and so cause the next one"))
                 lines = [line for line in following(going).decode().splitlines() if ENDED not in line]
                 # A scan between the two writes of a run may part them.
                 expected = [[own(names)] for names in (["made.txt", "src/out.o"], ["made.txt"], ["src/out.o"])]
                 self.check("what is said of them", lines in expected, [f"expected: {expected}", f"found:    {lines}"])
                 going.waits_for(has_runs(log, log.runs() + 2))
                 self.same("once", going.errors.count(b"leaves that out"), 1)
+                self.same("the pause is doubled", b"the pause before a run is 200 ms from now on" in going.errors, True)
             log.clear()
             for options in (["--exclude", "made.txt", "--exclude", "src/out.o"], ["--no-self"]):
                 with scene.begin("run", *options, *writes) as going:
@@ -164,6 +165,23 @@ class WaysOfRuns(Beside):
                     self.check(f"but for a change, {options}", going.waits_for(has_runs(log, 2)))
                 log.clear()
                 scene.write("src/a.c", "before")
+
+    def test_accused(self) -> None:
+        """A file that a person edits is not taken for one that the command changes."""
+        with Scene(self.room) as scene:
+            script = ["--", "sh", "-c", "echo begun; sleep 0.7"]
+            for options in (["--restart"], ["--on-busy", "signal", "--stop-signal", "CONT"], []):
+                with scene.begin("run", *options, "src", "*.c", *script) as going:
+                    self.check(f"a run {options}", going.prints("begun"))
+                    for turn in range(5):
+                        scene.write("src/a.c", "x" * (turn + 1))
+                        if not options:
+                            scene.write("src/b b.c", "by nobody" * turn)
+                            os.utime(scene.tree / "src/b b.c", (turn, turn))
+                        begun = going.output.count(b"begun")
+                        going.waits_for(lambda one: "signal" in options or one.output.count(b"begun") > begun)
+                    self.same(f"nothing is said of it {options}", b"may change" in going.errors, False)
+                    going.ends(signal.SIGINT)
 
     def test_terminal_of_run(self) -> None:
         """Keys, and how a terminal hears of an end."""
@@ -220,5 +238,8 @@ def run_by_shell(scene: Scene, text: str) -> built.Ended:
 def own(names: List[str]) -> str:
     """What is said of a command whose runs change these files."""
     hint = " ".join(f"--exclude {name}" for name in names)
-    changed = ", ".join(names)
-    return f"wq: each run of sh changes {changed}, which causes the next one; {hint}, or --no-self, leaves that out"
+    return (
+        f"wq: each run of sh may change {', '.join(names)}, and so cause the next one; {hint} leaves that out; "
+        "--no-self leaves out all that changes during a run, also what you save; the pause before a run is 200 ms from "
+        "now on"
+    )

@@ -1,0 +1,123 @@
+"""`wq since` tells each change once, and not before it was read; and `wq wait` ends at the first change."""
+
+import signal
+import subprocess
+from typing import List
+
+import built
+from case import Beside
+from client import PATIENCE
+from scene import COMMAND, Scene, said
+
+# Their names fit into a pipe, and not into what a reader takes at once.
+MANY = 500
+
+
+class ToldOnce(Beside):
+    def test_read(self) -> None:
+        """What nobody read is told again."""
+        with Scene(self.room) as scene:
+            scene.wq("since", "-n", "p")
+            names = [f"many/{'x' * 20}{number:04}" for number in range(MANY)]
+            for name in names:
+                scene.write(name)
+            cut = by_shell(scene, '"$0" since -n p | head -n 1')
+            self.same("the first line", cut.output, f"+ {names[0]}\n".encode())
+            with open("/dev/full", "wb") as device, scene.begin("since", "-n", "p", output=device.fileno()) as going:
+                self.same("a device that is full", going.ends(), 3)
+            told = [f"+ {name}" for name in names]
+            self.same("the others are told again", scene.names("since", "-n", "p"), told)
+            self.same("and once", scene.wq("since", "-n", "p"), built.Ended(b"", b"", 1))
+            scene.write("late")
+            slow = by_shell(scene, '"$0" since -n p | { sleep 2; cat; }')
+            self.same("a reader that is in no hurry", slow.output, b"+ late\n")
+            self.same("has heard it", scene.wq("since", "-n", "p"), built.Ended(b"", b"", 1))
+            self.check_commands(scene)
+
+    def check_commands(self, scene: Scene) -> None:
+        """A change is told to a command that ends well."""
+        question = ["since", "-n", "x", "*.c"]
+        scene.wq(*question)
+        self.same("no command without a change", scene.wq(*question, "-x", "echo", "ran"), built.Ended(b"", b"", 1))
+        scene.write("src/a.c", "changed")
+        scene.write("src/new.c", "new")
+        failed = scene.wq(*question, "-x", "sh", "-c", "echo failed; exit 7")
+        self.same("a command that fails", failed, built.Ended(b"failed\n", b"", 7))
+        again = scene.wq(*question, "-x", "echo", "{}")
+        self.same("hears of it again", again, built.Ended(b"./src/a.c ./src/new.c\n", b"", 0))
+        self.same("and once", scene.wq(*question, "-x", "echo", "{}"), built.Ended(b"", b"", 1))
+        (scene.tree / "src" / "new.c").unlink()
+        script = 'echo "$WQ_CHANGED_COUNT $WQ_CHANGED"'
+        counted = scene.wq(*question, "-x", "sh", "-c", script)
+        self.same("its variables", counted.output, b"1 ./src/new.c\n")
+        scene.write("src/a.c", "once more")
+        missing = scene.wq(*question, "-x", "not-there")
+        wrong = built.Ended(b"", said("not-there: there is no such command"), 127)
+        self.same("a command that is not there", missing, wrong)
+        self.same("leaves it to the next", scene.names(*question), ["~ src/a.c"])
+
+    def test_at_once(self) -> None:
+        """Of two that ask the same at once, one is told each change."""
+        with Scene(self.room) as scene:
+            scene.wq("since", "-n", "p")
+            for turn in range(3):
+                names = [f"turn{turn}/{number}" for number in range(200)]
+                for name in names:
+                    scene.write(name)
+                calls = [began(scene) for _ in range(4)]
+                lines = [line for call in calls for line in call.communicate()[0].decode().splitlines()]
+                self.same(f"each is told once in turn {turn}", sorted(lines), sorted(f"+ {name}" for name in names))
+
+    def test_full_state(self) -> None:
+        """A clock that cannot be kept: the next call tells the same."""
+        with Scene(self.room) as scene:
+            scene.wq("since")
+            clocks = scene.room / "state" / "wq" / "clocks"
+            clocks.rename(scene.room / "kept")
+            clocks.write_text("no directory")
+            scene.write("new")
+            for _ in range(2):
+                ended = scene.wq("since", "new")
+                self.same("it is told", (ended.status, ended.output), (3, b"+ new\n"))
+                self.same("and why again", ended.errors.endswith(b"; so the next call tells this again\n"), True)
+
+    def test_wait(self) -> None:
+        with Scene(self.room) as scene:
+            self.same("nothing changes", scene.wq("wait", "--timeout", "0.2"), built.Ended(b"", b"", 1))
+            for words, output in (
+                (["src", "*.c"], b"~ src/a.c\n"),
+                (["-q", "src"], b""),
+                (["--jsonl", "a.c"], b'{"exists":true,"name":"src/a.c","new":false,"type":"f"}\n'),
+            ):
+                with scene.begin("wait", *words) as going:
+                    turns = iter(range(10_000))
+                    going.waits_for(
+                        lambda one: one.process.poll() is not None
+                        or scene.write("src/a.c", "x" * (next(turns) % 50 + 1))
+                    )
+                    self.same(f"wait {words}", (going.ends(), going.output), (0, output))
+            with scene.begin("wait", "./later") as going:
+                self.check("a file that may come", going.waits_for(lambda _: bool(roots_of(scene))))
+                scene.write("later")
+                self.same("has come", (going.ends(), going.output), (0, b"+ later\n"))
+            self.same("the root is given back", roots_of(scene), [])
+            with scene.begin("wait") as going:
+                going.waits_for(lambda _: bool(roots_of(scene)))
+                self.same("Ctrl-C", going.ends(signal.SIGINT), 130)
+
+
+def roots_of(scene: Scene) -> List[str]:
+    with scene.client() as client:
+        return [*client.ask("watch-list")["roots"]]
+
+
+def began(scene: Scene) -> "subprocess.Popen[bytes]":
+    words = [COMMAND, "since", "-n", "p"]
+    return subprocess.Popen(
+        words, cwd=scene.tree, env=scene.environment, stdout=subprocess.PIPE, stderr=subprocess.DEVNULL
+    )
+
+
+def by_shell(scene: Scene, text: str) -> built.Ended:
+    """A text for a shell, in which `$0` is wq."""
+    return built.call(["sh", "-c", text, COMMAND], cwd=scene.tree, env=scene.environment, timeout=PATIENCE)
