@@ -3,9 +3,9 @@
     tests/PART/run [-k WORD] [--row WORD] [-v] [-f] [NAME..]
 
 runs all tests of the part, or those with WORD in their names, or the modules, classes and tests of these names, such as
-`test_answers.Answers.test_ask`. The words are those of `python3 -m unittest`. With `--row` only the rows of tables count
-that have its word in their names. What failed is printed with its name and trace. The last line, `N passed, M failed`,
-counts sub-tests, and tests without one."""
+`test_answers.Answers.test_ask`. The words are those of `python3 -m unittest`. With `--row` only the rows of tables
+count that have its word in their names. What failed is printed with its name and trace. The last line,
+`N passed, M failed`, counts sub-tests, and tests without one."""
 
 import os
 import re

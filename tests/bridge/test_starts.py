@@ -42,6 +42,24 @@ def run(
     )
 
 
+# What the command says without Python, and what it leaves to it.
+SAID_QUICKLY = (
+    ["get-sockname"],
+    ["version"],
+    ["--no-pretty", "get-sockname"],
+    ["version", "--no-pretty"],
+    ["--output-encoding=json", "get-sockname"],
+)
+LEFT_TO_PYTHON = (
+    ["watch-list"],
+    ["get-sockname", "more"],
+    ["-j"],
+    ["--output-encoding=bser-v2", "version"],
+    ["get-sockname", "--output-encoding"],
+    ["--output-encoding", "frob", "get-sockname"],
+)
+
+
 class Starts(Case):
     def test_starts(self) -> None:
         """Names of sockets and of the program count from the directory of the command, though what it starts has
@@ -140,26 +158,13 @@ class Starts(Case):
             self.same("a bridge that has not seen its server", quick("get-sockname"), b"")
             with bridge.client() as client:
                 client.ask("version")
-            for words in (
-                ["get-sockname"],
-                ["version"],
-                ["--no-pretty", "get-sockname"],
-                ["version", "--no-pretty"],
-                ["--output-encoding=json", "get-sockname"],
-            ):
+            for words in SAID_QUICKLY:
                 slow = said(
                     [sys.executable, str(COMMAND.parent / "bridge" / "watchman.py"), home, *words], os.environ["PATH"]
                 )
                 self.same(f"watchman {' '.join(words)}", (quick(*words), slow != b""), (slow, True))
             self.check_the_quick_command_in_bser(bridge.sockname, quick)
-            for words in (
-                ["watch-list"],
-                ["get-sockname", "more"],
-                ["-j"],
-                ["--output-encoding=bser-v2", "version"],
-                ["get-sockname", "--output-encoding"],
-                ["--output-encoding", "frob", "get-sockname"],
-            ):
+            for words in LEFT_TO_PYTHON:
                 self.same(f"watchman {' '.join(words)} is left to Python", quick(*words), b"")
             bridge.server.process.kill()
             ended = Path(f"/proc/{bridge.server.process.pid}/stat")

@@ -36,30 +36,7 @@ class States(Case):
         with Bridge(self.room) as bridge, bridge.client() as client, bridge.client() as other:
             client.ask("watch", str(root))
             before = subscribed(other, root, "s", {"defer": ["x"]})
-            reply = client.ask("state-enter", str(root), {"name": "x", "metadata": [1]})
-            self.same(
-                "state-enter", (reply.get("state-enter"), reply.get("root"), "clock" in reply), ("x", str(root), True)
-            )
-            self.same(
-                "another subscriber is told",
-                without_clock(other.reply()),
-                {
-                    "state-enter": "x",
-                    "metadata": [1],
-                    "root": str(root),
-                    "subscription": "s",
-                    "unilateral": True,
-                    "version": VERSION,
-                },
-            )
-            self.same(
-                "a state twice", client.ask("state-enter", str(root), "x")["error"], "state x is already asserted"
-            )
-            self.same(
-                "a state of another",
-                other.ask("state-leave", str(root), "x")["error"],
-                "state x was not asserted by this session",
-            )
+            self.check_entering(root, client, other)
             move_in(self.room / "aside", root, ["b"])
             self.same("a list is held back", is_silent(other), True)
             move_in(self.room / "aside", root, ["c"])
@@ -84,6 +61,31 @@ class States(Case):
                 (found.get("state-leave"), found.get("abandoned"), "clock" in found),
                 ("x", True, True),
             )
+
+    def check_entering(self, root: Path, client: Client, other: Client) -> None:
+        """A client enters a state. Another one hears of it, and can neither enter nor leave it."""
+        reply = client.ask("state-enter", str(root), {"name": "x", "metadata": [1]})
+        self.same(
+            "state-enter", (reply.get("state-enter"), reply.get("root"), "clock" in reply), ("x", str(root), True)
+        )
+        self.same(
+            "another subscriber is told",
+            without_clock(other.reply()),
+            {
+                "state-enter": "x",
+                "metadata": [1],
+                "root": str(root),
+                "subscription": "s",
+                "unilateral": True,
+                "version": VERSION,
+            },
+        )
+        self.same("a state twice", client.ask("state-enter", str(root), "x")["error"], "state x is already asserted")
+        self.same(
+            "a state of another",
+            other.ask("state-leave", str(root), "x")["error"],
+            "state x was not asserted by this session",
+        )
 
     def test_dropping(self) -> None:
         """Changes under a state that drops them are told to nobody."""

@@ -23,6 +23,20 @@ def text_of(path: Path, is_right: Callable[[str], object]) -> str:
     return look_until(lambda: path.read_text() if path.exists() else "", is_right)
 
 
+# What `trigger ROOT u *.c -X b* -- true x` registers.
+OLD_FORM = {
+    "name": "u",
+    "append_files": True,
+    "stdin": ["name", "exists", "new", "size", "mode"],
+    "command": ["true", "x"],
+    "expression": [
+        "allof",
+        ["not", ["anyof", ["match", "b*", "wholename"]]],
+        ["anyof", ["match", "*.c", "wholename"]],
+    ],
+}
+
+
 class Triggered(Case):
     def test_triggers(self) -> None:
         """A command runs in its directory, is given the files below its relative root, and writes to its file."""
@@ -87,17 +101,7 @@ class Triggered(Case):
             self.same(
                 "the old form",
                 client.ask("trigger-list", str(root))["triggers"][1],
-                {
-                    "name": "u",
-                    "append_files": True,
-                    "stdin": ["name", "exists", "new", "size", "mode"],
-                    "command": ["true", "x"],
-                    "expression": [
-                        "allof",
-                        ["not", ["anyof", ["match", "b*", "wholename"]]],
-                        ["anyof", ["match", "*.c", "wholename"]],
-                    ],
-                },
+                OLD_FORM,
             )
 
     def test_the_log(self) -> None:

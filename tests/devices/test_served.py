@@ -34,8 +34,8 @@ def make_tree(root: Path) -> None:
 
 class Served(Case):
     def test_trees_that_fail(self) -> None:
-        """The disk fails at one call after the other, for each client. A root is refused or listed whole, wherever below it
-        the disk failed. Once the disk is well, the next answer tells a follower all that it does not know."""
+        """The disk fails at one call after the other, for each client. A root is refused or listed whole, wherever
+        below it the disk failed. Once the disk is well, the next answer tells a follower all that it does not know."""
         self.check_installed("strace")
         for call in ("openat", "getdents64", "statx"):
             number = 1
@@ -79,8 +79,8 @@ class Served(Case):
         return failed
 
     def test_a_directory_that_is_read_in_part(self) -> None:
-        """A call that gives names of a large directory is refused to the server after others gave some. The directory is
-        listed without its names."""
+        """A call that gives names of a large directory is refused to the server after others gave some. The directory
+        is listed without its names."""
         self.check_installed("strace")
         failures = 0
         for number in range(1, MOST_OF_A_WALK):

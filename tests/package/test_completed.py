@@ -103,12 +103,8 @@ class Completed(Case):
             self.same("roots", found("unwatch", ""), [str(root)])
             self.same("no name is a command", (root / "ran").exists(), False)
             if shutil.which("fish") is not None:
-                for words, expected in (
-                    ("unwatch ", str(root)),
-                    ("untrigger b", "build"),
-                    ("find --program ", "large"),
-                    ("run -- tru", "true"),
-                ):
+                completes = [("unwatch ", str(root)), ("untrigger b", "build"), ("find --program ", "large")]
+                for words, expected in [*completes, ("run -- tru", "true")]:
                     script = f"source {room}/wq.fish; complete -C 'wq {words}'"
                     ended = subprocess.run(
                         ["fish", "--no-config", "-c", script], cwd=root, env=values, stdout=subprocess.PIPE

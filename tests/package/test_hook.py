@@ -9,6 +9,20 @@ from case import Case
 from client import PATIENCE, Server
 
 HOOK = built.TOP / "contrib" / "git-fsmonitor-hook"
+# What git says of the changes of `test_git`.
+CHANGED = [
+    "R  moved -> deep/moved",
+    " M changed",
+    " M deep/in/changed",
+    " D deep/in/removed",
+    " D gone/a",
+    " D gone/b",
+    " D removed",
+    " D renamed",
+    "?? added",
+    '?? "deep/new/\\303\\244 b"',
+    "?? deep/renamed",
+]
 
 
 class Repository:
@@ -69,21 +83,8 @@ class Hook(Case):
             (repository.path / "gone").rmdir()
             repository.git("mv", "moved", "deep/moved")
             (repository.path / "renamed").rename(repository.path / "deep" / "renamed")
-            expected = [
-                "R  moved -> deep/moved",
-                " M changed",
-                " M deep/in/changed",
-                " D deep/in/removed",
-                " D gone/a",
-                " D gone/b",
-                " D removed",
-                " D renamed",
-                "?? added",
-                '?? "deep/new/\\303\\244 b"',
-                "?? deep/renamed",
-            ]
-            self.same("files that changed", sorted(repository.status()), sorted(expected))
-            self.same("the same again", sorted(repository.status()), sorted(expected))
+            self.same("files that changed", sorted(repository.status()), sorted(CHANGED))
+            self.same("the same again", sorted(repository.status()), sorted(CHANGED))
             repository.git("add", "-A")
             renamed = [line for line in repository.status() if line.startswith("R")]
             self.same("renamed files", renamed, ["R  moved -> deep/moved", "R  renamed -> deep/renamed"])

@@ -6,7 +6,7 @@ import socket
 import subprocess
 import sys
 from pathlib import Path
-from typing import Iterator, List
+from typing import Iterator, List, Tuple
 
 import built
 from case import Beside
@@ -65,6 +65,21 @@ def faults() -> Iterator[str]:
                 yield f"{name}:{number}: {line.strip()}"
 
 
+def commands(prefix: Path, out: Path) -> Iterator[Tuple[object, ...]]:
+    """Each command of the clone, and each that is installed below the prefix."""
+    for home, in_clients in ((built.TOP, built.TOP / "clients"), (prefix / "bin", prefix / "bin")):
+        yield home / "wq", "status"
+        yield home / "wq", "--help"
+        yield in_clients / "wqasm", "--help"
+        yield in_clients / "watchman", "--no-spawn", "watch-list"
+        yield home / "wqd", "check", "nothing"
+    yield built.TOP / "contrib/git-fsmonitor-hook", "2", ""
+    yield built.TOP / "examples/client.py", "."
+    yield built.TOP / "package", "--help"
+    yield built.TOP / "package", "--adapters", out
+    yield built.TOP / "contrib/completion.py", "bash"
+
+
 class Imports(Beside):
     def test_first_lines(self) -> None:
         self.same("scripts that take modules of the current directory", list(faults()), [])
@@ -104,23 +119,7 @@ class Imports(Beside):
             return taken or ("77" if ended.returncode == 77 else "")
 
         self.same("./install", call(built.TOP / "install", "--as-watchman", "--adapters", prefix), "")
-        for home in (built.TOP, prefix / "bin"):
-            in_clients = home if home == prefix / "bin" else built.TOP / "clients"
-            for words in (
-                (home / "wq", "status"),
-                (home / "wq", "--help"),
-                (in_clients / "wqasm", "--help"),
-                (in_clients / "watchman", "--no-spawn", "watch-list"),
-                (home / "wqd", "check", "nothing"),
-            ):
-                self.same(" ".join(map(str, words)), call(*words), "")
-        for words in (
-            (built.TOP / "contrib/git-fsmonitor-hook", "2", ""),
-            (built.TOP / "examples/client.py", "."),
-            (built.TOP / "package", "--help"),
-            (built.TOP / "package", "--adapters", self.room / "out"),
-            (built.TOP / "contrib/completion.py", "bash"),
-        ):
+        for words in commands(prefix, self.room / "out"):
             self.same(" ".join(map(str, words)), call(*words), "")
         self.check_serve(tree, marker, environment, prefix)
 
