@@ -4,6 +4,13 @@
 command such as mkdocs.
 """
 
+import os
+
+# The client of wqd, `wqclient`, is inside this package if it is installed, and two directories above in a clone. The
+# prover refuses a repository with links.
+if not os.path.isdir(os.path.join(__path__[0], "wqclient")):
+    __path__.append(os.path.dirname(os.path.dirname(os.path.realpath(__path__[0]))))
+
 
 def __getattr__(name: str) -> object:
     """The observer is read when it is asked for: the rest needs no watchdog."""
