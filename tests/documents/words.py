@@ -8,14 +8,15 @@ from typing import Dict, Iterator, List
 GENERATED = "<!-- docs/crates/generate writes what follows -->"
 # The most words of each page, or of several together. Shorten before you raise one.
 MOST = {
-    "README.md": 1550,
+    "README.md": 1570,
     "CONTRIBUTING.md": 1600,
-    "CHANGELOG.md": 1580,
+    "CHANGELOG.md": 1850,
     "docs/ARCHITECTURE.md": 1900,
     "docs/CLIENTS.md": 3620,
     "docs/DECISIONS.md": 2250,
     "crates/*/DECISIONS.md": 7850,
     "docs/LIBRARY.md": 1350,
+    "docs/FILESYSTEMS.md": 800,
     "docs/PROGRAMS.md": 3250,
     "docs/PROOFS.md": 2350,
     "docs/PROTOCOL.md": 5000,
@@ -26,7 +27,7 @@ MOST = {
     "docs/SERVER.md": 4450,
     "docs/SPEED.md": 2040,
     "docs/STABILITY.md": 770,
-    "docs/TROUBLESHOOTING.md": 1620,
+    "docs/TROUBLESHOOTING.md": 1650,
     "docs/TUTORIAL.md": 1450,
     "docs/WQ.md": 3500,
     "docs/WQASM.md": 1000,
