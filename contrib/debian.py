@@ -9,6 +9,7 @@ import re
 from typing import Callable, List, NamedTuple
 
 import adapters
+import notices
 import publisher
 from files import File, apache, compressed, copyright_of, files, files_as_watchman, version
 from release import seconds, tar_of
@@ -145,7 +146,8 @@ def in_debian(file: File) -> File:
     if path.startswith("share/man/"):
         path, data = f"{path}.gz", compressed(data)
     elif path.endswith("/copyright"):
-        data = data.replace(apache().encode(), HAS_APACHE.encode())
+        for licence in (apache(), *(f"{text}\n" for text in notices.apaches())):
+            data = data.replace(licence.encode(), HAS_APACHE.encode())
     return File(f"usr/{path}", file.mode, data)
 
 

@@ -96,10 +96,20 @@ def paragraphs() -> str:
 def paragraph(name: str, each: Library) -> str:
     text = "\n".join(each["notices"])
     owners = COPYRIGHT.findall(text) or [f"the authors of {name}"]
-    lines = [f" {line}" if line.strip() else " ." for line in text.rstrip().splitlines()]
     licence = "Expat" if each["licence"].startswith("MIT") else each["licence"]
     holders = "\n           ".join(owners)
-    return f"Files: kit/{name}/*\nCopyright: {holders}\nLicense: {licence}-of-{name}\n" + "\n".join(lines) + "\n"
+    return f"Files: kit/{name}/*\nCopyright: {holders}\nLicense: {licence}-of-{name}\n" + field(text) + "\n"
+
+
+def field(text: str) -> str:
+    """A text as such a paragraph has it, without its last newline."""
+    return "\n".join(f" {line}" if line.strip() else " ." for line in text.rstrip().splitlines())
+
+
+def apaches() -> List[str]:
+    """The texts of the Apache License in these paragraphs, which Debian has elsewhere."""
+    mark = MARKS["Apache-2.0"]
+    return [field(text) for each in kept()["libraries"].values() for text in each["notices"] if mark in text]
 
 
 def bill(version: str, program: bytes) -> bytes:

@@ -1,7 +1,6 @@
 """The journal of systemd, which has what the server of the unit wrote."""
 
 import json
-import subprocess
 from typing import Iterator, Tuple
 
 # So many lines are read of a long journal, the last ones; and so many seconds one waits for them.
@@ -12,6 +11,8 @@ SHOW = "journalctl --user -u wqd"
 def lines_of(process: int) -> Iterator[Tuple[int, str]]:
     """The lines that a process wrote itself, each with its time in microseconds. Nothing if this user may read no
     journal."""
+    import subprocess
+
     command = [
         "journalctl",
         "--user",

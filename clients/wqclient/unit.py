@@ -1,7 +1,6 @@
 """The unit of systemd: whether its server is about to listen."""
 
 import os
-import subprocess
 import time
 
 from .sockets import SOCKET, is_listened_on
@@ -29,6 +28,9 @@ def is_started(sockname: str) -> bool:
     directory, name = os.path.split(sockname)
     if name != SOCKET or not os.path.exists(os.path.join(directory, "systemd", "private")):
         return False
+    # It is read late, since most calls of wq end here.
+    import subprocess
+
     command = ["systemctl", "--user", "is-active", UNIT]
     try:
         ended = subprocess.run(command, stdout=subprocess.PIPE, stderr=subprocess.DEVNULL, timeout=PATIENCE)
