@@ -17,6 +17,7 @@ from pathlib import Path
 from typing import Dict, List, Tuple
 
 import built
+import notices
 from case import Case
 from client import MALLOC, PATIENCE, VERSION, Client
 from waiting import wait_until
@@ -51,6 +52,8 @@ OF_DEBIAN = ("share/doc/wqd/changelog.gz", "share/lintian/overrides/wqd")
 ADMIN = ("info", "updates", "triggers")
 
 
+# What it says in the place of the licence.
+HAS_APACHE = b" The Apache License, Version 2.0, is in /usr/share/common-licenses/Apache-2.0.\n"
 # Which modules that it does not need Python reads for `wq find`, from an archive.
 READ = """import sys
 sys.path.insert(0, sys.argv[1])
@@ -305,8 +308,9 @@ def in_debian(path: str) -> str:
 def text_in_debian(path: str, data: bytes) -> bytes:
     """What a package has in a file: scripts name Debian's Python, and Debian has the text of the Apache License."""
     if path.endswith("/copyright"):
-        data = data[: data.index(b"License: Apache-2.0\n") + 20]
-        return data + b" The Apache License, Version 2.0, is in /usr/share/common-licenses/Apache-2.0.\n"
+        for text in notices.apaches():
+            data = data.replace(f"{text}\n".encode(), HAS_APACHE)
+        return data[: data.index(b"License: Apache-2.0\n") + 20] + HAS_APACHE
     return re.sub(rb"\A#!/usr/bin/env -S (python3 -I\w*)\n", rb"#!/usr/bin/\1\n", data)
 
 
