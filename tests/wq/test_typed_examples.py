@@ -5,6 +5,7 @@ import os
 import re
 import shlex
 import signal
+import subprocess
 from pathlib import Path
 from typing import Iterator, List, Set
 
@@ -27,6 +28,8 @@ WRONG = ["find", "scr", "*.c"]
 # A command without words is an example of these alone.
 ALONE = ("find", "since", "follow", "wait", "status", "roots", "triggers", "unwatch", "watch", "doctor", "sockname")
 GOING = ("follow", "run", "wait")
+# So long a command that goes on is watched, in seconds.
+MOMENT = 0.5
 # Files and directories that examples are about.
 FILES = ("src/main.c", "src/add.c", "tests/add.c", "docs/read.md", "dist/x.js")
 
@@ -89,9 +92,9 @@ class Examples(Beside):
         words = [word.replace("~", str(scene.room), 1) if word.startswith("~") else word for word in words]
         if words[0] in GOING and "--once" not in words:
             with scene.begin(*words) as going:
-                going.waits_for(lambda one: one.process.poll() is not None or b"following" in one.errors or one.output)
-                if words[0] == "wait":
-                    scene.write("src/main.c", f"{kind} more")
+                # Wrong words end it at once.
+                with contextlib.suppress(subprocess.TimeoutExpired):
+                    going.process.wait(MOMENT)
                 status, errors = going.ends(signal.SIGINT), going.errors
         else:
             ended = scene.wq(*words)
