@@ -21,9 +21,10 @@ def wait(options: argparse.Namespace, home: Home) -> int:
             lists = window.lists()
             for found in lists:
                 found["files"] = counted(found["files"], options)
-            if any(found["files"] for found in lists):
+            told = [found for found in lists if found["files"]]
+            if told:
                 if not options.quiet:
-                    print_changes(lists, options)
+                    print_changes(told[:1], options)
                 return FOUND
             if window.fresh_files() is not None:
                 return FOUND

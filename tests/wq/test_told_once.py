@@ -7,7 +7,7 @@ from typing import List
 import built
 from case import Beside
 from client import PATIENCE
-from scene import COMMAND, Scene, said
+from scene import COMMAND, Going, Scene, said
 
 # Their names fit into a pipe, and not into what a reader takes at once.
 MANY = 500
@@ -90,20 +90,22 @@ class ToldOnce(Beside):
                 (["--jsonl", "a.c"], b'{"exists":true,"name":"src/a.c","new":false,"type":"f"}\n'),
             ):
                 with scene.begin("wait", *words) as going:
-                    turns = iter(range(10_000))
-                    going.waits_for(
-                        lambda one: one.process.poll() is not None
-                        or scene.write("src/a.c", "x" * (next(turns) % 50 + 1))
-                    )
+                    write_until_end(scene, going, "src/a.c")
                     self.same(f"wait {words}", (going.ends(), going.output), (0, output))
             with scene.begin("wait", "./later") as going:
                 self.check("a file that may come", going.waits_for(lambda _: bool(roots_of(scene))))
-                scene.write("later")
-                self.same("has come", (going.ends(), going.output), (0, b"+ later\n"))
+                write_until_end(scene, going, "later")
+                self.same("has come", (going.ends(), going.output[1:]), (0, b" later\n"))
             self.same("the root is given back", roots_of(scene), [])
             with scene.begin("wait") as going:
                 going.waits_for(lambda _: bool(roots_of(scene)))
                 self.same("Ctrl-C", going.ends(signal.SIGINT), 130)
+
+
+def write_until_end(scene: Scene, going: Going, name: str) -> None:
+    """Writes a file until a command ends: what changed before it listens is not told."""
+    turns = iter(range(10_000))
+    going.waits_for(lambda one: one.process.poll() is not None or scene.write(name, "x" * (next(turns) % 50 + 1)))
 
 
 def roots_of(scene: Scene) -> List[str]:
