@@ -8,6 +8,7 @@ from pathlib import Path
 from bridged import Bridge, make_files
 from case import Case
 from test_lists import names_of
+from waiting import wait_until
 
 SECOND = 1_700_000_000
 FILES = {"before": SECOND - 1, "at": SECOND, "after": SECOND + 1}
@@ -15,6 +16,13 @@ FILES = {"before": SECOND - 1, "at": SECOND, "after": SECOND + 1}
 
 # Watchman's words for a scan that takes longer than a `sync_timeout`.
 LATE = ["query failed: synchronization failed: Connection timed out", "sync_timeout expired"]
+
+
+def stop(process: int) -> None:
+    """Stops a process, and waits until each of its threads stands still."""
+    os.kill(process, signal.SIGSTOP)
+    threads = Path(f"/proc/{process}/task")
+    wait_until(lambda: all(") T " in (thread / "stat").read_text() for thread in threads.iterdir()))
 
 
 class Clocks(Case):
@@ -27,7 +35,7 @@ class Clocks(Case):
                 if has_subscription:
                     client.ask("subscribe", str(root), "s", {"fields": ["name"]})
                     client.reply()
-                os.kill(bridge.server.process.pid, signal.SIGSTOP)
+                stop(bridge.server.process.pid)
                 late = [
                     client.ask("query", str(root), {"fields": ["name"], "sync_timeout": 200}).get("error"),
                     client.ask("clock", str(root), {"sync_timeout": 200}).get("error"),
