@@ -7,7 +7,7 @@ from watchdog.observers.polling import PollingEmitter
 from .rows import Row, row_of
 
 
-class Polled(PollingEmitter):  # type: ignore[misc]
+class Polled(PollingEmitter):
     """An emitter without a thread, of which another one asks for the events."""
 
     def rows(self) -> Dict[str, Row]:
