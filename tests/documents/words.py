@@ -25,7 +25,7 @@ MOST = {
     "docs/SCRIPTS.md": 1100,
     "docs/SECURITY.md": 2240,
     "docs/SERVER.md": 4450,
-    "docs/SPEED.md": 2040,
+    "docs/SPEED.md": 2150,
     "docs/STABILITY.md": 770,
     "docs/TROUBLESHOOTING.md": 1650,
     "docs/TUTORIAL.md": 1450,
