@@ -7,7 +7,7 @@ from .home import Home
 from .roots import is_own_root, place_of, real_path, require_utf8, root_to_unwatch, set_own_root
 from .server import reached
 from .terminal import name_shown, say, show
-from .trouble import FOUND, NOTHING
+from .trouble import FOUND, NOTHING, WrongWords
 from .values_shown import json_shown
 
 
@@ -15,6 +15,7 @@ def watch(options: argparse.Namespace, home: Home) -> int:
     """Watches the projects of directories, and prints their roots."""
     for word in options.words:
         require_utf8(word, "a word of the command line")
+        require_no_command(word)
     with reached(home) as server:
         for word in options.words or ["."]:
             watched = server.roots()
@@ -24,6 +25,15 @@ def watch(options: argparse.Namespace, home: Home) -> int:
             server.watch(root, watched)
             show([name_shown(root, None)])
     return FOUND
+
+
+def require_no_command(word: str) -> None:
+    """Elsewhere `watch` runs a command after each change."""
+    if not os.path.lexists(word):
+        from shutil import which
+
+        if which(word) is not None:
+            raise WrongWords(f"{word} is no directory; `wq run -- {word}` runs it after each change")
 
 
 def unwatch(options: argparse.Namespace, home: Home) -> int:

@@ -206,6 +206,9 @@ class Finding(Beside):
                 (2, True),
             )
             self.same(f"{words}: one line", ended.errors.count(b"\n"), 1)
+        ended = scene.wq("watch", "--", "sh")
+        hint = b"wq: sh is no directory; `wq run -- sh` runs it after each change\n"
+        self.same("a command to watch", (ended.status, ended.errors), (2, hint))
         other = {"LC_ALL": "C", "PYTHONUTF8": "0", "PYTHONCOERCECLOCALE": "0"}
         self.same("a locale without UTF-8", scene.wq("find", "odd", "ü", **other).output, "odd/ü\n".encode())
 
