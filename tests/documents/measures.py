@@ -30,8 +30,8 @@ QUOTES = [
     Quote("README.md", "`wq` starts it, wqd takes {} and", "| `--share 10 --interval 100`, .. | {} | .. | .. | .. |"),
     Quote("README.md", "notices a write in {} where", "| `--share 10 --interval 100`, .. | .. | .. | {} (.. | .. |"),
     Quote("README.md", "lately, and in {} elsewhere.", "| `--share 10 --interval 100`, .. | .. | .. | .. | {} (.. |"),
-    Quote("README.md", "a query as it is by default: wqd scans first | .. | {} |", "| write to answer | .. | {} | .. |"),
-    Quote("README.md", "a query as it is by default: wqd scans first | {} | .. |", "| write to answer | {} | .. | .. |"),
+    Quote("README.md", "by default: wqd scans first | .. | {} |", "| write to answer | .. | {} | .. |"),
+    Quote("README.md", "by default: wqd scans first | {} | .. |", "| write to answer | {} | .. | .. |"),
     Quote("docs/TROUBLESHOOTING.md", "the scan. It takes {} for 100,000 files", "| write to answer | .. | {} | .. |"),
     Quote("docs/SERVER.md", "At the default interval {} was measured for 100,000 files", "| idle | .. | {} | .. |"),
     Quote(
