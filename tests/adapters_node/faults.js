@@ -6,7 +6,7 @@ const net = require('net');
 const path = require('path');
 const { HOME, Watched, ask, pause, put, room, same, scene, server, tree } = require('./scene');
 
-/** The roots of all watchers of a process count: from some on, what their directories have in common is watched. */
+/** Seventeen watchers of one process: each is told of its files, also the one for which the server has no root. */
 async function manyWatchers() {
   // In a project its directory would be taken.
   process.chdir('/');
@@ -16,7 +16,7 @@ async function manyWatchers() {
   put(path.join(room, 'many', '16', 'b'), '');
   await all[16].sees('the last of them', ['addDir many/16', 'add many/16/a', 'add many/16/b']);
   const { roots } = await ask('watch-list');
-  same('their roots', [roots.length, roots.includes(path.join(room, 'many'))], [5, true]);
+  same('their roots', roots.length, 16);
   await Promise.all(all.map((each) => each.watcher.close()));
   for (let turn = 0; turn < 50 && (await ask('watch-list')).roots.length > 0; turn += 1) await pause(100);
   same('they are given back', (await ask('watch-list')).roots, []);

@@ -35,7 +35,7 @@ class Feeds {
     const session = hub.acquire(keeps);
     await session.whenTried();
     const { roots = [] } = await session.ask('watch-list');
-    const root = rootFor(directory, [...this.byRoot.keys()], { watched: roots, ofProcess: hub.roots() }, this.project);
+    const root = rootFor(directory, [...this.byRoot.keys()], roots, this.project);
     if (!this.byRoot.has(root)) this.byRoot.set(root, this.feedAt(root));
     hub.release(session, keeps);
     if (this.watcher.closed) this.byRoot.get(root).close();

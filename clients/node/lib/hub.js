@@ -27,16 +27,10 @@ function release(session, keeps) {
   if (session.users === 0) sessions.splice(sessions.indexOf(session), 1);
 }
 
-/** The roots that the server watches, or is asked to watch, for this process. */
-function roots() {
-  const feeds = sessions.flatMap((session) => [...session.lists.values()]);
-  return [...new Set(feeds.filter((feed) => !feed.polled).map((feed) => feed.root))];
-}
-
 /** A name for a subscription that no other one of this process has. */
 function newName() {
   names += 1;
   return `chokidar-${names}`;
 }
 
-module.exports = { acquire, newName, release, roots };
+module.exports = { acquire, newName, release };

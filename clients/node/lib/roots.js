@@ -1,12 +1,11 @@
 'use strict';
 // Which root is watched for a directory. A small root is scanned soon, so it is the directory itself, until roots of
-// this process or of the server get many.
+// a watcher or of the server get many.
 
-const os = require('os');
 const path = require('path');
 const { nameBelow } = require('./names');
 
-// The server watches 16 roots. Of one process they are at most so many before it takes what lies above.
+// The server watches 16 roots. Of one watcher they are at most so many before it takes what lies above.
 const MOST = 16;
 const MOST_OWN = 4;
 
@@ -19,32 +18,18 @@ function rootAbove(roots, real) {
 /**
  * @param {string} real a directory without links
  * @param {string[]} own the roots of this watcher
- * @param {{watched: string[], ofProcess: string[]}} others the roots of the server, and those of this process
+ * @param {string[]} watched the roots of the server
  * @param {string} project the directory in which the tool works, without links
  * @returns {string}
  */
-function rootFor(real, own, { watched, ofProcess }, project) {
+function rootFor(real, own, watched, project) {
   const covering = rootAbove(own, real);
   if (covering) return covering;
   if (watched.includes(real)) return real;
-  if (ofProcess.length < MOST_OWN && watched.length < MOST) return real;
-  const above = rootAbove([...watched, ...ofProcess], real);
+  const above = rootAbove(watched, real);
+  if (own.length < MOST_OWN && watched.length < MOST) return real;
   if (above) return above;
-  if (nameBelow(project, real) !== undefined && project !== '/') return project;
-  return (ofProcess.length >= MOST_OWN && inCommon([...ofProcess, real])) || real;
-}
-
-/**
- * The directory that has all of these in it. One that is shared with others, such as /tmp, or in which the user's home
- * lies, is too much.
- */
-function inCommon(directories) {
-  const steps = directories.map((directory) => directory.split('/'));
-  const differs = (step, place) => steps.some((other) => other[place] !== step);
-  const end = steps[0].findIndex(differs);
-  const found = steps[0].slice(0, end < 0 ? undefined : end).join('/');
-  const isShared = path.dirname(found || '/') === '/';
-  return isShared || nameBelow(found, os.homedir()) !== undefined ? undefined : found;
+  return nameBelow(project, real) !== undefined && project !== '/' ? project : real;
 }
 
 /** The directory of the project in which a file lies: the first step below it. Nothing for a file directly in it. */
@@ -53,4 +38,4 @@ function directoryOfProject(real, project) {
   return name && name.includes('/') ? path.join(project, name.split('/')[0]) : undefined;
 }
 
-module.exports = { directoryOfProject, inCommon, rootAbove, rootFor };
+module.exports = { directoryOfProject, rootAbove, rootFor };
