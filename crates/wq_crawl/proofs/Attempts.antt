@@ -6,7 +6,7 @@ use Rattle.wq_live.specs.declared.event.RootEvent.{RootEvent}
 use Rattle.wq_crawl.specs.declared.fault.CrawlFault.{CrawlFault}
 use Rattle.wq_crawl.specs.declared.fault.CrawlFault.TheVariants.{NoMemory}
 use Rattle.wq_crawl.specs.declared.relisted.Relisted.{Relisted}
-use Rattle.wq_crawl.specs.Answer.{BeganSince, CrawlData, IsAnswer, list_of}
+use Rattle.wq_crawl.specs.Answer.{BeganSince, CrawlData, IsAnswer, told_list}
 use Rattle.wq_crawl.specs.Crawl.{IsNoPassOver, IsRelisted, ListerData, crawler_at}
 use Rattle.wq_crawl.specs.Shared.{CrawledNow, CrawledOnce, GlancedBetween, Publishes, PublishesGlance, Tries, TriesOnce}
 
@@ -87,7 +87,7 @@ next_try text first before after tries tried (inr overtaken) = (suc tries, (befo
 
 -- the last try
 pub last_try : (text : List ℕ) (first before after : ListerData) (crawl : Option CrawlData) → (tries : ℕ) × Tries tries text first before
-    → TriesOnce text before (Ok (Some crawl)) after → CrawledOnce text first (list_of (Ok crawl)) after
+    → TriesOnce text before (Ok (Some crawl)) after → CrawledOnce text first (told_list (Ok crawl)) after
 last_try text first before after crawl (tries, tried) is = (tries, before, tried, is)
 
 pub refused_try : (text : List ℕ) (first before after : ListerData) (fault : CrawlFault) → (tries : ℕ) × Tries tries text first before

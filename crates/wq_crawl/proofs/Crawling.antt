@@ -1,13 +1,10 @@
 -- The result for a root that was listed and then published.
 use Rattle.std.proofs.Common.{◌≡◌, ◌≤◌, ℕ, ℤ, Bool, true, false, cond, List, [], ◌∷◌, length, find, Option, Some, None, option_map, Result, Ok, Err, IfOk, IsTrue, MatchResult, Vec, inl, inr, sym, refl, ap, subst, ◌∙◌}
-use mathlib.Core.Bool.{false≢true}
 use Rattle.std.specs.List.{All, AllByRecursion, list_all}
 use Rattle.std.proofs.lemmas.List.Elements.{recursion_from_All}
 use Rattle.std.proofs.lemmas.Option.{same_Some}
 use Rattle.wq_live.specs.Event.{passes_over}
-use Rattle.wq_live.specs.Table.{IsNoNews, IsTableOf, RootView, TableData, WantsForTicks, has_text, number_by_text, root_by_text}
-use Rattle.wq_view.specs.SeenRows.{seen_rows}
-use Rattle.wq_view.specs.History.{History, last_stats}
+use Rattle.wq_live.specs.Table.{IsTableOf, RootView, TableData, has_text, number_by_text, root_by_text}
 use Rattle.wq_view.specs.Limit.{max_listing_rows}
 use Rattle.std.specs.declared.alloc.Global.{Global}
 use Rattle.wq_record.specs.RecordData.{RecordData}
@@ -19,16 +16,16 @@ use Rattle.wq_view.specs.Change.{pass_by}
 use Rattle.wq_view.specs.View.{IsViewOf, NamesRise, ViewData}
 use Rattle.wq_view.specs.declared.listing.PassFault.{PassFault}
 use Rattle.wq_patch.specs.declared.tree.Listing.{Listing}
-use Rattle.wq_patch.specs.declared.tree.Listing.TheVariants.{Rows, Patches, Same}
+use Rattle.wq_patch.specs.declared.tree.Listing.TheVariants.{Rows, Patches}
 use Rattle.wq_patch.specs.declared.tree.TreeFault.{TreeFault}
 use Rattle.wq_crawl.specs.declared.relisted.Relisted.TheVariants.{Patched}
-use Rattle.wq_patch.specs.Tree.{AreLawful, IsFew, IsFit, ListedData, Lists, rows_given_again, rows_listed}
+use Rattle.wq_patch.specs.Tree.{AreLawful, IsFew, ListingFits, ListedData, Lists, rows_given_again, rows_listed}
 use Rattle.wq_patch.specs.Device.{Gave}
 use Rattle.wq_live.specs.declared.event.RootEvent.{RootEvent}
 use Rattle.wq_view.specs.Listing.{PassData, is_of_whole, listing_fault, listing_of}
 use Rattle.wq_crawl.specs.declared.fault.CrawlFault.{CrawlFault}
 use Rattle.wq_crawl.specs.declared.fault.CrawlFault.TheVariants.{NoMemory}
-use Rattle.wq_crawl.specs.Crawl.{Began, CrawledAt, CrawlerData, IsNoPassOver, IsOfRows, IsPassOver, IsRelisted, IsStillOver, ListsAgain, Shared, no_pass}
+use Rattle.wq_crawl.specs.Crawl.{Began, CrawledAt, CrawlerData, IsNoPassOver, IsOfRows, IsPassOver, IsRelisted, ListsAgain, no_pass}
 use Rattle.wq_crawl.specs.Publish.{IsNotTakenIn, Passes, with_start}
 
 -- what a search finds passes a test of all
@@ -68,11 +65,10 @@ view_at events table text number view of number_is view_is = at (root_by_text te
 pub lists_again : (number : ℕ) (text : List ℕ) (before after : CrawlerData) (view : ViewData) (result : Result Listing TreeFault)
     → IsViewOf (passes_over number before.events) view
     → IfOk result (λ listing. IsTrue (list_all is_lawful_row (rows_listed view.records listing)))
-    → IfOk result (IsFew view.records) → IfOk result (IsFit view.records) → Lists before.listed text (rows_given_again view.records result) after.listed
+    → IfOk result (IsFew view.records) → IfOk result (ListingFits view.records) → Lists before.listed text (rows_given_again view.records result) after.listed
     → MatchResult result (λ listing. ListsAgain number text before listing after) (λ fault. Lists before.listed text (Err fault) after.listed)
 lists_again number text before after view (Ok (Rows rows)) is_view lawful few fit lists = (lists, lawful)
 lists_again number text before after view (Ok (Patches patches)) is_view lawful few fit lists = (view, is_view, lists, record { fit = fit; lawful = lawful }, few)
-lists_again number text before after view (Ok Same) is_view lawful few fit lists = (view, is_view, lists, lawful, few)
 lists_again number text before after view (Err fault) is_view lawful few fit lists = lists
 
 -- rows that are lawful beside a view are lawful
@@ -80,7 +76,6 @@ pub lawful_rows : (records : List RecordData) (result : Result Listing TreeFault
     → IfOk result AreLawful
 lawful_rows records (Ok (Rows rows)) lawful = lawful
 lawful_rows records (Ok (Patches patches)) lawful = tt
-lawful_rows records (Ok Same) lawful = tt
 lawful_rows records (Err fault) lawful = tt
 
 -- a pass of rows that were listed
@@ -112,25 +107,6 @@ module _ (number : ℕ) (text : List ℕ) (before begun mid shown : CrawlerData)
       → IsTrue (is_of_whole why) → listing_fault rows second ≡ Some why → IsNoPassOver text before (no_pass why) (record shown { clock = clock })
   rows_fault rows why lists lawful whole fault = inr (rows, second, why, lists_then rows lists, gave_then, lawful, whole, fault, refl)
 
-  -- the files are those of the view: the pass is no news
-  pub still_over : ListsAgain number text begun Same mid
-      → ((history : History) (view : ViewData) → IsViewOf history view → IsTrue (list_all is_lawful_row (seen_rows view.records))
-      → length (seen_rows view.records) ≤ max_listing_rows → None ≡ listing_fault (seen_rows view.records) second)
-      → ((history : History) (view : ViewData) → IsViewOf history view → last_stats history ≡ (listing_of (seen_rows view.records) second).stats)
-      → IsStillOver number text before (record shown { clock = clock })
-  still_over (view, is_view, lists, lawful, few) fault same = (
-    listing_of (seen_rows view.records) second,
-    rows_over (seen_rows view.records) (listing_of (seen_rows view.records) second) lists (sym (fault _ view is_view lawful few)) refl,
-    inr (ap (λ (c : CrawlerData). last_stats (passes_over number c.events)) (sym kept) ∙ same _ view is_view),
-  )
-
-  -- the same if the pass has a fault
-  pub still_fault : (why : PassFault) → ListsAgain number text begun Same mid → IsTrue (is_of_whole why)
-      → ((history : History) (view : ViewData) → IsViewOf history view → IsTrue (list_all is_lawful_row (seen_rows view.records))
-      → length (seen_rows view.records) ≤ max_listing_rows → Some why ≡ listing_fault (seen_rows view.records) second)
-      → IsNoPassOver text before (no_pass why) (record shown { clock = clock })
-  still_fault why (view, is_view, lists, lawful, few) whole fault = rows_fault (seen_rows view.records) why lists lawful whole (sym (fault _ view is_view lawful few))
-
   -- the files differ by patches from those of the view
   pub patches_over : (patches : Vec Patch Global) → ListsAgain number text begun (Patches patches) mid
       → ((records : List RecordData) (ps : List Patch) → NamesRise records → ArePatches records ps → IsTrue (list_all is_lawful_row (patched records ps))
@@ -151,19 +127,6 @@ module _ (number : ℕ) (text : List ℕ) (before begun mid shown : CrawlerData)
       → IsNoPassOver text before (no_pass why) (record shown { clock = clock })
   patches_fault patches why (view, is_view, lists, make, few) whole fault =
       rows_fault (patched view.records patches.items) why lists make.lawful whole (sym (fault view.records patches.items is_view.ordered make.fit make.lawful few))
-
--- what is no news is not refused for want of ticks
-no_want : (events : List RootEvent) (number : ℕ) (pass : PassData) → IsNoNews events number pass → WantsForTicks events number pass → ⊥
-no_want events number pass (inl hidden) wants = false≢true (sym hidden ∙ wants.0.0)
-no_want events number pass (inr same) wants = wants.0.1 same
-
--- a root whose pass is no news, and the present list
-pub told_still : (number : ℕ) (text : List ℕ) (before mid after : CrawlerData) (result : Result (List RootEvent) CrawlFault)
-    → mid.events ≡ before.events → IsStillOver number text before mid → Shared mid result after → CrawledAt number text before result after
-told_still number text before mid after (Ok told) kept (pass, over, still) (is, same) =
-    subst (λ c. CrawledAt number text before (Ok told) c) (sym same) (is, pass, over, inl (still, kept))
-told_still number text before mid after (Err fault) kept (pass, over, still) (is, same) =
-    subst (λ c. CrawledAt number text before (Err fault) c) (sym same) (kept, inr (pass, over, inr (is, no_want before.events number pass still)))
 
 module _ (text : List ℕ) (before mid after : CrawlerData) (pass : PassData) where
   -- a pass over a root remains one if nothing more is listed, and the clock is not asked again

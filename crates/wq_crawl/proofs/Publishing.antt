@@ -1,27 +1,23 @@
 -- What a listing came to, published over a list in which its root is as it was.
 use Rattle.std.proofs.Common.{◌≡◌, ℕ, ℤ, Bool, true, false, not, ◌||◌, List, [], ◌∷◌, ◌++◌, find, filter, Option, Some, option_map, bytes_eq, Result, Ok, Err, MatchResult, Vec, inl, inr, sym, refl, ap, subst, ◌∙◌, append-nil}
-use mathlib.Core.Bool.{false≢true}
 use Rattle.std.specs.declared.alloc.Global.{Global}
 use Rattle.std.proofs.lemmas.List.Elements.{filter_map-append, filter_agree}
 use Rattle.std.proofs.lemmas.List.Folds.{list_any-append}
 use Rattle.wq_view.specs.Listing.{PassData}
-use Rattle.wq_view.specs.History.{last_stats}
 use Rattle.wq_view.specs.View.{IsViewOf, ViewData}
 use Rattle.wq_view.specs.declared.patch.Patch.{Patch}
 use Rattle.wq_live.specs.declared.event.RootEvent.{RootEvent}
 use Rattle.wq_live.specs.declared.event.RootEvent.TheVariants.{Passed}
-use Rattle.wq_live.specs.Event.{Root, has_ended, is_end_of, is_shown, number_of, passes_over, shown, shown_root, start_in, started}
+use Rattle.wq_live.specs.Event.{Root, has_ended, is_end_of, number_of, passes_over, shown, start_in, started}
 use Rattle.wq_view.specs.Change.{pass_by}
 use Rattle.wq_crawl.specs.declared.fault.CrawlFault.{CrawlFault}
-use Rattle.wq_crawl.specs.declared.fault.CrawlFault.TheVariants.{NoMemory}
 use Rattle.wq_crawl.specs.declared.relisted.Relisted.{Relisted}
-use Rattle.wq_crawl.specs.declared.relisted.Relisted.TheVariants.{Still, Pass, Patched}
+use Rattle.wq_crawl.specs.declared.relisted.Relisted.TheVariants.{Pass, Patched}
 use Rattle.wq_crawl.specs.Answer.{CrawlData, IsAnswer}
 use Rattle.wq_crawl.specs.Shared.{CrawledFrom, Publishes}
-use Rattle.wq_crawl.specs.Crawl.{CrawledAt, CrawlerData, IsRelisted, IsTakable, ListerData, Shared, crawler_at}
+use Rattle.wq_crawl.specs.Crawl.{CrawledAt, CrawlerData, IsRelisted, IsTakable, ListerData, crawler_at}
 use Rattle.wq_crawl.specs.Publish.{IsNotTakenIn, Passes}
-use Rattle.wq_crawl.proofs.Crawling.{crawled_at, patched_at, told_still}
-use Rattle.wq_crawl.proofs.Shown.{number_found, root_found}
+use Rattle.wq_crawl.proofs.Crawling.{crawled_at, patched_at}
 
 -- a pass starts no root
 started_after : (events : List RootEvent) (n : ℕ) (p : PassData) → started (events ++ Passed n p ∷ []) ≡ started events
@@ -55,22 +51,10 @@ numbers_kept text before after number pass (Err fault) (same, why) = ap (number_
 -- a listing that can be published
 pub takable : (number : ℕ) (text : List ℕ) (events : List RootEvent) (before after : ListerData) (relisted : Relisted)
     → IsRelisted number text (crawler_at events before) relisted (crawler_at events after) → IsTakable number events relisted
-takable number text events before after Still is = tt
 takable number text events before after (Pass pass) is = tt
 takable number text events before after (Patched patches second) (view, is_view, over, make, in_range) = (view, is_view, make, in_range)
 
--- the present list, by its answer
-told_again : (events : List RootEvent) (lister : ListerData) (result : Result (List RootEvent) CrawlFault) → MatchResult result (λ told. told ≡ events) (λ fault. fault ≡ NoMemory)
-    → Shared (crawler_at events lister) result (crawler_at events lister)
-told_again events lister (Ok told) is = (is, refl)
-told_again events lister (Err fault) is = (is, refl)
-
 module _ (number : ℕ) (text : List ℕ) (events later : List RootEvent) (before after : ListerData) (result : Result (List RootEvent) CrawlFault) where
-  -- a listing that would add nothing
-  pub still_published : IsRelisted number text (crawler_at events before) Still (crawler_at events after) → MatchResult result (λ told. told ≡ events) (λ fault. fault ≡ NoMemory)
-      → CrawledAt number text (crawler_at events before) result (crawler_at events after)
-  still_published still told = told_still number text (crawler_at events before) (crawler_at events after) (crawler_at events after) result refl still (told_again events after result told)
-
   -- a pass
   pub pass_published : (pass : PassData) → IsRelisted number text (crawler_at events before) (Pass pass) (crawler_at events after)
       → MatchResult result (λ told. (told ≡ later) × Passes events number pass later) (λ fault. (later ≡ events) × IsNotTakenIn events number pass fault)
@@ -93,28 +77,18 @@ pub same_listing : (number n : ℕ) (relisted r : Relisted) (text : List ℕ) (b
 same_listing number n relisted r text b a x y result is_n is_r given over =
     subst (λ n. CrawledAt n text x result y) is_n (given (subst (λ r. IsRelisted n text b r a) (sym is_r) (subst (λ n. IsRelisted n text b relisted a) (sym is_n) over)))
 
--- a root that is shown by its text is shown by its number
-shown_by_number : (text : List ℕ) (events : List RootEvent) (number : ℕ) → number_of text events ≡ Some number → is_shown events number ≡ true
-shown_by_number text events number is =
-    let it = root_found (shown_root text events) number (sym is) in
-    subst (λ n. is_shown events n ≡ true) (sym it.2) (number_found text (shown events) it.0 it.1)
-
 -- a listing beside one list is a listing beside another, in which the root is the same
 pub relisted_later : (number : ℕ) (text : List ℕ) (told events : List RootEvent) (before after : ListerData) (relisted : Relisted)
-    → number_of text told ≡ Some number → passes_over number events ≡ passes_over number told
+    → passes_over number events ≡ passes_over number told
     → IsRelisted number text (crawler_at told before) relisted (crawler_at told after)
     → IsRelisted number text (crawler_at events before) relisted (crawler_at events after)
-relisted_later number text told events before after Still shown same (pass, over, inl hidden) =
-    absurd (false≢true (sym hidden ∙ shown_by_number text told number shown))
-relisted_later number text told events before after Still shown same (pass, over, inr still) = (pass, over, inr (ap last_stats same ∙ still))
-relisted_later number text told events before after (Pass pass) shown same over = over
-relisted_later number text told events before after (Patched patches second) shown same (view, is_view, over, make, in_range) =
+relisted_later number text told events before after (Pass pass) same over = over
+relisted_later number text told events before after (Patched patches second) same (view, is_view, over, make, in_range) =
     (view, subst (λ history. IsViewOf history view) (sym same) is_view, over, make, in_range)
 
 -- so is one that can be published
 pub takable_later : (number : ℕ) (told events : List RootEvent) (relisted : Relisted) → passes_over number events ≡ passes_over number told
     → IsTakable number told relisted → IsTakable number events relisted
-takable_later number told events Still same is = tt
 takable_later number told events (Pass pass) same is = tt
 takable_later number told events (Patched patches second) same (view, is_view, make, in_range) =
     (view, subst (λ history. IsViewOf history view) (sym same) is_view, make, in_range)

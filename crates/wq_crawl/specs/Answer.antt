@@ -23,16 +23,16 @@ answer_code =
     (λ _. refl))
 
 -- the list of an answer, unless the crawl was refused
-abbrev pub list_of : Result (Option CrawlData) CrawlFault
+abbrev pub told_list : Result (Option CrawlData) CrawlFault
     → Result (Option (List RootEvent)) CrawlFault
-list_of (Ok crawl) = Ok (option_map (λ c. c.told) crawl)
-list_of (Err fault) = Err fault
+told_list (Ok crawl) = Ok (option_map (λ c. c.told) crawl)
+told_list (Err fault) = Err fault
 
 -- this list, unless the crawl was refused
-abbrev pub answer_of : List RootEvent → Result (Option CrawlData) CrawlFault
+abbrev pub list_or_fault : List RootEvent → Result (Option CrawlData) CrawlFault
     → Result (List RootEvent) CrawlFault
-answer_of told (Ok crawl) = Ok told
-answer_of told (Err fault) = Err fault
+list_or_fault told (Ok crawl) = Ok told
+list_or_fault told (Err fault) = Err fault
 
 -- an answer to a crawl of the root of this text: a list that was published shows the root under the
 -- number that was crawled; or one does not show the root

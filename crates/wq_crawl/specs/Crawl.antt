@@ -5,7 +5,6 @@ use Rattle.std.specs.Prelude.{Option, Some, None, IfOk, IsTrue, Result, Ok, Err}
 use Rattle.std.specs.Prelude.{Bool, true, false}
 use Rattle.std.specs.List.{list_all}
 use Rattle.std.specs.Coded.{Coded, code_by, coded×, coded_bool, coded_ℕ, coded_ℤ, coded_option}
-use Rattle.wq_view.specs.SeenRows.{seen_rows}
 use Rattle.wq_view.specs.Limit.{max_listing_rows}
 use Rattle.wq_view.specs.View.{IsViewOf, ViewData}
 use Rattle.wq_view.specs.Listing.{PassData, is_of_whole, listing_fault, listing_of}
@@ -18,11 +17,10 @@ use Rattle.wq_live.specs.Log.{events_code}
 use Rattle.wq_live.specs.declared.event.RootEvent.{RootEvent}
 use Rattle.wq_patch.specs.Device.{Gave}
 use Rattle.wq_live.specs.Event.{number_of, passes_over}
-use Rattle.wq_live.specs.Table.{IsNoNews}
 use Rattle.wq_crawl.specs.Publish.{EndsRoot, IsNotTakenIn, IsPlace, Passes, with_start}
 use Rattle.wq_patch.specs.Tree.{IsCounted, ListedData, Lists, listed_code}
 use Rattle.wq_patch.specs.declared.tree.Listing.{Listing}
-use Rattle.wq_patch.specs.declared.tree.Listing.TheVariants.{Rows, Patches, Same}
+use Rattle.wq_patch.specs.declared.tree.Listing.TheVariants.{Rows, Patches}
 use Rattle.wq_patch.specs.declared.tree.TreeFault.{TreeFault}
 use Rattle.wq_patch.specs.declared.tree.TreeFault.TheVariants.{Unreadable as UnreadableTree}
 use Rattle.wq_patch.specs.declared.tree.TreeFault.TheVariants.{TooManyRows as TooManyTreeRows}
@@ -34,7 +32,7 @@ use Rattle.wq_crawl.specs.declared.fault.CrawlFault.TheVariants.{Unreadable, Too
 use Rattle.wq_crawl.specs.declared.fault.CrawlFault.TheVariants.{GaveWay, NoHandle, TooManyRoots}
 use Rattle.wq_crawl.specs.declared.fault.CrawlFault.TheVariants.{NoMemory}
 use Rattle.wq_crawl.specs.declared.relisted.Relisted.{Relisted}
-use Rattle.wq_crawl.specs.declared.relisted.Relisted.TheVariants.{Still, Pass, Patched}
+use Rattle.wq_crawl.specs.declared.relisted.Relisted.TheVariants.{Pass, Patched}
 use Rattle.wq_crawl.specs.declared.place.Place.{Place}
 use Rattle.wq_crawl.specs.declared.place.Place.TheVariants.{Shown, Full, Free}
 
@@ -135,9 +133,8 @@ IsNoPassOver text before fault after =
     × IsTrue (list_all is_lawful_row rows) × IsTrue (is_of_whole why)
     × (listing_fault rows second ≡ Some why) × (fault ≡ no_pass why))
 
--- a tree listed the root of this number: it gave these rows; or it found just the files that exist
--- by the view of the passes over the root, or all but some patches. These are no more than a pass
--- takes
+-- a tree listed the root of this number: it gave these rows; or it found the files that exist by
+-- the view of the passes over the root, but for patches. These are no more than a pass takes
 abbrev pub ListsAgain : ℕ → List ℕ → CrawlerData → Listing → CrawlerData → Type 0
 ListsAgain number text before (Rows rows) after =
     Lists before.listed text (Ok rows.items) after.listed
@@ -147,21 +144,10 @@ ListsAgain number text before (Patches patches) after =
     × Lists before.listed text (Ok (patched view.records patches.items)) after.listed
     × MakePass view.records patches.items
     × (length (patched view.records patches.items) ≤ max_listing_rows)
-ListsAgain number text before Same after =
-    (view : ViewData) × IsViewOf (passes_over number before.events) view
-    × Lists before.listed text (Ok (seen_rows view.records)) after.listed
-    × IsTrue (list_all is_lawful_row (seen_rows view.records))
-    × (length (seen_rows view.records) ≤ max_listing_rows)
 
--- there is a pass over the root of this number, and it is no news
-abbrev pub IsStillOver : ℕ → List ℕ → CrawlerData → CrawlerData → Type 0
-IsStillOver number text before after =
-    (pass : PassData) × IsPassOver text before pass after × IsNoNews before.events number pass
-
--- a root was listed: the pass over it would add nothing; or there is this pass; or there is the one
--- at this second which differs by these patches from the view of the passes over the root
+-- a root was listed: there is this pass; or there is the one at this second which differs by these
+-- patches from the view of the passes over the root
 abbrev pub IsRelisted : ℕ → List ℕ → CrawlerData → Relisted → CrawlerData → Type 0
-IsRelisted number text before Still after = IsStillOver number text before after
 IsRelisted number text before (Pass pass) after = IsPassOver text before pass after
 IsRelisted number text before (Patched patches second) after =
     (view : ViewData) × IsViewOf (passes_over number before.events) view
@@ -214,8 +200,8 @@ abbrev pub makes : Result (List RootEvent) CrawlFault → Result Bool CrawlFault
 makes (Ok told) = Ok true
 makes (Err fault) = Err fault
 
--- a glance was made at a root: it, or a part of it, was crawled, and of that list nothing is returned. Or there was
--- no glance, and nothing changed
+-- a glance was made at a root: it, or a part of it, was crawled, and of that list nothing is
+-- returned. Or there was no glance, and nothing changed
 abbrev pub Glanced : List ℕ → CrawlerData → Result Bool CrawlFault → CrawlerData → Type 0
 Glanced text before result after =
     ((result ≡ Ok false) × (after ≡ before))

@@ -1,6 +1,6 @@
--- The step that comes before an answer: nothing; a look at the view of a root, perhaps after a crawl
--- of it, or after it was opened; or the retirement of a root.
--- From Watchman's documentation of synchronisation (`sync_timeout`), `watch` and `watch-del`.
+-- The step that comes before an answer: nothing; a look at the view of a root, perhaps after a
+-- crawl of it, or after it was opened; or the retirement of a root. From Watchman's documentation
+-- of synchronisation (`sync_timeout`), `watch` and `watch-del`.
 use Rattle.std.specs.Prelude.{ℕ, List}
 use Rattle.wq_crawl.specs.declared.need.Need.{Need}
 use Rattle.wq_crawl.specs.declared.need.Need.TheVariants.{None, Look, Crawl, Watch, Unwatch}

@@ -1,11 +1,11 @@
--- The crawls of threads that share a publisher: each lane lists a root by its own lister, and publishes what the listing
--- comes to. No public document defines it.
+-- The crawls of threads that share a publisher: each lane lists a root by its own lister, and
+-- publishes what the listing comes to. No public document defines it.
 use Rattle.std.specs.Prelude.{◌≡◌, ◌≤◌, ◌⊎◌, ℕ, zero, suc, List, Option, Some, None}
 use Rattle.std.specs.Prelude.{Bool, true, false, IfOk, IsTrue, Result, Ok, Err}
 use Rattle.wq_view.specs.Listing.{PassData}
 use Rattle.wq_live.specs.Event.{number_of}
 use Rattle.wq_live.specs.declared.event.RootEvent.{RootEvent}
-use Rattle.wq_crawl.specs.Answer.{CrawlData, list_of}
+use Rattle.wq_crawl.specs.Answer.{CrawlData, told_list}
 use Rattle.wq_crawl.specs.Crawl.{CrawledAt, IsRelisted, ListerData, Watched, crawler_at}
 use Rattle.wq_crawl.specs.Crawl.{makes, tells}
 use Rattle.wq_patch.specs.Device.{count_of}
@@ -108,7 +108,7 @@ CrawledOnce text first result after =
 abbrev pub TriesOnce : List ℕ → ListerData → Result (Option (Option CrawlData)) CrawlFault
     → ListerData → Type 0
 TriesOnce text before (Ok None) after = (after ≡ before) ⊎ Overtaken text before after
-TriesOnce text before (Ok (Some crawl)) after = CrawledNow text before (list_of (Ok crawl)) after
+TriesOnce text before (Ok (Some crawl)) after = CrawledNow text before (told_list (Ok crawl)) after
 TriesOnce text before (Err fault) after = CrawledNow text before (Err fault) after
 
 -- what a glance came to was to be published: it was, or was refused; or it was overtaken
@@ -118,9 +118,9 @@ PublishesGlance text before (Ok true) after =
 PublishesGlance text before (Ok false) after = Unit {0}
 PublishesGlance text before (Err fault) after = CrawledFrom text before (Err fault) after
 
--- a glance was made at a root: it, or a part of it, was crawled. Or there was no glance, since there
--- is nothing to look at, or since it was overtaken; or since memory ran out for the present list,
--- which shows the root
+-- a glance was made at a root: it, or a part of it, was crawled. Or there was no glance, since
+-- there is nothing to look at, or since it was overtaken; or since memory ran out for the present
+-- list, which shows the root
 abbrev pub GlancedBetween : List ℕ → ListerData → Result Bool CrawlFault → ListerData → Type 0
 GlancedBetween text before result after =
     ((answer : Result (List RootEvent) CrawlFault) × (result ≡ makes answer)

@@ -2,7 +2,7 @@
 //! whoever crawls nothing has no answer.
 ghost use Rattle.std.specs.Prelude.{◌≡◌, ◌≤◌, ◌&&◌, ◌==◌, nat_le, IfErr, IfOk, List, MatchResult, None, Some, ℕ, option_map};
 ghost use Rattle.wq_live.specs.Event.{number_of};
-ghost use Rattle.wq_crawl.specs.Answer.{IsAnswer, answer_of};
+ghost use Rattle.wq_crawl.specs.Answer.{IsAnswer, list_or_fault};
 ghost use Rattle.wq_crawl.specs.Crawl.{CrawledAt, IsRelisted, IsTakable, ListerData, crawler_at};
 
 use crate::begun::Asked;
@@ -111,7 +111,7 @@ impl<N: Named> Crawl<N> {
             → IsRelisted listed.number text (crawler_at publisher.old before) listed.relisted
             (crawler_at publisher.old after)
             → CrawledAt listed.number text (crawler_at publisher.old before)
-            (answer_of publisher.new result) (crawler_at publisher.new after) }
+            (list_or_fault publisher.new result) (crawler_at publisher.new after) }
         ensures shown { (text : List ℕ)
             → number_of text publisher.new ≡ number_of text publisher.old }
         ensures published { IfOk result (λ _. N.published N.book publisher.new) }

@@ -2,7 +2,7 @@
 //! after the other.
 ghost use Rattle.std.specs.Prelude.{◌≡◌, IfOk, IsTrue, MatchResult, None, OnOk, Some};
 ghost use Rattle.wq_live.specs.Event.{IsFull, number_of};
-ghost use Rattle.wq_crawl.specs.Answer.{IsAnswer, answer_of, list_of};
+ghost use Rattle.wq_crawl.specs.Answer.{IsAnswer, list_or_fault, told_list};
 ghost use Rattle.wq_crawl.specs.Crawl.{Began, Crawled, CrawledAt, CrawledWhole, Glanced};
 ghost use Rattle.wq_crawl.specs.Crawl.{IsNoPassOver, IsPassOver, Shared, Unwatched, Watched, tells};
 ghost use Rattle.wq_crawl.specs.Publish.{with_start};
@@ -78,7 +78,7 @@ impl<N: Named, R: Wait + Drop, T: Tree + Drop, S: Seconds + Drop> Crawler<N, R, 
     /// A refused crawl leaves the list as it is. The call waits for looks that still read the value before the last
     /// pass.
     pub fn crawl(&mut self, root: &str) -> Result<Crawl<N>, CrawlFault>
-        ensures crawled { Crawled root.now self.old (list_of result) self.new }
+        ensures crawled { Crawled root.now self.old (told_list result) self.new }
         ensures answer { IfOk result (IsAnswer (N.published N.book) root.now) }
     {
         let Some(number) = self.publisher.find(root) else {
@@ -158,8 +158,8 @@ impl<N: Named, R: Wait + Drop, T: Tree + Drop, S: Seconds + Drop> Crawler<N, R, 
     fn crawl_whole(&mut self, number: u64, root: &str) -> Result<Crawl<N>, CrawlFault>
         requires shown { number_of root.now (self.old).events ≡ Some number }
         ensures crawled { CrawledWhole number root.now self.old
-            (answer_of (self.new).events result) self.new }
-        ensures told { list_of result ≡ tells (answer_of (self.new).events result) }
+            (list_or_fault (self.new).events result) self.new }
+        ensures told { told_list result ≡ tells (list_or_fault (self.new).events result) }
         ensures answer { IfOk result (IsAnswer (N.published N.book) root.now) }
     {
         // As for a root that is listed for the first time.

@@ -2,7 +2,7 @@
 //! tree that does not answer holds up only its own root.
 ghost use Rattle.std.specs.Prelude.{◌≡◌, IfOk, IfSome, Some};
 ghost use Rattle.wq_live.specs.Event.{number_of};
-ghost use Rattle.wq_crawl.specs.Answer.{BeganSince, IsAnswer, list_of};
+ghost use Rattle.wq_crawl.specs.Answer.{BeganSince, IsAnswer, told_list};
 ghost use Rattle.wq_crawl.specs.Shared.{CrawledOnce, GlancedBetween, TriesOnce, WatchedBetween};
 
 use crate::begun::{Asked, Begun, Raised};
@@ -38,7 +38,7 @@ impl<T: Tree + Drop, S: Seconds + Drop> Lane<T, S> {
         asked: Asked,
         root: &str,
     ) -> Result<Crawl<N>, CrawlFault>
-        ensures crawled { CrawledOnce root.now self.old.lister (list_of result) self.new.lister }
+        ensures crawled { CrawledOnce root.now self.old.lister (told_list result) self.new.lister }
         ensures answer { IfOk result (IsAnswer (N.published N.book) root.now) }
         ensures since { IfOk result (BeganSince asked.count) }
     {

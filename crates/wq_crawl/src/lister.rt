@@ -4,7 +4,7 @@ ghost use Rattle.std.specs.List.{list_all};
 ghost use Rattle.wq_record.specs.Seen.{is_lawful_row};
 ghost use Rattle.wq_live.specs.declared.event.RootEvent.{RootEvent};
 ghost use Rattle.wq_live.specs.Table.{IsTableOf};
-ghost use Rattle.wq_patch.specs.Tree.{AreLawful, IsCounted, IsFew, IsFit, Lists, rows_given_again, rows_listed};
+ghost use Rattle.wq_patch.specs.Tree.{AreLawful, IsCounted, IsFew, ListingFits, Lists, rows_given_again, rows_listed};
 ghost use Rattle.wq_crawl.specs.Crawl.{IsNoPassOver, IsPassOver, IsRelisted, ListsAgain, crawler_at};
 
 use crate::begun::Raised;
@@ -101,10 +101,6 @@ impl<T: Tree + Drop, S: Seconds + Drop> Lister<T, S> {
             },
             Listing::Patches(patches) => match Pass::fault_of_patches(second) {
                 None => Ok(Relisted::Patched(patches, second)),
-                Some(fault) => Err(no_pass(fault)),
-            },
-            Listing::Same => match Pass::fault_again(second) {
-                None => Ok(Relisted::Still),
                 Some(fault) => Err(no_pass(fault)),
             },
         }
@@ -209,7 +205,7 @@ fn listed_again<T: Tree>(
     ensures lawful { IfOk result (λ listing.
         IsTrue (list_all is_lawful_row (rows_listed last.now.records listing))) }
     ensures few { IfOk result (IsFew last.now.records) }
-    ensures fit { IfOk result (IsFit last.now.records) }
+    ensures fit { IfOk result (ListingFits last.now.records) }
     ensures listed { Lists (T.listed tree.old) root.now
         (rows_given_again last.now.records result) (T.listed tree.new) }
     ensures whole { IfNone recent.entry (OnOk result (IsTrue (T.whole tree.new))) }

@@ -15,8 +15,6 @@ use wq_view::{Pass, Patch, ViewFault};
 /// What the listing of a root that has a view comes to.
 #[derive(Drop)]
 pub(crate) enum Relisted {
-    /// A pass that would add nothing.
-    Still,
     /// This pass.
     Pass(Pass),
     /// The pass at this second that differs by these patches from the view.
@@ -44,7 +42,6 @@ impl Relisted {
         ensures err { IfErr result (λ _. publisher.new ≡ publisher.old) }
     {
         match self {
-            Relisted::Still => told_by(publisher),
             Relisted::Pass(pass) => publish_pass(publisher, number, pass),
             Relisted::Patched(patches, second) => {
                 publish_patches(publisher, number, &patches, second)

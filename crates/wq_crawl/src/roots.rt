@@ -1,7 +1,7 @@
 //! Crawling, watching and unwatching roots for a session.
 ghost use Rattle.std.specs.Prelude.{IfOk};
 ghost use Rattle.wq_base.specs.Limit.{AreFew};
-ghost use Rattle.wq_crawl.specs.Answer.{IsAnswer, list_of};
+ghost use Rattle.wq_crawl.specs.Answer.{IsAnswer, told_list};
 ghost use Rattle.wq_crawl.specs.Crawl.{tells};
 ghost use Rattle.wq_crawl.specs.Roots.{RootsGive, ending, passing, showing};
 
@@ -28,7 +28,7 @@ pub trait Roots<N: Named> {
     /// Crawls the root of this text, publishes the pass, and returns the list of events. There is none if the root is
     /// not shown. Only a publisher makes the answer.
     fn crawl(&mut self, root: &str) -> Result<Crawl<N>, CrawlFault>
-        ensures given { RootsGive (crawler self.old) (passing root.now) (list_of result)
+        ensures given { RootsGive (crawler self.old) (passing root.now) (told_list result)
             (crawler self.new) }
         ensures answer { IfOk result (IsAnswer (N.published N.book) root.now) };
 

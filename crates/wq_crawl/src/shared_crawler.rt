@@ -1,7 +1,7 @@
 //! A crawler that threads share. Crawls of different roots go on at the same time. Those of one root come one after the
 //! other, and the list of one also serves those that asked before it began.
 ghost use Rattle.std.specs.Prelude.{◌≡◌, IfOk, None};
-ghost use Rattle.wq_crawl.specs.Answer.{BeganSince, IsAnswer, list_of};
+ghost use Rattle.wq_crawl.specs.Answer.{BeganSince, IsAnswer, told_list};
 ghost use Rattle.wq_crawl.specs.Crawl.{tells};
 ghost use Rattle.wq_crawl.specs.Roots.{GlanceAt, RootsGive, ending, passing, showing};
 
@@ -48,7 +48,7 @@ impl<N: Named, R: Wait + Drop, T: Tree + Drop, S: Seconds + Drop> SharedCrawler<
     ///
     /// If another thread crawled the root meanwhile, and began after this call did, the call returns the present list.
     pub fn crawl(&self, rt: &R, root: &str) -> Result<Crawl<N>, CrawlFault>
-        ensures given { RootsGive None (passing root.now) (list_of result) None }
+        ensures given { RootsGive None (passing root.now) (told_list result) None }
         ensures answer { IfOk result (IsAnswer (N.published N.book) root.now) }
     {
         // The thread reads the count before it waits for the lane.
@@ -63,7 +63,7 @@ impl<N: Named, R: Wait + Drop, T: Tree + Drop, S: Seconds + Drop> SharedCrawler<
     /// Crawls the root of this text for nobody who waits, and returns the list of events. A crawl that began after somebody
     /// asked at an earlier moment serves too.
     pub fn crawl_since(&self, rt: &R, asked: Asked, root: &str) -> Result<Crawl<N>, CrawlFault>
-        ensures given { RootsGive None (passing root.now) (list_of result) None }
+        ensures given { RootsGive None (passing root.now) (told_list result) None }
         ensures answer { IfOk result (IsAnswer (N.published N.book) root.now) }
         ensures since { IfOk result (BeganSince asked.count) }
     {
@@ -76,7 +76,7 @@ impl<N: Named, R: Wait + Drop, T: Tree + Drop, S: Seconds + Drop> SharedCrawler<
 
     /// Crawls the root of this text as [`SharedCrawler::crawl_since`] does, and as soon as for a client.
     pub fn crawl_soon(&self, rt: &R, asked: Asked, root: &str) -> Result<Crawl<N>, CrawlFault>
-        ensures given { RootsGive None (passing root.now) (list_of result) None }
+        ensures given { RootsGive None (passing root.now) (told_list result) None }
         ensures answer { IfOk result (IsAnswer (N.published N.book) root.now) }
         ensures since { IfOk result (BeganSince asked.count) }
     {
@@ -177,7 +177,7 @@ where
     R: Wait + Drop,
     T: Tree + Drop,
     S: Seconds + Drop,
-    ensures given { RootsGive None (passing root.now) (list_of result) None }
+    ensures given { RootsGive None (passing root.now) (told_list result) None }
     ensures answer { IfOk result (IsAnswer (N.published N.book) root.now) }
     ensures since { IfOk result (BeganSince asked.count) }
 {

@@ -7,7 +7,7 @@ use Rattle.std.specs.declared.fs.Metadata.{Metadata}
 use Rattle.wq_record.specs.Seen.{Stat}
 use Rattle.wq_disk.specs.Entries.{names_of_text}
 use Rattle.wq_disk.specs.Stat.{kind_of_mode, milliseconds_of, nearest_size}
-use Rattle.wq_disk.specs.Told.{Fails, GivesStat, Has}
+use Rattle.wq_disk.specs.Told.{FailsAt, GivesStat, Has}
 use Rattle.wq_disk.specs.Unseen.{HasFailed, HasMissed}
 
 -- a stat has the type, the size and the time that the system gives for some file
@@ -30,5 +30,5 @@ has_here path told =
     MatchOption told HasMissed (λ names. (text : List ℕ) × (names ≡ names_of_text text))
 
 -- a call of the system failed with an error that means this fault of a whole walk
-abbrev pub fails_here : Fails
+abbrev pub fails_here : FailsAt
 fails_here fault path = HasFailed fault

@@ -13,18 +13,19 @@ abbrev pub GivesStat : Type 1
 GivesStat = List ℕ → Option Stat → Type 0
 
 -- the names that a disk may give for the directory of a path, as the system gives them: those of
--- entries, of the directory itself and of the one above it, maybe twice; none if it cannot read the
--- directory
+-- entries, of the directory itself and of the one above it, maybe twice; none if it cannot read
+-- the directory
 abbrev pub Has : Type 1
 Has = List ℕ → Option (List (List ℕ)) → Type 0
 
--- whether a call of the system failed at a path with an error that means this fault of a whole walk
-abbrev pub Fails : Type 1
-Fails = TreeFault → List ℕ → Type 0
+-- whether a call of the system failed at a path with an error that means this fault of a whole
+-- walk
+abbrev pub FailsAt : Type 1
+FailsAt = TreeFault → List ℕ → Type 0
 
 -- a fault that a disk may give below a root: it is one of the device only if a call of the system
 -- failed so at some path
-abbrev pub IsFailure : Fails → TreeFault → Type 0
+abbrev pub IsFailure : FailsAt → TreeFault → Type 0
 IsFailure fails fault = IsTrue (is_of_device fault) → (path : List ℕ) × fails fault path
 
 -- a disk gives some names for the directory of a path, and these are the entries among them
@@ -49,7 +50,7 @@ HasStat says path = (stat : Stat) × says path (Some stat)
 
 -- a fault is one of the device only if the root itself cannot be read, or a call of the system
 -- failed so at some path
-abbrev pub IsRootFault : GivesStat → Has → Fails → List ℕ → TreeFault → Type 0
+abbrev pub IsRootFault : GivesStat → Has → FailsAt → List ℕ → TreeFault → Type 0
 IsRootFault says has fails root fault =
     IsTrue (is_of_device fault)
     → ((fault ≡ Unreadable) × IsUnreadable says has root) ⊎ ((path : List ℕ) × fails fault path)

@@ -7,7 +7,7 @@ use prog.Atomic.{either}
 use Rattle.logbook.specs.Pages.{Cell, cell, keeps, no_nib, step, Moves, Goes}
 use Rattle.wq_live.specs.declared.event.RootEvent.{RootEvent}
 use Rattle.wq_live.specs.Log.{IsCount, AddsEvent}
-use Rattle.wq_live.specs.News.{event_of}
+use Rattle.wq_live.specs.News.{news_event}
 use Rattle.wq_live.specs.declared.news.News.{News}
 use Rattle.wq_live.proofs.Beginnings.{prefix_whole}
 
@@ -52,9 +52,9 @@ adds_moves v e old len cs log kept pre away =
     subst P (sym kept) (omega arith, refl, adds_goes log v e old len pre (length log == old) refl)
 
 -- one event more is added
-pub added_next : (all : List News) (i : ℕ) (news : News) → i < length all → get_or all i news ≡ news → (before so_far next : List RootEvent) → so_far ≡ before ++ map event_of (take i all) → next ≡ so_far ++ event_of news ∷ [] → next ≡ before ++ map event_of (take (i + 1) all)
+pub added_next : (all : List News) (i : ℕ) (news : News) → i < length all → get_or all i news ≡ news → (before so_far next : List RootEvent) → so_far ≡ before ++ map news_event (take i all) → next ≡ so_far ++ news_event news ∷ [] → next ≡ before ++ map news_event (take (i + 1) all)
 added_next all i news h is before so_far next so_far_is next_is =
     next_is
-    ∙ ap (λ l. l ++ event_of news ∷ []) so_far_is
-    ∙ append_assoc before (map event_of (take i all)) (event_of news ∷ [])
-    ∙ ap (λ l. before ++ l) (sym (map-append event_of (take i all) (news ∷ [])) ∙ ap (map event_of) (sym (take_more all i news h ∙ ap (λ n. take i all ++ (n ∷ [])) is)))
+    ∙ ap (λ l. l ++ news_event news ∷ []) so_far_is
+    ∙ append_assoc before (map news_event (take i all)) (news_event news ∷ [])
+    ∙ ap (λ l. before ++ l) (sym (map-append news_event (take i all) (news ∷ [])) ∙ ap (map news_event) (sym (take_more all i news h ∙ ap (λ n. take i all ++ (n ∷ [])) is)))

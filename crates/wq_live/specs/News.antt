@@ -4,8 +4,8 @@ use Rattle.wq_live.specs.declared.event.RootEvent.TheVariants.{Ended, Passed, St
 use Rattle.wq_live.specs.declared.news.News.{News}
 use Rattle.wq_live.specs.declared.news.News.TheVariants.{End, Pass, Start}
 
--- the event
-abbrev pub event_of : News → RootEvent
-event_of (Start number text) = Started number text.now
-event_of (Pass number change) = Passed number (change.now).pass
-event_of (End number) = Ended number
+-- the event that this news adds
+abbrev pub news_event : News → RootEvent
+news_event (Start number text) = Started number text.now
+news_event (Pass number change) = Passed number (change.now).pass
+news_event (End number) = Ended number

@@ -2,7 +2,7 @@
 //! have tokens without bytes for the part of it that they know.
 ghost use Rattle.std.specs.Prelude.{◌≡◌, ◌++◌, ◌∷◌, [], IsTrue, length, map, nat_lt};
 ghost use Rattle.wq_live.specs.Log.{Compared, head_of};
-ghost use Rattle.wq_live.specs.News.{event_of};
+ghost use Rattle.wq_live.specs.News.{news_event};
 
 use crate::event::RootEvent;
 use crate::news::News;
@@ -50,9 +50,9 @@ impl Play<RootEvent, u64> for Add {
 
 impl<'a> Plain<News<'a>, RootEvent, u64> for Add {
     ghost use Rattle.std.specs.Prelude.{None};
-    ghost use Rattle.wq_live.specs.News.{event_of};
+    ghost use Rattle.wq_live.specs.News.{news_event};
 
-    ghost ask = { λ news. event_of news };
+    ghost ask = { λ news. news_event news };
 
     ghost state = { λ news. None };
 }
@@ -116,7 +116,7 @@ impl Log {
     pub(crate) fn add(&mut self, head: &Head, news: &News<'_>) -> bool
         requires { head.now ≡ head_of self.old.book }
         ensures same { self.new.book ≡ self.old.book }
-        ensures added { IsTrue result → self.new.log ≡ self.old.log ++ event_of news.now ∷ [] }
+        ensures added { IsTrue result → self.new.log ≡ self.old.log ++ news_event news.now ∷ [] }
     {
         if self.count == u64::MAX {
             return false;
@@ -141,7 +141,7 @@ impl Log {
     pub(crate) fn add_all(&mut self, head: &Head, news: &[News<'_>]) -> bool
         requires { head.now ≡ head_of self.old.book }
         ensures same { self.new.book ≡ self.old.book }
-        ensures added { IsTrue result → self.new.log ≡ self.old.log ++ map event_of news.now }
+        ensures added { IsTrue result → self.new.log ≡ self.old.log ++ map news_event news.now }
     {
         for event in news {
             if !self.add(head, event) {

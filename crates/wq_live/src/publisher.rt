@@ -9,7 +9,7 @@ ghost use Rattle.wq_view.specs.Change.{MakePass, pass_by};
 ghost use Rattle.wq_view.specs.View.{IsViewOf, ViewData};
 ghost use Rattle.wq_live.specs.declared.event.RootEvent.TheVariants.{Ended, Passed};
 ghost use Rattle.wq_live.specs.Event.{is_shown, passes_over, shown_root, shown, start_events, started};
-ghost use Rattle.wq_live.specs.News.{event_of};
+ghost use Rattle.wq_live.specs.News.{news_event};
 ghost use Rattle.wq_live.specs.Table.{IsNews, IsNoNews, IsTableOf, WantsForTicks};
 
 use crate::kept::Note;
@@ -304,9 +304,9 @@ impl<N: Named, R: Wait + Drop> Publisher<N, R> {
 
     /// Adds events, and shows the table after them.
     fn add(&mut self, table: RootTable, news: &[News<'_>]) -> Result<Told<N>, AllocError>
-        requires { IsTableOf (self.old ++ map event_of news.now) table }
+        requires { IsTableOf (self.old ++ map news_event news.now) table }
         ensures added { MatchResult result
-            (λ told. (self.new ≡ self.old ++ map event_of news.now) × (told ≡ self.new))
+            (λ told. (self.new ≡ self.old ++ map news_event news.now) × (told ≡ self.new))
             (λ _. self.new ≡ self.old) }
         ensures published { N.published N.book self.new }
     {
@@ -346,7 +346,7 @@ fn start_news<'a>(
 ) -> Result<Vec<News<'a>>, AllocError>
     requires { (change.now).pass ≡ pass.now }
     ensures { IfOk result (λ news.
-        map event_of news.items ≡ start_events number text.now pass.now) }
+        map news_event news.items ≡ start_events number text.now pass.now) }
 {
     let mut news = Vec::with_capacity(alloc, 2)?;
     news.push(News::Start(number, text))?;

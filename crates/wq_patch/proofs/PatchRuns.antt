@@ -1,13 +1,13 @@
 -- The patches of a piece of a view with one more record, or one more row.
 use Rattle.std.proofs.Common.{◌≡◌, ◌+◌, ◌≤◌, ℕ, List, [], ◌∷◌, ◌++◌, take, drop, length, append_assoc, Result, Ok, Err, OnErr, refl, ap, sym, subst, ◌∙◌, arith}
-use Rattle.std.proofs.lemmas.List.{append-nil, drop-drop, length-drop, take-append-drop}
+use Rattle.std.proofs.lemmas.List.{append-nil, drop-drop, length-drop}
 use Rattle.wq_record.specs.RecordData.{RecordData}
 use Rattle.wq_record.specs.Seen.{SeenData}
 use Rattle.wq_view.specs.SeenRows.{seen_rows}
 use Rattle.wq_patch.specs.PatchMaker.{AreInside, IsSamePiece, IsWithin, patches_made, records_behind, records_to_come, rows_before, rows_made}
 use Rattle.wq_view.specs.declared.patch.Patch.{Patch}
 use Rattle.wq_patch.specs.declared.patch_maker.PatchMaker.{PatchMaker}
-use Rattle.wq_view.proofs.SeenAgain.{seen-append, seen_later}
+use Rattle.wq_view.proofs.SeenAgain.{seen_later}
 
 pub regroup : {X : Type 0} (s q b t : List X) → s ++ (q ++ (b ++ t)) ≡ (s ++ (q ++ b)) ++ t
 regroup s q b t = sym (append_assoc s (q ++ b) t ∙ ap (λ r. s ++ r) (append_assoc q b t))
@@ -165,22 +165,6 @@ added_within records made next before after done kept replaced are =
     let fits : next.last.kept + next.last.replaced ≤ length (records_behind records made.done.items) = omega (arith, kept, replaced, parts.1) in
     open_within records next after (subst (AreInside records) (sym done) parts.0)
     (subst (λ ps. next.last.kept + next.last.replaced ≤ length (records_behind records ps)) (sym done) fits)
-
--- no patch changes anything, and no record is left
-pub plain : (made : PatchMaker) → made.done.items ≡ [] → made.last.replaced ≡ 0 → made.last.rows.items ≡ [] → (records : List RecordData) → records_to_come records made ≡ [] → rows_made records made ≡ seen_rows records
-unfolding rows_made records_to_come
-plain made done replaced rows records none =
-    let kept = made.last.kept in
-    let tail = made.tail in
-    let back = drop kept records in
-    let left : drop tail back ≡ [] = (λ j. drop tail (drop (sym replaced j) back)) ∙ (λ j. drop tail (records_behind records (sym done j ++ (made.last ∷ [])))) ∙ none in
-    let whole : take tail back ≡ back = sym (append-nil (take tail back)) ∙ ap (λ r. take tail back ++ r) (sym left) ∙ take-append-drop tail back in
-    (λ j. rows_before records (done j ++ (made.last ∷ [])) ++ seen_rows (take tail (records_behind records (done j ++ (made.last ∷ [])))))
-    ∙ (λ j. (seen_rows (take kept records) ++ (rows j ++ [])) ++ seen_rows (take tail (drop (replaced j) back)))
-    ∙ ap (λ front. front ++ seen_rows (take tail back)) (append-nil (seen_rows (take kept records)))
-    ∙ ap (λ xs. seen_rows (take kept records) ++ seen_rows xs) whole
-    ∙ sym (seen-append (take kept records) back)
-    ∙ ap seen_rows (take-append-drop kept records)
 
 -- what is the same whatever the records
 pub same_rows : (made next : PatchMaker) → IsSamePiece made next → (records : List RecordData) → rows_made records next ≡ rows_made records made

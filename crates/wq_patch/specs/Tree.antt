@@ -4,7 +4,6 @@ use Rattle.std.specs.Prelude.{◌≡◌, ◌<◌, ◌≤◌, ◌⊎◌, ◌^◌,
 use Rattle.std.specs.Prelude.{Bool, true, false, IsTrue, Vec, length, refl}
 use Rattle.std.specs.Coded.{Coded, code_by, coded×, coded_ℕ, coded_list, coded_result}
 use Rattle.std.specs.declared.alloc.Global.{Global}
-use Rattle.wq_view.specs.SeenRows.{seen_rows}
 use Rattle.wq_view.specs.Limit.{max_listing_rows}
 use Rattle.wq_view.specs.Patch.{patched}
 use Rattle.wq_view.specs.Patching.{ArePatches}
@@ -14,7 +13,7 @@ use Rattle.wq_record.specs.Seen.{SeenData, Stat, entry_of, is_lawful_row, stat_c
 use Rattle.wq_patch.specs.Device.{Gave}
 use Rattle.wq_patch.specs.contracts.tree.TreeFault.{the_row}
 use Rattle.wq_patch.specs.declared.tree.Listing.{Listing}
-use Rattle.wq_patch.specs.declared.tree.Listing.TheVariants.{Rows, Patches, Same}
+use Rattle.wq_patch.specs.declared.tree.Listing.TheVariants.{Rows, Patches}
 use Rattle.wq_patch.specs.declared.tree.TreeFault.{TreeFault}
 use Rattle.wq_patch.specs.declared.tree.TreeFault.TheVariants.{NoHandle, Unreadable}
 
@@ -68,7 +67,6 @@ rows_given (Err fault) = Err fault
 abbrev pub rows_listed : List RecordData → Listing → List SeenData
 rows_listed records (Rows rows) = rows.items
 rows_listed records (Patches patches) = patched records patches.items
-rows_listed records Same = seen_rows records
 
 -- the rows that were given for a root whose last view has these records
 abbrev pub rows_given_again : List RecordData → Result Listing TreeFault
@@ -80,7 +78,6 @@ rows_given_again records (Err fault) = Err fault
 abbrev pub IsFew : List RecordData → Listing → Type 0
 IsFew records (Rows rows) = Unit {0}
 IsFew records (Patches patches) = length (patched records patches.items) ≤ max_listing_rows
-IsFew records Same = length (seen_rows records) ≤ max_listing_rows
 
 -- the rows of a listing that gives rows are lawful
 abbrev pub AreLawful : Listing → Type 0
@@ -88,9 +85,9 @@ AreLawful (Rows rows) = IsTrue (list_all is_lawful_row rows.items)
 AreLawful listing = Unit {0}
 
 -- the patches of a listing fit the records
-abbrev pub IsFit : List RecordData → Listing → Type 0
-IsFit records (Patches patches) = ArePatches records patches.items
-IsFit records listing = Unit {0}
+abbrev pub ListingFits : List RecordData → Listing → Type 0
+ListingFits records (Patches patches) = ArePatches records patches.items
+ListingFits records listing = Unit {0}
 
 -- a tree lists a root, and gives these rows
 abbrev pub Lists : Option (ℕ × ListedData) → List ℕ → Result (List SeenData) TreeFault

@@ -6,7 +6,7 @@ ghost use Rattle.wq_record.specs.Name.{is_valid_name};
 ghost use Rattle.wq_record.specs.Seen.{is_lawful_row};
 ghost use Rattle.wq_view.specs.SeenRows.{seen_row, seen_rows};
 ghost use Rattle.wq_view.specs.Limit.{max_listing_rows};
-ghost use Rattle.wq_patch.specs.PatchMaker.{IsJoinedTo, records_behind, rows_before};
+ghost use Rattle.wq_patch.specs.PatchMaker.{IsJoinedTo};
 ghost use Rattle.wq_view.specs.Records.{records_left};
 
 use crate::patch_maker::PatchMaker;
@@ -313,13 +313,6 @@ impl<'a> Again<'a> {
         }
         // No piece has so many records.
         Err(AllocError)
-    }
-
-    /// Whether all records are passed, and all files were found as they say.
-    pub fn is_same(&self) -> bool
-        ensures { IsTrue result → self.now.found ≡ seen_rows self.now.records }
-    {
-        self.next().is_none() && self.made.is_plain()
     }
 
     /// The number of files that were found.

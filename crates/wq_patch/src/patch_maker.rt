@@ -1,5 +1,5 @@
 //! The patches of a piece of a view, which a listing makes as it finds files. The module of pieces knows the records.
-ghost use Rattle.std.specs.Prelude.{◌≡◌, ◌≤◌, ◌+◌, ◌<◌, ◌∷◌, ◌++◌, [], drop, length, take, List, IfOk, IsTrue, OnErr, OnOk};
+ghost use Rattle.std.specs.Prelude.{◌≡◌, ◌≤◌, ◌+◌, ◌<◌, ◌∷◌, ◌++◌, [], drop, length, take, List, IfOk, OnErr, OnOk};
 ghost use Rattle.wq_record.specs.RecordData.{RecordData};
 ghost use Rattle.wq_view.specs.SeenRows.{seen_rows};
 ghost use Rattle.wq_patch.specs.PatchMaker.{IsPut, IsSamePiece, IsWithin, max_word, patches_made, records_to_come, rows_made};
@@ -168,14 +168,6 @@ impl PatchMaker {
     /// patches would.
     pub(crate) fn is_full(&self) -> bool {
         self.tail == 0 && self.done.len() >= MOST_PATCHES
-    }
-
-    /// Whether no patch changes anything.
-    pub(crate) fn is_plain(&self) -> bool
-        ensures { IsTrue result → (records : List RecordData)
-            → records_to_come records self.now ≡ [] → rows_made records self.now ≡ seen_rows records }
-    {
-        self.done.is_empty() && self.last.replaced == 0 && self.last.rows.is_empty()
     }
 
     /// Puts the patches after others, and before them one that keeps so many records. Returns the number of records that

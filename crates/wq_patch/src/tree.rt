@@ -2,7 +2,7 @@
 ghost use Rattle.std.specs.Prelude.{◌≡◌, IfErr, IfOk, IsTrue, OnOk};
 ghost use Rattle.std.specs.List.{list_all};
 ghost use Rattle.wq_record.specs.Seen.{is_lawful_row};
-ghost use Rattle.wq_patch.specs.Tree.{IsCounted, IsFew, IsFit, Lists, rows_given, rows_given_again, rows_listed};
+ghost use Rattle.wq_patch.specs.Tree.{IsCounted, IsFew, ListingFits, Lists, rows_given, rows_given_again, rows_listed};
 
 use crate::recent::Recent;
 use std::alloc::AllocError;
@@ -68,9 +68,6 @@ pub enum Listing {
     /// The files are those that exist by the last view, and are as its records say, except for these patches, which fit
     /// the view. They are no more than a pass takes.
     Patches(Vec<Patch>),
-    /// The files are just those that exist by the last view, and are as its records say. They are no more than a pass
-    /// takes.
-    Same,
 }
 
 /// A source of listings of roots.
@@ -106,7 +103,7 @@ pub trait Tree {
         ensures lawful { IfOk result (λ listing.
             IsTrue (list_all is_lawful_row (rows_listed last.now.records listing))) }
         ensures few { IfOk result (IsFew last.now.records) }
-        ensures fit { IfOk result (IsFit last.now.records) }
+        ensures fit { IfOk result (ListingFits last.now.records) }
         ensures listed { Lists (listed self.old) root.now
             (rows_given_again last.now.records result) (listed self.new) }
         ensures whole { OnOk result (IsTrue (whole self.new)) }
@@ -123,7 +120,7 @@ pub trait Tree {
         ensures lawful { IfOk result (λ listing.
             IsTrue (list_all is_lawful_row (rows_listed last.now.records listing))) }
         ensures few { IfOk result (IsFew last.now.records) }
-        ensures fit { IfOk result (IsFit last.now.records) }
+        ensures fit { IfOk result (ListingFits last.now.records) }
         ensures listed { Lists (listed self.old) root.now
             (rows_given_again last.now.records result) (listed self.new) }
     {

@@ -35,15 +35,6 @@ pub pairs_of_both : (rs : List RecordData) (rows : List SeenData) (more : List R
 pairs_of_both [] rows more = refl
 pairs_of_both (r ∷ rs) rows more = pairs_in_parts r (run_pairs (rs ++ more)) (run_pairs rs) (run_pairs more) (rows_behind rs) (λ rows. pairs_of_both rs rows more) rows
 
-behind_in_parts : (r : RecordData) (all first second : List SeenData → List SeenData) → ((rows : List SeenData) → all rows ≡ second (first rows)) → (rows : List SeenData) → rows_after r all rows ≡ second (rows_after r first rows)
-behind_in_parts r all first second parts [] = parts []
-behind_in_parts r all first second parts (row ∷ rows) = by (name_cmp r.name row.name) (parts (row ∷ rows)) (parts rows) (behind_in_parts r all first second parts rows)
-  where
-    by : (o : Ordering) → all (row ∷ rows) ≡ second (first (row ∷ rows)) → all rows ≡ second (first rows) → rows_after r all rows ≡ second (rows_after r first rows) → by_order o (all (row ∷ rows)) (all rows) (rows_after r all rows) ≡ second (by_order o (first (row ∷ rows)) (first rows) (rows_after r first rows))
-    by Less less equal greater = less
-    by Equal less equal greater = equal
-    by Greater less equal greater = greater
-
 list_all_both : {A : Type 0} (test : A → Bool) (xs ys : List A) → list_all test (xs ++ ys) ≡ (list_all test xs && list_all test ys)
 list_all_both test [] ys = refl
 list_all_both test (x ∷ xs) ys = at (test x) (list_all_both test xs ys)

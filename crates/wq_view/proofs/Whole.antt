@@ -11,7 +11,7 @@ use Rattle.std.specs.List.{list_all}
 use Rattle.wq_view.specs.Change.{MakePass, pass_by}
 use Rattle.wq_view.specs.Limit.{max_records}
 use Rattle.wq_view.specs.Listing.{IsPass, PassData}
-use Rattle.wq_view.specs.Patch.{IsWhole, patched}
+use Rattle.wq_view.specs.Patch.{ReplacesAll, patched}
 use Rattle.wq_view.specs.Patching.{AreBelow, FitFrom, record_name, row_name}
 use Rattle.wq_view.specs.SeenRows.{seen_rows}
 use Rattle.wq_view.specs.declared.patch.Patch.{Patch}
@@ -23,7 +23,7 @@ below_none : (rows : List SeenData) → AreBelow row_name record_name rows []
 below_none [] = tt
 below_none (row ∷ rows) = (tt, below_none rows)
 
-module _ (records : List RecordData) (p : Patch) (whole : IsWhole p.kept p.replaced) (few : length records ≤ max_records) where
+module _ (records : List RecordData) (p : Patch) (whole : ReplacesAll p.kept p.replaced) (few : length records ≤ max_records) where
   start : 0 + p.kept ≡ 0
   start = omega (arith, whole.none)
 

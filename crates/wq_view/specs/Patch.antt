@@ -15,8 +15,8 @@ patched records (p ∷ ps) =
     seen_rows (take p.kept records)
     ++ (p.rows.items ++ patched (drop p.replaced (drop p.kept records)) ps)
 
--- a patch that keeps so many records and replaces so many after them says nothing by a view: it keeps
--- none, and replaces as many as a view can have
-pub record IsWhole (kept replaced : ℕ) : Type 0 where
+-- a patch that keeps so many records and replaces so many after them says nothing by a view: it
+-- keeps none, and replaces as many as a view can have
+pub record ReplacesAll (kept replaced : ℕ) : Type 0 where
   pub none : kept ≡ 0
   pub all : max_records ≤ replaced

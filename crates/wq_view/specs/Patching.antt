@@ -70,7 +70,8 @@ last_rows earlier (row ∷ rows) = row ∷ rows
 
 -- the rows of a patch rise in the place of the records from one place up to another: they come
 -- after these earlier rows and the records before the place, and before the records after it
-pub record FitsAt (all : List RecordData) (start end : ℕ) (earlier rows : List SeenData) : Type 0 where
+pub record FitsAt (all : List RecordData) (start end : ℕ) (earlier rows : List SeenData)
+    : Type 0 where
   pub rise : IsTrue (is_sorted name_cmp (map entry_of rows))
   pub after_rows : AreBelow row_name row_name earlier rows
   pub after_records : AreBelow record_name row_name (take start all) rows

@@ -3,14 +3,12 @@
 ghost use Rattle.std.specs.Prelude.{◌≡◌, ◌==◌, ◌<◌, ◌↔◌, false, Some, None, MatchResult, IfSome, IfNone, IfErr, List, [], length, ◌≤◌, IfOk, map, take, bytes_eq, slice_get, IsTrue, IsPermutation};
 ghost use Rattle.std.specs.FinMap.{is_sorted, len};
 ghost use Rattle.std.specs.List.{list_all, IsDistinct};
-ghost use Rattle.wq_view.specs.SeenRows.{seen_rows};
-ghost use Rattle.wq_view.specs.History.{History, last_stats};
 ghost use Rattle.wq_view.specs.Limit.{max_listing_rows};
 ghost use Rattle.wq_record.specs.Seen.{entry_of, is_lawful_row, is_count};
 ghost use Rattle.wq_record.specs.RecordData.{RecordData};
 ghost use Rattle.wq_view.specs.Patch.{patched};
 ghost use Rattle.wq_view.specs.Patching.{ArePatches};
-ghost use Rattle.wq_view.specs.View.{IsViewOf, NamesRise, ViewData};
+ghost use Rattle.wq_view.specs.View.{NamesRise};
 ghost use Rattle.wq_view.specs.declared.patch.Patch.{Patch};
 ghost use Rattle.wq_record.specs.Name.{name_cmp};
 ghost use Rattle.wq_view.specs.Listing.{names_of, listing_of, listing_fault, is_of_whole, row_fault};
@@ -58,7 +56,7 @@ impl Model for Pass {
     ghost use Rattle.wq_record.specs.Seen.{entry_of};
     ghost use Rattle.wq_record.specs.Name.{name_cmp};
     ghost use Rattle.wq_view.specs.Listing.{PassData, pass_code, IsPass};
-    ghost use Rattle.wq_view.specs.Patch.{IsWhole};
+    ghost use Rattle.wq_view.specs.Patch.{ReplacesAll};
 
     ghost Value = { PassData };
 
@@ -68,7 +66,7 @@ impl Model for Pass {
         record { stats = from_sorted (map entry_of p.whole.rows.items); second = p.second } };
 
     ghost invariant = { λ p. IsPass p.whole.rows.items p.second
-        × IsWhole p.whole.kept p.whole.replaced };
+        × ReplacesAll p.whole.kept p.whole.replaced };
 }
 
 impl Pass {
@@ -131,25 +129,6 @@ impl Pass {
             rows,
         };
         Ok(Pass { whole, second })
-    }
-
-    /// The fault of a pass at this second whose rows say of the files just what a view says, if it has one. Such a pass
-    /// sees just the same as the last one.
-    pub fn fault_again(second: i64) -> Option<PassFault>
-        // For every view of a history:
-        ensures fault { (history : History) (view : ViewData) → IsViewOf history view
-            → IsTrue (list_all is_lawful_row (seen_rows view.records))
-            → length (seen_rows view.records) ≤ max_listing_rows
-            → result ≡ listing_fault (seen_rows view.records) second }
-        ensures same { (history : History) (view : ViewData) → IsViewOf history view
-            → last_stats history ≡ (listing_of (seen_rows view.records) second).stats }
-        ensures whole { IfSome result (λ fault. IsTrue (is_of_whole fault)) }
-    {
-        if is_count(second) {
-            None
-        } else {
-            Some(PassFault::OutOfRange)
-        }
     }
 
     /// The fault of a pass at this second whose rows differ by patches that fit from the records of a view, if it has one.

@@ -14,7 +14,7 @@ use Rattle.wq_walk.specs.Listed.{AreOfPieces, AreWalks, IsDrawn, IsWalkOfPiece}
 use Rattle.wq_walk.specs.Listed.{walked_pieces}
 use Rattle.wq_walk.specs.Found.{found_rows}
 use Rattle.wq_walk.specs.Walk.{IsWalk}
-use Rattle.wq_disk.specs.Told.{Fails, GivesStat, Has}
+use Rattle.wq_disk.specs.Told.{FailsAt, GivesStat, Has}
 
 -- the first items of a list, and the next one
 pub take_next : {X : Type 0} (xs : List X) (n : ℕ) (x : X) → slice_get xs n ≡ Some x
@@ -91,7 +91,7 @@ walked_at says has root pieces list at walked within all =
     All-get_or (Is says has root pieces) list at walked within all
 
 -- so are the pieces that a thread drew
-pub drawn_ok : (says : GivesStat) (has : Has) (fails : Fails) (root : List ℕ)
+pub drawn_ok : (says : GivesStat) (has : Has) (fails : FailsAt) (root : List ℕ)
     (pieces : List Piece) (list : Vec Walked Global) → IsDrawn says has fails root pieces (Ok list)
     → AreOfPieces says has root pieces list.items
 unfolding IsDrawn

@@ -1,15 +1,11 @@
 -- The records of the pieces of a tree, one piece after the other.
-use Rattle.std.proofs.Common.{◌≡◌, ◌+◌, ◌-◌, ◌≤◌, ℕ, List, [], ◌∷◌, ◌++◌, map, filter, take, drop, length, sym, refl, ap, ◌∙◌, arith}
+use Rattle.std.proofs.Common.{◌≡◌, ◌+◌, ◌-◌, ◌≤◌, ℕ, List, [], ◌∷◌, ◌++◌, take, drop, length, sym, ap, ◌∙◌, arith}
 use Rattle.std.proofs.Math.Seq.{drop-nil, take-add}
 use Rattle.std.proofs.lemmas.Grind.{flat_map-append}
-use Rattle.std.proofs.lemmas.List.{append-nil, length-drop, map-append, take-append-drop, take_all}
-use Rattle.std.proofs.lemmas.List.Elements.{filter-append}
+use Rattle.std.proofs.lemmas.List.{append-nil, length-drop, take-append-drop, take_all}
 use Rattle.std.specs.List.{flat_map}
-use Rattle.wq_view.specs.SeenRows.{seen_row, seen_rows}
 use Rattle.wq_record.specs.RecordData.{RecordData}
 use Rattle.wq_walk.specs.declared.piece.Piece.{Piece}
-use Rattle.wq_walk.specs.declared.rows.Rows.{Rows}
-use Rattle.wq_walk.specs.Listed.{rows_of_pieces, walked_pieces}
 use Rattle.wq_walk.specs.Tiles.{AreTiles, piece_records}
 
 -- no records are taken from none
@@ -38,15 +34,3 @@ rest_tiles records pieces piece start count all are is =
     let short : length (drop start records) ≤ count - start = omega (arith, all, length-drop start records) in
     one_more pieces piece (take start records) (drop start records) are (is ∙ take_all (count - start) (drop start records) short)
     ∙ take-append-drop start records
-
--- the rows of two runs of records
-seen-append : (front back : List RecordData) → seen_rows (front ++ back) ≡ seen_rows front ++ seen_rows back
-seen-append front back = ap (map seen_row) (filter-append (λ (r : RecordData). r.exists) front back) ∙ map-append seen_row (filter (λ r. r.exists) front) (filter (λ r. r.exists) back)
-
--- the rows of the pieces' files are those of all files
-seen_in : (walked : List Rows) → rows_of_pieces walked ≡ seen_rows (flat_map piece_records (walked_pieces walked))
-seen_in [] = refl
-seen_in (rows ∷ walked) = ap (λ rest. seen_rows (piece_records rows.piece) ++ rest) (seen_in walked) ∙ sym (seen-append (piece_records rows.piece) (flat_map piece_records (walked_pieces walked)))
-
-pub seen_tiles : (records : List RecordData) (walked : List Rows) → AreTiles records (walked_pieces walked) → rows_of_pieces walked ≡ seen_rows records
-seen_tiles records walked are = seen_in walked ∙ ap seen_rows are

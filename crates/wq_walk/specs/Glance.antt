@@ -38,8 +38,8 @@ ListsAt records rows place =
 abbrev pub ListAll : List RecordData → List SeenData → List ℕ → Type 0
 ListAll records rows places = All (ListsAt records rows) places
 
--- a glance did not enter the next directory that waits. It was not asked to, it listed the directory
--- as the view has it, and it lists all files below it by the view
+-- a glance did not enter the next directory that waits. It was not asked to, it listed the
+-- directory as the view has it, and it lists all files below it by the view
 abbrev pub KeepsBelow : List RecordData → List (List ℕ) → ℕ → WalkData → WalkData → Type 0
 KeepsBelow records asked root_len before after =
     (name : List ℕ) × (waiting : List (List ℕ))
@@ -99,8 +99,8 @@ IsKeptRow records asked rows row =
     (directory : List ℕ) × IsUnchanged records rows directory
     × (is_one_of_names asked directory ≡ false) × IsOneOf row (rows_below directory records)
 
--- a row of a glance, which lists these rows: one that the view has below a directory that the glance
--- did not enter, or the disk gave its stat for the path of its name
+-- a row of a glance, which lists these rows: one that the view has below a directory that the
+-- glance did not enter, or the disk gave its stat for the path of its name
 abbrev pub IsRowOfGlance : GivesStat → List RecordData → List (List ℕ) → List ℕ → List SeenData
     → SeenData → Type 0
 IsRowOfGlance says records asked root rows row =
@@ -122,8 +122,9 @@ IsKeptBelow records asked rows name =
     IsUnchanged records rows name × (is_one_of_names asked name ≡ false)
     × All (λ row. IsOneOf row rows) (rows_below name records)
 
--- a glance accounts for the file of a path: it passes over the file; or the disk gives its stat, its
--- row is listed, and if it is a directory, then it was read, or the view's rows below it are listed
+-- a glance accounts for the file of a path: it passes over the file; or the disk gives its stat,
+-- its row is listed, and if it is a directory, then it was read, or the view's rows below it are
+-- listed
 abbrev pub IsAccountedForByGlance : GivesStat → List RecordData → List (List ℕ) → ℕ → List ReadData
     → List SeenData → List ℕ → Type 0
 IsAccountedForByGlance says records asked root_len read rows path =

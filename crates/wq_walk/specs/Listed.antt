@@ -7,7 +7,6 @@ use Rattle.std.specs.declared.alloc.Global.{Global}
 use Rattle.wq_patch.specs.Tree.{is_of_device}
 use Rattle.wq_patch.specs.declared.tree.TreeFault.{TreeFault}
 use Rattle.wq_patch.specs.declared.tree.TreeFault.TheVariants.{Unreadable}
-use Rattle.wq_view.specs.SeenRows.{seen_rows}
 use Rattle.wq_record.specs.RecordData.{RecordData}
 use Rattle.wq_record.specs.Seen.{SeenData}
 use Rattle.wq_disk.specs.declared.part.Part.{Part}
@@ -17,7 +16,7 @@ use Rattle.wq_walk.specs.declared.walks.Walked.{Walked}
 use Rattle.wq_walk.specs.Found.{found_rows}
 use Rattle.wq_walk.specs.Pieces.{IsSharedOut}
 use Rattle.wq_walk.specs.Tiles.{piece_records}
-use Rattle.wq_disk.specs.Told.{Fails, GivesStat, Has, HasStat, IsRootFault, IsUnreadable}
+use Rattle.wq_disk.specs.Told.{FailsAt, GivesStat, Has, HasStat, IsRootFault, IsUnreadable}
 use Rattle.wq_walk.specs.Walk.{IsWalk}
 
 -- the parts of pieces
@@ -40,10 +39,6 @@ walked_rows walked = flat_map (λ rows. found_rows rows.found) walked
 abbrev pub records_of_pieces : List Rows → List RecordData
 records_of_pieces walked = flat_map (λ rows. piece_records rows.piece) walked
 
--- the rows that the records of all pieces say
-abbrev pub rows_of_pieces : List Rows → List SeenData
-rows_of_pieces walked = flat_map (λ rows. seen_rows (piece_records rows.piece)) walked
-
 -- rows that are each those of a walk of their part
 abbrev pub AreWalks : GivesStat → Has → List ℕ → List Rows → Type 0
 AreWalks says has root walked =
@@ -61,7 +56,7 @@ AreOfPieces says has root pieces list =
     All (λ walked. IsWalkOfPiece says has root pieces walked.place walked.rows) list
 
 -- pieces that a thread drew were each walked, or a walk failed
-unfoldable pub IsDrawn : GivesStat → Has → Fails → List ℕ → List Piece
+unfoldable pub IsDrawn : GivesStat → Has → FailsAt → List ℕ → List Piece
     → Result (Vec Walked Global) TreeFault → Type 0
 IsDrawn says has fails root pieces result =
     IfOk result (λ list. AreOfPieces says has root pieces list.items)
@@ -89,7 +84,7 @@ IsRooted says root = (path : List ℕ) × IsPathOf root path × HasStat says pat
 
 -- a fault of a listing: it is one of the device only if the root could not be read, or a call of
 -- the system failed so at some path
-abbrev pub IsUnread : GivesStat → Has → Fails → List ℕ → TreeFault → Type 0
+abbrev pub IsUnread : GivesStat → Has → FailsAt → List ℕ → TreeFault → Type 0
 IsUnread says has fails root fault =
     IsTrue (is_of_device fault)
     → ((fault ≡ Unreadable) × (path : List ℕ) × IsPathOf root path × IsUnreadable says has path)

@@ -4,7 +4,7 @@
 ghost use Rattle.std.specs.Prelude.{◌≡◌, ◌-◌, ◌≤◌, ◌++◌, [], false, ℕ, drop, length, nat_le, nat_lt, take, ◌&&◌};
 ghost use Rattle.std.specs.Prelude.{IfErr, IfOk, IfSome, IsTrue, OnOk};
 ghost use Rattle.std.specs.List.{list_all};
-ghost use Rattle.wq_patch.specs.Tree.{IsFit, is_of_device, rows_listed};
+ghost use Rattle.wq_patch.specs.Tree.{ListingFits, is_of_device, rows_listed};
 ghost use Rattle.wq_view.specs.SeenRows.{seen_rows};
 ghost use Rattle.wq_view.specs.Below.{is_below};
 ghost use Rattle.wq_view.specs.Limit.{max_listing_rows};
@@ -72,7 +72,7 @@ pub(crate) fn glanced<'a, T: Threads + CpuClock, D: Disk + Sync>(
         IsTrue (list_all is_lawful_row (rows_listed last.now.records listing))) }
     ensures few { IfOk result (λ listing.
         length (rows_listed last.now.records listing) ≤ max_listing_rows) }
-    ensures fit { IfOk result (IsFit last.now.records) }
+    ensures fit { IfOk result (ListingFits last.now.records) }
     ensures glance { IfOk result (λ listing. IsGlancedAt (D.says disk.now) (D.has disk.now)
         last.now.records recent.now root.now (rows_listed last.now.records listing)) }
     ensures rooted { IfOk result (λ _. IsRooted (D.says disk.now) root.now) }
@@ -140,12 +140,9 @@ fn listing_of(alloc: Global, last: &View, rows: Rows<'_>) -> Result<Listing, Tre
         IsTrue (list_all is_lawful_row (rows_listed last.now.records listing))) }
     ensures few { IfOk result (λ listing.
         length (rows_listed last.now.records listing) ≤ max_listing_rows) }
-    ensures fit { IfOk result (IsFit last.now.records) }
+    ensures fit { IfOk result (ListingFits last.now.records) }
     ensures fault { IfErr result (λ fault. is_of_device fault ≡ false) }
 {
-    if rows.are_again() {
-        return Ok(Listing::Same);
-    }
     let mut patches = Vec::new(alloc);
     rows.put(0, &mut patches)?;
     Ok(patched_listing(alloc, last, patches)?)

@@ -1,13 +1,13 @@
 //! A listing of a tree, from pieces of it. Another module has threads walk the pieces.
-ghost use Rattle.std.specs.Prelude.{◌≡◌, false, ◌+◌, ◌≤◌, ◌<◌, ◌++◌, length, take, IfErr, IfOk, IsTrue};
+ghost use Rattle.std.specs.Prelude.{◌≡◌, false, ◌+◌, ◌≤◌, ◌<◌, ◌++◌, length, IfErr, IfOk, IsTrue};
 ghost use Rattle.std.specs.List.{list_all};
 ghost use Rattle.wq_patch.specs.declared.tree.TreeFault.TheVariants.{TooManyRows};
-ghost use Rattle.wq_patch.specs.Tree.{IsFit, is_of_device, rows_listed};
+ghost use Rattle.wq_patch.specs.Tree.{ListingFits, is_of_device, rows_listed};
 ghost use Rattle.wq_view.specs.Limit.{max_listing_rows};
 ghost use Rattle.wq_view.specs.Patch.{patched};
 ghost use Rattle.wq_record.specs.Seen.{is_lawful_row};
 ghost use Rattle.wq_walk.specs.Listed.{AreWalks, IsListed, IsRooted, IsUnread, IsWalked, piece_parts};
-ghost use Rattle.wq_walk.specs.Listed.{records_of_pieces, rows_of_pieces, walked_pieces, walked_rows};
+ghost use Rattle.wq_walk.specs.Listed.{records_of_pieces, walked_pieces, walked_rows};
 ghost use Rattle.wq_walk.specs.Tiles.{AreTiles};
 ghost use Rattle.wq_disk.specs.Told.{HasStat, IsRootFault};
 
@@ -61,7 +61,7 @@ pub(crate) fn rows_again<T: Threads + CpuClock, D: Disk + Sync>(
         IsTrue (list_all is_lawful_row (rows_listed last.now.records listing))) }
     ensures few { IfOk result (λ listing.
         length (rows_listed last.now.records listing) ≤ max_listing_rows) }
-    ensures fit { IfOk result (IsFit last.now.records) }
+    ensures fit { IfOk result (ListingFits last.now.records) }
     ensures listed { IfOk result (λ listing. IsListed (D.says disk.now) (D.has disk.now) root.now
         (rows_listed last.now.records listing)) }
     ensures rooted { IfOk result (λ _. IsRooted (D.says disk.now) root.now) }
@@ -139,14 +139,11 @@ fn listing_of(alloc: Global, last: &View, walked: Vec<Rows<'_>>) -> Result<Listi
         IsTrue (list_all is_lawful_row (rows_listed last.now.records listing))) }
     ensures few { IfOk result (λ listing.
         length (rows_listed last.now.records listing) ≤ max_listing_rows) }
-    ensures fit { IfOk result (IsFit last.now.records) }
+    ensures fit { IfOk result (ListingFits last.now.records) }
     ensures fault { IfErr result (λ fault. is_of_device fault ≡ false) }
 {
     if !are_few(&walked) {
         return Err(TreeFault::TooManyRows);
-    }
-    if are_again(&walked) {
-        return Ok(Listing::Same);
     }
     let patches = patches_of(alloc, walked)?;
     Ok(patched_listing(alloc, last, patches)?)
@@ -161,7 +158,7 @@ pub(crate) fn patched_listing(
 ) -> Result<Listing, AllocError>
     ensures all { IfOk result (λ listing. rows_listed last.now.records listing
         ≡ patched last.now.records patches.items) }
-    ensures fit { IfOk result (IsFit last.now.records) }
+    ensures fit { IfOk result (ListingFits last.now.records) }
 {
     let patches = simplified(alloc, patches)?;
     if last.fits(&patches) {
@@ -197,18 +194,6 @@ fn patches_of(alloc: Global, pieces: Vec<Rows<'_>>) -> Result<Vec<Patch>, AllocE
         kept = rows.put(kept, &mut patches)?;
     }
     Ok(patches)
-}
-
-/// Whether in each piece the files were found as its records say.
-fn are_again(walked: &[Rows<'_>]) -> bool
-    ensures { IsTrue result → walked_rows walked.now ≡ rows_of_pieces walked.now }
-{
-    for rows in walked {
-        if !rows.are_again() {
-            return false;
-        }
-    }
-    true
 }
 
 /// The rows of these pieces, one piece after the other. The memory of a piece is freed as soon as its rows are added.

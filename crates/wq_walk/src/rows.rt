@@ -145,14 +145,6 @@ impl<'a> Rows<'a> {
         self.found.finish()
     }
 
-    /// Whether all files of the piece's records were found as they say, and no others.
-    pub(crate) fn are_again(&self) -> bool
-        ensures { IsTrue result → found_rows self.now.found
-            ≡ seen_rows (piece_records self.now.piece) }
-    {
-        self.found.is_same()
-    }
-
     /// The rows, in the order in which the files were found.
     pub(crate) fn into_rows(self, alloc: Global) -> Result<Vec<Seen>, AllocError>
         ensures all { IfOk result (λ rows. rows.items ≡ found_rows self.entry.found) }

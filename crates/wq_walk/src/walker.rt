@@ -1,8 +1,9 @@
 //! The tree on disk, for a server that lists roots again and again. The walker keeps nothing of the listings.
 ghost use Rattle.std.specs.Prelude.{◌≡◌, true, false, ◌≤◌, length, IfErr, IfOk, IsTrue, OnOk, Some};
 ghost use Rattle.std.specs.List.{list_all};
-ghost use Rattle.wq_patch.specs.Tree.{IsCounted, IsFit, rows_listed};
+ghost use Rattle.wq_patch.specs.Tree.{IsCounted, ListingFits, rows_listed};
 ghost use Rattle.wq_patch.specs.declared.tree.TreeFault.TheVariants.{Unreadable};
+ghost use Rattle.wq_disk.specs.System.{fails_here, has_here, says_here};
 ghost use Rattle.wq_view.specs.Limit.{max_listing_rows};
 ghost use Rattle.wq_record.specs.Seen.{is_lawful_row};
 ghost use Rattle.wq_walk.specs.Glance.{IsGlancedAt};
@@ -183,7 +184,7 @@ impl<T: Threads + Clock + CpuClock + Drop, D: Disk + Sync + Drop> Walker<T, D> {
             IsTrue (list_all is_lawful_row (rows_listed last.now.records listing))) }
         ensures few { IfOk result (λ listing.
             length (rows_listed last.now.records listing) ≤ max_listing_rows) }
-        ensures fit { IfOk result (IsFit last.now.records) }
+        ensures fit { IfOk result (ListingFits last.now.records) }
         ensures walked { IfOk result (λ listing.
             IsListed (D.says self.old.disk) (D.has self.old.disk) root.now
             (rows_listed last.now.records listing)) }
@@ -231,7 +232,7 @@ impl<T: Threads + CpuClock + Drop, D: Disk + Sync + Drop> Walker<T, D> {
             IsTrue (list_all is_lawful_row (rows_listed last.now.records listing))) }
         ensures few { IfOk result (λ listing.
             length (rows_listed last.now.records listing) ≤ max_listing_rows) }
-        ensures fit { IfOk result (IsFit last.now.records) }
+        ensures fit { IfOk result (ListingFits last.now.records) }
         ensures glance { IfOk result (λ listing.
             IsGlancedAt (D.says self.old.disk) (D.has self.old.disk) last.now.records recent.now
             root.now (rows_listed last.now.records listing)) }
@@ -302,7 +303,7 @@ impl<T: Threads + Clock + CpuClock + Drop> Tree for Walker<T, FileDisk> {
     /// The rows of the files below a root on this machine, as [`Walker::walk`] gives them.
     fn list(&mut self, root: &str) -> Result<Vec<Seen>, TreeFault>
         ensures counted { IfErr result (IsCounted self.old.failures self.new.failures) }
-        ensures unread { IfErr result (IsUnreadHere self.old.mounted root.now) }
+        ensures unread { IfErr result (IsUnread says_here has_here fails_here root.now) }
         ensures lawful { IfOk result (λ rows. IsTrue (list_all is_lawful_row rows.items)) }
         ensures few { IfOk result (λ rows. length rows.items ≤ max_listing_rows) }
         ensures walked { IfOk result (λ rows. IsListedHere root.now rows.items) }
@@ -324,7 +325,7 @@ impl<T: Threads + Clock + CpuClock + Drop> Tree for Walker<T, FileDisk> {
             IsTrue (list_all is_lawful_row (rows_listed last.now.records listing))) }
         ensures few { IfOk result (λ listing.
             length (rows_listed last.now.records listing) ≤ max_listing_rows) }
-        ensures fit { IfOk result (IsFit last.now.records) }
+        ensures fit { IfOk result (ListingFits last.now.records) }
         ensures walked { IfOk result (λ listing.
             IsListedHere root.now (rows_listed last.now.records listing)) }
         ensures whole { OnOk result (IsTrue self.new.is_whole) }
@@ -351,7 +352,7 @@ impl<T: Threads + Clock + CpuClock + Drop> Tree for Walker<T, FileDisk> {
             IsTrue (list_all is_lawful_row (rows_listed last.now.records listing))) }
         ensures few { IfOk result (λ listing.
             length (rows_listed last.now.records listing) ≤ max_listing_rows) }
-        ensures fit { IfOk result (IsFit last.now.records) }
+        ensures fit { IfOk result (ListingFits last.now.records) }
         ensures glance { IfOk result (λ listing. IsGlancedHere last.now.records recent.now root.now
             (rows_listed last.now.records listing)) }
         ensures part { self.new.is_whole ≡ false }

@@ -1,36 +1,13 @@
--- The files of all pieces are as their records say, or differ by patches.
+-- The patches of all pieces.
 use Rattle.std.proofs.Common.{◌≡◌, ◌≤◌, rules, IsTrue, length, subst, sym, ap, ◌∙◌}
 use Rattle.std.specs.List.{list_all}
 use Rattle.wq_view.specs.Limit.{max_listing_rows}
 use Rattle.wq_view.specs.Patch.{patched}
 use Rattle.wq_record.specs.Seen.{is_lawful_row}
-use Rattle.wq_walk.specs.Listed.{rows_of_pieces, walked_rows}
+use Rattle.wq_walk.specs.Listed.{walked_rows}
 use Rattle.wq_walk.proofs.Joined.{records_tile}
-use Rattle.wq_walk.proofs.Tiles.{seen_tiles}
 use Rattle.wq_walk.proofs.WalkedAgain.{found_lawful}
 use Rattle.wq_walk.proofs.listing.listing_of.Goals as goal
-
-pub returns-then-are_again-clause-all : goal.returns-then-are_again-clause-all
-returns-then-are_again-clause-all c =
-    let walked = c.args.walked.items in
-    let is : c.deref-2.result.now ≡ walked = search rules in
-    let same = subst (λ w. walked_rows w ≡ rows_of_pieces w) is (c.are_again.ensures c.if-are_again.true) in
-    sym (same ∙ seen_tiles c.args.last.now.records walked c.requires)
-
-pub returns-then-are_again-clause-lawful : goal.returns-then-are_again-clause-lawful
-returns-then-are_again-clause-lawful c =
-    let walked = c.args.walked.items in
-    let is : c.deref-2.result.now ≡ walked = search rules in
-    let same = subst (λ w. walked_rows w ≡ rows_of_pieces w) is (c.are_again.ensures c.if-are_again.true) in
-    subst (λ rows. IsTrue (list_all is_lawful_row rows)) (same ∙ seen_tiles c.args.last.now.records walked c.requires) (found_lawful walked)
-
-pub returns-then-are_again-clause-few : goal.returns-then-are_again-clause-few
-returns-then-are_again-clause-few c =
-    let walked = c.args.walked.items in
-    let is : c.deref.result.now ≡ walked = search rules in
-    let again : c.deref-2.result.now ≡ walked = search rules in
-    let same = subst (λ w. walked_rows w ≡ rows_of_pieces w) again (c.are_again.ensures c.if-are_again.true) in
-    subst (λ rows. length rows ≤ max_listing_rows) (same ∙ seen_tiles c.args.last.now.records walked c.requires) (subst (λ w. length (walked_rows w) ≤ max_listing_rows) is (c.are_few.ensures c.if-not-are_few.false))
 
 pub returns-clause-all : goal.returns-clause-all
 returns-clause-all c =

@@ -1,17 +1,16 @@
--- The tree gave rows, or patches, or the files are those of the last view.
+-- The tree gave rows, or patches.
 use Rattle.std.proofs.Common.{◌≡◌, None, IfSome, IsTrue, MatchResult, ap, refl, rules, subst, sym, ◌∙◌, w64}
 use mir.Val.{SFits}
 use Rattle.std.proofs.lemmas.Int.{to_z-of_z}
 use Rattle.wq_record.specs.Seen.{is_count}
-use Rattle.wq_view.specs.SeenRows.{seen_rows}
 use Rattle.wq_view.specs.Listing.{is_of_whole, listing_fault, listing_of}
 use Rattle.wq_view.specs.Patch.{patched}
-use Rattle.wq_patch.specs.declared.tree.Listing.TheVariants.{Patches, Rows, Same}
+use Rattle.wq_patch.specs.declared.tree.Listing.TheVariants.{Patches, Rows}
 use Rattle.wq_crawl.specs.declared.relisted.Relisted.TheVariants.{Patched}
 use Rattle.wq_crawl.specs.Crawl.{CrawlerData, IsNoPassOver, IsRelisted, ListerData, ListsAgain, crawler_at}
-use Rattle.wq_crawl.proofs.Crawling.{patches_fault, patches_over, rows_fault, rows_over, still_fault, still_over}
+use Rattle.wq_crawl.proofs.Crawling.{patches_fault, patches_over, rows_fault, rows_over}
 use Rattle.wq_crawl.proofs.lister.Lister.list_again.Goals as goal
-use Rattle.wq_crawl.proofs.lister.Lister.list_again.Goals.{in-Rows+in-Ok-of_lawful, in-Rows+in-Err-of_lawful, in-Patches+in-None, in-Patches+in-Some, in-Same+in-None-fault_again, in-Same+in-Some-fault_again}
+use Rattle.wq_crawl.proofs.lister.Lister.list_again.Goals.{in-Rows+in-Ok-of_lawful, in-Rows+in-Err-of_lawful, in-Patches+in-None, in-Patches+in-Some}
 
 pub returns-clause-listed : goal.returns-clause-listed
 returns-clause-listed g c events of_table =
@@ -54,16 +53,4 @@ returns-clause-listed g c events of_table =
           (patches_fault c.args.number text before before mid shown clock second refl is c.listing.ensures.clock c.second-second.ensures w.in-Patches.patches w.in-Some.fault again
           (subst (λ o. IfSome o (λ fault. IsTrue (is_of_whole fault))) w.in-Some.is w.fault_of_patches.ensures.whole)
           (λ records ps rise fit lawful few. sym w.in-Some.is ∙ w.fault_of_patches.ensures.fault records ps rise fit lawful few ∙ ap (listing_fault (patched records ps)) back)))
-      | in-Same+in-None-fault_again w ↦
-          let again : ListsAgain c.args.number text before Same mid = subst (λ l. ListsAgain c.args.number text before l mid) w.in-Same.is (c.in-Ok.ensures.listed events of_table) in
-          subst (λ r. MatchResult r (λ relisted. IsRelisted c.args.number text before relisted after) (λ fault. IsNoPassOver text before fault after)) (sym w.result-is)
-          (still_over c.args.number text before before mid shown clock second refl is c.listing.ensures.clock c.second-second.ensures again
-          (λ history view is lawful few. sym w.in-None-fault_again.is ∙ w.fault_again.ensures.fault history view is lawful few ∙ ap (listing_fault (seen_rows view.records)) back) w.fault_again.ensures.same)
-      | in-Same+in-Some-fault_again w ↦
-          let again : ListsAgain c.args.number text before Same mid = subst (λ l. ListsAgain c.args.number text before l mid) w.in-Same.is (c.in-Ok.ensures.listed events of_table) in
-          subst (λ r. MatchResult r (λ relisted. IsRelisted c.args.number text before relisted after) (λ fault. IsNoPassOver text before fault after)) (sym w.result-is)
-          (subst (λ f. IsNoPassOver text before f after) (sym w.no_pass-in-Some-fault_again.ensures)
-          (still_fault c.args.number text before before mid shown clock second refl is c.listing.ensures.clock c.second-second.ensures w.in-Some-fault_again.fault again
-          (subst (λ o. IfSome o (λ fault. IsTrue (is_of_whole fault))) w.in-Some-fault_again.is w.fault_again.ensures.whole)
-          (λ history view is lawful few. sym w.in-Some-fault_again.is ∙ w.fault_again.ensures.fault history view is lawful few ∙ ap (listing_fault (seen_rows view.records)) back)))
     ]

@@ -3,13 +3,8 @@ use Rattle.std.proofs.Common.{rules, subst, w64}
 use mir.Val.{SFits}
 use Rattle.std.proofs.lemmas.Int.{to_z-of_z}
 use Rattle.wq_crawl.specs.Crawl.{IsRelisted, IsTakable, crawler_at}
-use Rattle.wq_crawl.proofs.Publishing.{numbers_kept, pass_published, patches_published, still_published}
+use Rattle.wq_crawl.proofs.Publishing.{numbers_kept, pass_published, patches_published}
 use Rattle.wq_crawl.proofs.relisted.Relisted.publish.Goals as goal
-
-pub returns-in-Still-clause-crawled : goal.returns-in-Still-clause-crawled
-returns-in-Still-clause-crawled g c text before after over =
-    still_published c.args.number text c.args.publisher.now c.args.publisher.now before after c.told_by.result
-    (subst (λ r. IsRelisted c.args.number text (crawler_at c.args.publisher.now before) r (crawler_at c.args.publisher.now after)) c.in-Still.is over) c.told_by.ensures
 
 pub returns-in-Pass-clause-crawled : goal.returns-in-Pass-clause-crawled
 returns-in-Pass-clause-crawled g c text before after over =

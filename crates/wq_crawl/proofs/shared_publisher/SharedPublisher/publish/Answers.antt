@@ -1,7 +1,7 @@
 -- The root is as it was told, so the listing is one beside the present list.
 use Rattle.std.proofs.Common.{◌≡◌, Some, rules, subst}
 use Rattle.wq_live.specs.Event.{number_of, passes_over}
-use Rattle.wq_crawl.specs.Answer.{answer_of}
+use Rattle.wq_crawl.specs.Answer.{list_or_fault}
 use Rattle.wq_crawl.specs.Crawl.{CrawledAt, crawler_at}
 use Rattle.wq_crawl.proofs.Publishing.{published_now, refused_now, relisted_later, takable_later}
 use Rattle.wq_crawl.proofs.shared_publisher.SharedPublisher.publish.Goals as goal
@@ -20,8 +20,8 @@ returns-in-Ok-clause-published g c before after over =
     let shown : number_of c.args.root.now c.deref_mut.result.now ≡ Some c.args.listed.number = search rules in
     let same : passes_over c.args.listed.number c.deref_mut.result.now ≡ passes_over c.args.listed.number c.args.told.now = search rules in
     published_now text events later number c.args.listed.raised.count before after shown c.in-Ok.crawl c.in-Ok.ensures.answer
-    (subst (λ r. CrawledAt number text (crawler_at events before) (answer_of later r) (crawler_at later after)) c.in-Ok.is
-    (c.published.ensures.crawled text before after (relisted_later number text c.args.told.now events before after c.args.listed.relisted c.requires.shown same over)))
+    (subst (λ r. CrawledAt number text (crawler_at events before) (list_or_fault later r) (crawler_at later after)) c.in-Ok.is
+    (c.published.ensures.crawled text before after (relisted_later number text c.args.told.now events before after c.args.listed.relisted same over)))
 
 pub returns-clause-published : goal.returns-clause-published
 returns-clause-published g c before after over =
@@ -32,5 +32,5 @@ returns-clause-published g c before after over =
     let shown : number_of c.args.root.now c.deref_mut.result.now ≡ Some c.args.listed.number = search rules in
     let same : passes_over c.args.listed.number c.deref_mut.result.now ≡ passes_over c.args.listed.number c.args.told.now = search rules in
     refused_now text events later number c.args.listed.raised.count before after shown c.in-Err.fault c.in-Err.ensures.err
-    (subst (λ r. CrawledAt number text (crawler_at events before) (answer_of later r) (crawler_at later after)) c.in-Err.is
-    (c.published.ensures.crawled text before after (relisted_later number text c.args.told.now events before after c.args.listed.relisted c.requires.shown same over)))
+    (subst (λ r. CrawledAt number text (crawler_at events before) (list_or_fault later r) (crawler_at later after)) c.in-Err.is
+    (c.published.ensures.crawled text before after (relisted_later number text c.args.told.now events before after c.args.listed.relisted same over)))

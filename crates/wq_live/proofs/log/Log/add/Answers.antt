@@ -1,6 +1,6 @@
 -- the step keeps the length
 use Rattle.std.proofs.Common.{◌≡◌, ap, sym, ◌∙◌}
-use Rattle.wq_live.specs.News.{event_of}
+use Rattle.wq_live.specs.News.{news_event}
 use Rattle.wq_live.proofs.Adding.{adds_moves}
 use Rattle.wq_live.proofs.log.Log.add.Goals as goal
 
@@ -14,5 +14,5 @@ compare_exchange-found-requires c =
       book,
       pen.0 ∙ book,
       offer.0,
-      rw (ap (λ w. w.key) h, pen.1, offer.1, offer.3) (adds_moves c.self.inside.seen.log (event_of c.args.news.now) c.self.inside.count (sym c.self.invariant)),
+      rw (ap (λ w. w.key) h, pen.1, offer.1, offer.3) (adds_moves c.self.inside.seen.log (news_event c.args.news.now) c.self.inside.count (sym c.self.invariant)),
     )

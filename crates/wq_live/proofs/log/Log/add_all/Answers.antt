@@ -1,6 +1,6 @@
 -- One event more.
 use Rattle.std.proofs.Common.{◌≡◌, ◌++◌, ◌∷◌, [], ap, sym, ◌∙◌}
-use Rattle.wq_live.specs.News.{event_of}
+use Rattle.wq_live.specs.News.{news_event}
 use Rattle.wq_live.proofs.Adding.{added_next}
 use Rattle.wq_live.proofs.log.Log.add_all.Goals as goal
 
