@@ -58,7 +58,8 @@ impl Session {
     /// subscription once its first list is made, or ends it. The root is the one that the ask was
     /// [prepared](Prepared::of) at.
     ///
-    /// If memory runs out, the output says so, and the subscriptions stay.
+    /// If memory runs out, the output says so, and the subscriptions stay. They also stay if the client has gone, and
+    /// then the output says nothing, and that the session ends.
     pub fn finish<C: Crew>(
         &mut self,
         crew: &C,
@@ -67,8 +68,8 @@ impl Session {
         at: Option<At<'_>>,
     ) -> Out
         requires { CanFinish (work_data work) (option_map at_data at) }
-        ensures { Finishes (work_data work) (option_map at_data at.entry) (follows_of self.old)
-            result (follows_of self.new) }
+        ensures { Finishes C.may_go (work_data work) (option_map at_data at.entry)
+            (follows_of self.old) result (follows_of self.new) }
     {
         self.finish_rest(crew, alloc, work.into_rest(), at)
     }
@@ -82,8 +83,8 @@ impl Session {
         at: Option<At<'_>>,
     ) -> Out
         requires { CanFinish (rest_data rest) (option_map at_data at) }
-        ensures { Finishes (rest_data rest) (option_map at_data at.entry) (follows_of self.old)
-            result (follows_of self.new) }
+        ensures { Finishes C.may_go (rest_data rest) (option_map at_data at.entry)
+            (follows_of self.old) result (follows_of self.new) }
     {
         match rest {
             Rest::Says(mut out) => {
@@ -124,7 +125,7 @@ impl Session {
         instance: &Instance,
         view: &View,
     ) -> Out
-        ensures { Finishes (evaluates (planned plan.now) cursor)
+        ensures { Finishes C.may_go (evaluates (planned plan.now) cursor)
             (Some (record { instance = instance_data instance.now; view = Some view.now }))
             (follows_of self.now) result (follows_of self.now) }
     {
@@ -142,7 +143,7 @@ impl Session {
         desk: &mut D,
     ) -> (V, Out)
         ensures { (ready : ReadyData) × V.readies views (need_of ask) ready result.0
-            × Replies ready ask (stand (D.shelf desk.old) (follows_of self.old)) result.1
+            × Replies C.may_go ready ask (stand (D.shelf desk.old) (follows_of self.old)) result.1
             (stand (D.shelf desk.new) (follows_of self.new)) }
     {
         let (views, ready) = views.ready(need_of(&ask));
@@ -165,7 +166,7 @@ impl Session {
         at: Option<At<'_>>,
         desk: &mut D,
     ) -> Out
-        ensures { AnswersShelf (D.shelf desk.old) (follows_of self.old) ask
+        ensures { AnswersShelf C.may_go (D.shelf desk.old) (follows_of self.old) ask
             (option_map at_data at.entry) result (D.shelf desk.new) (follows_of self.new) }
     {
         let prepared = prepare_at(alloc, ask, at, desk);
