@@ -25,7 +25,8 @@ use Rattle.wq_replay.specs.World.{ended, SentData, new_world, root_text}
 -- memory ran out over that end, there are none
 abbrev pub AcceptsAt : Option ℕ → TableData → ℤ → WorldData → Ask → OutData → List CallNow → Type 0
 AcceptsAt None table client world ask out calls =
-    Accepts false ask (looked (need_of ask) world.run table) world.shelf (world.follows client) out calls
+    Accepts false ask (looked (need_of ask) world.run table) world.shelf (world.follows client)
+    out calls
 AcceptsAt (Some number) table client world ask out calls =
     Accepts false ask (Some (at_end world.run number)) world.shelf (world.follows client) out calls
     ⊎ (MayRefuse NoMemory out × (calls ≡ []))
