@@ -43,7 +43,7 @@ pub(crate) fn answer<V: Views + Drop>(
 {
     clients.reserve(1)?;
     let mut session = take_out(clients, alloc, number);
-    let (views, out) = session.answer(&Alone {}, alloc, ask, views, shelf);
+    let (views, out) = session.answer(&Alone {}, ask, views, shelf);
     if out.goes_on() {
         put_back(clients, number, session);
     }
@@ -65,7 +65,7 @@ pub(crate) fn idle(
 {
     clients.reserve(1)?;
     let mut session = take_out(clients, alloc, number);
-    let out = session.idle(alloc, root, at);
+    let out = session.idle(root, at);
     put_back(clients, number, session);
     Ok(out)
 }

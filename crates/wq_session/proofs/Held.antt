@@ -1,5 +1,6 @@
 -- Taking at a shelf and then finishing is an answer there.
 use Rattle.std.proofs.Common.{◌≡◌, Bool, List, Option, Some, None, option_map, refl, sym, ap, subst, ◌∙◌}
+use Rattle.std.proofs.lemmas.Option.{same_Some}
 use Rattle.wq_follow.specs.Subscription.{SubscriptionData}
 use Rattle.wq_registry.specs.Shelf.{cursor_unset}
 use Rattle.wq_session.specs.Out.{settled, OutData}
@@ -64,3 +65,10 @@ pub held_as : (old mid after : Option ShelfNow) (ask made : Ask) (at seen : Opti
 held_as old mid after ask made at seen work same is there holds =
     subst (λ (s : Option ShelfNow). HoldsShelf s ask at work after) same
     (subst (λ (a : Ask). HoldsShelf mid a at work after) is (subst (λ (r : Option AtData). HoldsShelf mid made r work after) there holds))
+
+-- and at a shelf that is shown
+pub taken_as : (old mid after : ShelfNow) (ask made : Ask) (at seen : Option AtData) (work : WorkData) → Some mid ≡ Some old → made ≡ ask
+    → seen ≡ at → TakesAsk made seen mid work after → TakesAsk ask at old work after
+taken_as old mid after ask made at seen work same is there takes =
+    subst (λ (s : ShelfNow). TakesAsk ask at s work after) (same_Some mid old same)
+    (subst (λ (a : Ask). TakesAsk a at mid work after) is (subst (λ (r : Option AtData). TakesAsk made r mid work after) there takes))

@@ -124,10 +124,10 @@ fn take_event<T: Threads, A: Asker, N: Named, I: Inbox, R: Roots<N> + Drop, D: D
     ensures run { result.0.run ≡ views.run }
 {
     match inbox.next() {
-        Event::Idle(root) => rest(alloc, session, root, views),
+        Event::Idle(root) => rest(session, root, views),
         event => {
             let ask = Ask::read(alloc, event);
-            session.answer(crew, alloc, ask, views, desk)
+            session.answer(crew, ask, views, desk)
         }
     }
 }
