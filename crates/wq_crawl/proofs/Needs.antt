@@ -41,9 +41,9 @@ module _ (basis : Basis) (root : List ℕ) (seen after : List RootEvent) (result
   met_by_crawl told given later gives sees = heard_first (crawl root) refl (passing root) told given later gives sees
 
   -- a watch
-  pub met_by_watch : (told : Result (Option (List RootEvent)) CrawlFault) (given later : Option CrawlerData) → RootsGive given (showing root) told later
+  pub met_by_open : (told : Result (Option (List RootEvent)) CrawlFault) (given later : Option CrawlerData) → RootsGive given (showing root) told later
       → LearnsAndSees basis root told seen result after → IsMet basis (watch root) (known given seen) result (known later after)
-  met_by_watch told given later gives sees = heard_first (watch root) refl (showing root) told given later gives sees
+  met_by_open told given later gives sees = heard_first (watch root) refl (showing root) told given later gives sees
 
 -- the end of a root that is not shown
 pub met_at_none : (basis : Basis) (root : List ℕ) (seen after : List RootEvent) (given : Option CrawlerData) → SeesNumber basis root seen None after

@@ -3,7 +3,7 @@
 -- of synchronisation (`sync_timeout`), `watch` and `watch-del`.
 use Rattle.std.specs.Prelude.{ℕ, List}
 use Rattle.wq_crawl.specs.declared.need.Need.{Need}
-use Rattle.wq_crawl.specs.declared.need.Need.TheVariants.{None, Look, Crawl, Watch, Unwatch}
+use Rattle.wq_crawl.specs.declared.need.Need.TheVariants.{Nothing, Look, Crawl, Open, Retire}
 
 -- the step
 pub data NeedData : Type 0 where
@@ -20,8 +20,8 @@ pub data NeedData : Type 0 where
 
 -- the need of the code
 abbrev pub need_data : Need → NeedData
-need_data None = none
+need_data Nothing = none
 need_data (Look root) = look root.now
 need_data (Crawl root) = crawl root.now
-need_data (Watch root) = watch root.now
-need_data (Unwatch root) = unwatch root.now
+need_data (Open root) = watch root.now
+need_data (Retire root) = unwatch root.now

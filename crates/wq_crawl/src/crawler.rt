@@ -114,7 +114,7 @@ impl<N: Named, R: Wait + Drop, T: Tree + Drop, S: Seconds + Drop> Crawler<N, R, 
     ///
     /// If no more root can be started, a root that is not shown is refused before it is listed. A root that is shown is
     /// refused only if memory runs out. A refusal leaves the list as it is.
-    pub fn watch(&mut self, root: &str) -> Result<Told<N>, CrawlFault>
+    pub fn open(&mut self, root: &str) -> Result<Told<N>, CrawlFault>
         ensures { Watched root.now self.old result self.new }
     {
         match place_for(self.publisher.table(), root) {
@@ -127,10 +127,10 @@ impl<N: Named, R: Wait + Drop, T: Tree + Drop, S: Seconds + Drop> Crawler<N, R, 
     /// Publishes the end of the root of this number, if it is shown, and returns the list.
     ///
     /// A refusal leaves the list as it is.
-    pub fn unwatch(&mut self, number: u64) -> Result<Told<N>, CrawlFault>
+    pub fn retire(&mut self, number: u64) -> Result<Told<N>, CrawlFault>
         ensures { Unwatched number self.old result self.new }
     {
-        match self.publisher.end(number) {
+        match self.publisher.retire(number) {
             Ok(told) => Ok(told),
             Err(_) => Err(CrawlFault::NoMemory),
         }

@@ -151,7 +151,7 @@ impl<T: Tree + Drop, S: Seconds + Drop> Lane<T, S> {
     }
 
     /// Finds the root of this text, or lists it and starts it, and returns the list of events.
-    pub(crate) fn watch<N: Named, R: Wait + Drop>(
+    pub(crate) fn open<N: Named, R: Wait + Drop>(
         &mut self,
         shared: &SharedPublisher<N, R>,
         rt: &R,

@@ -69,9 +69,9 @@ where
 
     ghost crawler = { λ _. None };
 
-    fn watch(&mut self, root: &str) -> Result<Told<N>, CrawlFault> {
+    fn open(&mut self, root: &str) -> Result<Told<N>, CrawlFault> {
         self.caller.has_read();
-        self.crawler.watch(&self.rt, root)
+        self.crawler.open(&self.rt, root)
     }
 
     fn crawl(&mut self, root: &str) -> Result<Crawl<N>, CrawlFault> {
@@ -79,9 +79,9 @@ where
         self.crawler.crawl(&self.rt, root)
     }
 
-    fn unwatch(&mut self, root: FoundRoot) -> Result<Told<N>, CrawlFault> {
+    fn retire(&mut self, root: FoundRoot) -> Result<Told<N>, CrawlFault> {
         self.caller.has_read();
-        self.crawler.unwatch(&self.rt, root)
+        self.crawler.retire(&self.rt, root)
     }
 
     fn workers(&self) -> u32 {

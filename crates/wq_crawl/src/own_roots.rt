@@ -16,16 +16,16 @@ impl<N: Named, R: Wait + Drop, T: Tree + Drop, S: Seconds + Drop> Roots<N> for C
 
     ghost crawler = { λ c. Some c };
 
-    fn watch(&mut self, root: &str) -> Result<Told<N>, CrawlFault> {
-        self.watch(root)
+    fn open(&mut self, root: &str) -> Result<Told<N>, CrawlFault> {
+        self.open(root)
     }
 
     fn crawl(&mut self, root: &str) -> Result<Crawl<N>, CrawlFault> {
         self.crawl(root)
     }
 
-    fn unwatch(&mut self, root: FoundRoot) -> Result<Told<N>, CrawlFault> {
-        self.unwatch(root.number())
+    fn retire(&mut self, root: FoundRoot) -> Result<Told<N>, CrawlFault> {
+        self.retire(root.number())
     }
 
     fn workers(&self) -> u32 {

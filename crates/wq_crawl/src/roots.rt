@@ -1,4 +1,4 @@
-//! Crawling, watching and unwatching roots for a session.
+//! Crawling, opening and retiring roots for a session.
 ghost use Rattle.std.specs.Prelude.{IfOk};
 ghost use Rattle.wq_base.specs.Limit.{AreFew};
 ghost use Rattle.wq_crawl.specs.Answer.{IsAnswer, told_list};
@@ -10,7 +10,7 @@ use crate::fault::CrawlFault;
 use crate::found_root::FoundRoot;
 use wq_live::{Named, Told};
 
-/// Crawls, watches and unwatches roots, and publishes the events that follow.
+/// Crawls, opens and retires roots, and publishes the events that follow.
 ///
 /// The roots may show their crawler. A refusal adds nothing to the list of events.
 pub trait Roots<N: Named> {
@@ -21,7 +21,7 @@ pub trait Roots<N: Named> {
     ghost crawler: { Self → Option CrawlerData };
 
     /// Finds the root of this text, or lists it and starts it, and returns the list of events.
-    fn watch(&mut self, root: &str) -> Result<Told<N>, CrawlFault>
+    fn open(&mut self, root: &str) -> Result<Told<N>, CrawlFault>
         ensures { RootsGive (crawler self.old) (showing root.now) (tells result)
             (crawler self.new) };
 
@@ -33,7 +33,7 @@ pub trait Roots<N: Named> {
         ensures answer { IfOk result (IsAnswer (N.published N.book) root.now) };
 
     /// Publishes the end of a root that a look found, if it is shown, and tells the list of events.
-    fn unwatch(&mut self, root: FoundRoot) -> Result<Told<N>, CrawlFault>
+    fn retire(&mut self, root: FoundRoot) -> Result<Told<N>, CrawlFault>
         ensures { RootsGive (crawler self.old) (ending root.instance.root) (tells result)
             (crawler self.new) };
 

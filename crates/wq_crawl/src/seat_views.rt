@@ -63,17 +63,17 @@ fn meet<N: Named, R: Roots<N>>(
         (known (R.crawler roots.old) seat) result.1 (known (R.crawler roots.new) result.0) }
 {
     match need {
-        Need::None => (seat, Ok(None)),
+        Need::Nothing => (seat, Ok(None)),
         Need::Look(root) => look_at(run, root, seat),
         Need::Crawl(root) => {
             let told = crawl(roots, root);
             learn_and_look(run, root, seat, told)
         }
-        Need::Watch(root) => {
-            let told = watch(roots, root);
+        Need::Open(root) => {
+            let told = open(roots, root);
             learn_and_look(run, root, seat, told)
         }
-        Need::Unwatch(root) => unwatch(run, root, seat, roots),
+        Need::Retire(root) => retire(run, root, seat, roots),
     }
 }
 
@@ -87,11 +87,11 @@ fn crawl<N: Named, R: Roots<N>>(roots: &mut R, root: &str) -> Result<Option<Told
     }
 }
 
-/// Watches a root.
-fn watch<N: Named, R: Roots<N>>(roots: &mut R, root: &str) -> Result<Option<Told<N>>, CrawlFault>
+/// Opens a root.
+fn open<N: Named, R: Roots<N>>(roots: &mut R, root: &str) -> Result<Option<Told<N>>, CrawlFault>
     ensures { RootsGive (R.crawler roots.old) (showing root.now) result (R.crawler roots.new) }
 {
-    match roots.watch(root) {
+    match roots.open(root) {
         Ok(told) => Ok(Some(told)),
         Err(fault) => Err(fault),
     }
@@ -139,8 +139,8 @@ fn learn_and_look<N: Named>(
     }
 }
 
-/// Unwatches a root, if it is shown, and gives its number.
-fn unwatch<N: Named, R: Roots<N>>(
+/// Retires a root, if it is shown, and gives its number.
+fn retire<N: Named, R: Roots<N>>(
     run: Run,
     root: &str,
     seat: Seat<N>,
@@ -154,7 +154,7 @@ fn unwatch<N: Named, R: Roots<N>>(
         None => (seat, Ok(None)),
         Some(shown) => {
             let instance = shown.instance();
-            let told = roots.unwatch(shown);
+            let told = roots.retire(shown);
             at_end(seat, instance, told)
         }
     }

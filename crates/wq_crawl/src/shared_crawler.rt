@@ -116,13 +116,13 @@ impl<N: Named, R: Wait + Drop, T: Tree + Drop, S: Seconds + Drop> SharedCrawler<
 
     /// Finds the root of this text, or lists it and starts it, and returns the list of events. A crawl of the root for
     /// nobody gives way to it.
-    pub fn watch(&self, rt: &R, root: &str) -> Result<Told<N>, CrawlFault>
+    pub fn open(&self, rt: &R, root: &str) -> Result<Told<N>, CrawlFault>
         ensures { RootsGive None (showing root.now) (tells result) None }
     {
         let place = self.lanes.come(rt, root);
         let at = self.lanes.at(place);
         at.callers.enter();
-        let told = watch_in(&self.shared, &at.lane, rt, root);
+        let told = open_in(&self.shared, &at.lane, rt, root);
         at.callers.leave(rt);
         self.lanes.go(rt, place);
         told
@@ -130,10 +130,10 @@ impl<N: Named, R: Wait + Drop, T: Tree + Drop, S: Seconds + Drop> SharedCrawler<
 
     /// Publishes the end of a root that a look found, if it is shown, and returns the list of events. It waits for no
     /// crawl.
-    pub fn unwatch(&self, rt: &R, root: FoundRoot) -> Result<Told<N>, CrawlFault>
+    pub fn retire(&self, rt: &R, root: FoundRoot) -> Result<Told<N>, CrawlFault>
         ensures { RootsGive None (ending root.instance.root) (tells result) None }
     {
-        self.shared.end(rt, root)
+        self.shared.retire(rt, root)
     }
 
     /// Frees the views that only the table before the last one still holds.
@@ -203,7 +203,7 @@ where
 }
 
 /// Watches a root, in a lane that the thread waits for.
-fn watch_in<N, R, T, S>(
+fn open_in<N, R, T, S>(
     shared: &SharedPublisher<N, R>,
     lane: &Mutex<Lane<T, S>>,
     rt: &R,
@@ -216,5 +216,5 @@ where
     S: Seconds + Drop,
     ensures { RootsGive None (showing root.now) (tells result) None }
 {
-    lane.lock(rt).watch(shared, rt, root)
+    lane.lock(rt).open(shared, rt, root)
 }

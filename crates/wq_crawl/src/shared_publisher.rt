@@ -187,12 +187,12 @@ impl<N: Named, R: Wait + Drop> SharedPublisher<N, R> {
     }
 
     /// Publishes the end of a root that a look found, if it is shown, and returns the list.
-    pub(crate) fn end(&self, rt: &R, root: FoundRoot) -> Result<Told<N>, CrawlFault>
+    pub(crate) fn retire(&self, rt: &R, root: FoundRoot) -> Result<Told<N>, CrawlFault>
         ensures { (events : List RootEvent) × MatchResult result
             (λ told. EndsRoot events root.instance.root told)
             (λ fault. fault ≡ CrawlFault.NoMemory) }
     {
-        match self.publisher.lock(rt).end(root.number()) {
+        match self.publisher.lock(rt).retire(root.number()) {
             Ok(told) => Ok(told),
             Err(_) => Err(CrawlFault::NoMemory),
         }

@@ -107,7 +107,7 @@ fn fault_for(need: Need<'_>, table: &RootTable, refused: Option<Refused>) -> Opt
 {
     match need {
         Need::Crawl(root) if shows(table, root) => fault_of(root, refused),
-        Need::Watch(root) if !shows(table, root) => fault_of(root, refused),
+        Need::Open(root) if !shows(table, root) => fault_of(root, refused),
         _ => None,
     }
 }
@@ -130,7 +130,7 @@ fn ending(need: Need<'_>, table: &RootTable) -> Option<u64>
     ensures bound { IfSome result (λ number. number ≤ max_number) }
 {
     match need {
-        Need::Unwatch(root) => table.number_of(root),
+        Need::Retire(root) => table.number_of(root),
         _ => None,
     }
 }
@@ -164,8 +164,8 @@ fn looked(need: Need<'_>, run: Run, table: &RootTable) -> Result<Option<RootAt>,
     ensures { Finds (need_data need.entry) (run_data run) table.now result }
 {
     match need {
-        Need::None | Need::Unwatch(_) => Ok(None),
-        Need::Look(root) | Need::Crawl(root) | Need::Watch(root) => at_root(run, table, root),
+        Need::Nothing | Need::Retire(_) => Ok(None),
+        Need::Look(root) | Need::Crawl(root) | Need::Open(root) => at_root(run, table, root),
     }
 }
 

@@ -1,5 +1,5 @@
 -- The reply to an ask of a session is one of the world to that ask.
-use Rattle.std.proofs.Common.{◌≡◌, ◌⊎◌, ℕ, ℤ, true, List, [], ◌∷◌, ◌++◌, Option, Some, None, Ok, Err, inl, inr, refl, ap, sym, subst, ◌∙◌}
+use Rattle.std.proofs.Common.{◌≡◌, ◌⊎◌, ℕ, ℤ, true, false, List, [], ◌∷◌, ◌++◌, Option, Some, None, Ok, Err, inl, inr, refl, ap, sym, subst, ◌∙◌}
 use Rattle.wq_follow.specs.Subscription.{SubscriptionData}
 use Rattle.wq_replay.proofs.Worlds.{runs_go_on, runs_one}
 use Rattle.wq_replay.specs.Gets.{answered, kept}
@@ -48,7 +48,7 @@ ran_out out (inr (stays, is)) = is
 module _ (ask : Ask) (shelf : ShelfNow) (follows : List SubscriptionData) (out : OutData) (after : Option ShelfNow) (left : List SubscriptionData) where
   -- the reply to an ask that is ready so
   abbrev Reply : ReadyData → Type 0
-  Reply ready = Replies ready ask (stand (Some shelf) follows) out (stand after left)
+  Reply ready = Replies false ready ask (stand (Some shelf) follows) out (stand after left)
 
   -- that memory ran out is the reply to any ask that is answered so
   runs_out_too : takes_memory ask ≡ true → out ≡ runs_out None → after ≡ Some shelf → left ≡ follows → (other : ReadyData) → MayRunOut other → Reply other
@@ -80,7 +80,7 @@ module _ (ask : Ask) (shelf : ShelfNow) (follows : List SubscriptionData) (out :
 pub asks_well : (one_view : HasOneView) (basis : Basis) (client : ℤ) (before after : PlaceData) (world : WorldData) (ask : Ask) (out : OutData)
     (ready : ReadyData) (roots : ShowsRoots basis.run before.known world) (current : IsCurrent after.known)
     → IsReadyThere one_view basis before.known after.known world roots current (need_of ask) ready
-    → Replies ready ask (stand (Some world.shelf) (world.follows client)) out (stand_at after)
+    → Replies false ready ask (stand (Some world.shelf) (world.follows client)) out (stand_at after)
     → (first : List HappeningData) × (next : WorldData) × HappensFirst (need_of ask) first
     × Runs world (first ++ asked client ask ∷ []) (sent_to client out) next × ShowsWorld basis.run client out.goes_on after next
 asks_well one_view basis client before after world ask out ready roots current (first, between, happens, runs, meets, run, shelf, follows) replies =
@@ -99,9 +99,9 @@ asks_well one_view basis client before after world ask out ready roots current (
               (
                 shown.0,
                 after.follows,
-                subst (λ s. Replies ready ask (stand (Some s) (between.follows client)) out (stand (Some shown.0) after.follows)) (sym shelf)
-                    (subst (λ f. Replies ready ask (stand (Some world.shelf) (f client)) out (stand (Some shown.0) after.follows)) (sym follows)
-                    (subst (λ s. Replies ready ask (stand (Some world.shelf) (world.follows client)) out (stand s after.follows)) shown.1 replies)),
+                subst (λ s. Replies false ready ask (stand (Some s) (between.follows client)) out (stand (Some shown.0) after.follows)) (sym shelf)
+                    (subst (λ f. Replies false ready ask (stand (Some world.shelf) (f client)) out (stand (Some shown.0) after.follows)) (sym follows)
+                    (subst (λ s. Replies false ready ask (stand (Some world.shelf) (world.follows client)) out (stand s after.follows)) shown.1 replies)),
                 refl,
               ),
             ),

@@ -1,5 +1,5 @@
 -- An event of a session that is served alone is a run of the world.
-use Rattle.std.proofs.Common.{◌≡◌, ◌⊎◌, ℕ, ℤ, true, List, [], ◌∷◌, ◌++◌, Some, None, inl, inr, refl, ap, sym, subst, ◌∙◌}
+use Rattle.std.proofs.Common.{◌≡◌, ◌⊎◌, ℕ, ℤ, true, false, List, [], ◌∷◌, ◌++◌, Some, None, inl, inr, refl, ap, sym, subst, ◌∙◌}
 use Rattle.wq_clock.specs.declared.run.Run.{Run}
 use Rattle.wq_crawl.specs.Crawl.{CrawlerData}
 use Rattle.wq_live.specs.Table.{IsTableOf, TableData}
@@ -12,7 +12,7 @@ use Rattle.wq_crawl.specs.Basis.{Basis}
 use Rattle.wq_session.specs.Idling.{IsIdled}
 use Rattle.wq_session.specs.Serving.{IsAnswered, PlaceData, stand_at}
 use Rattle.wq_session.specs.Need.{need_of}
-use Rattle.wq_session.specs.Out.{OutData}
+use Rattle.wq_session.specs.Out.{OutData, gone}
 use Rattle.wq_ask.specs.Reading.{Asks}
 use Rattle.wq_ask.specs.declared.ask.Ask.{Ask}
 use Rattle.wq_session.specs.Answer.{answer, giving}
@@ -23,8 +23,9 @@ use Rattle.wq_session.specs.Desk.{Replies}
 use Rattle.wq_session.specs.Moment.{Idles}
 use Rattle.wq_stream.specs.declared.event.Event.{Event}
 use Rattle.wq_stream.specs.declared.event.Event.TheVariants.{Line, Long, Binary, Idle, End, Fault}
-use Rattle.wq_headline.specs.Alone.{EventsAreRuns, HappensFirst, HappensFor, IsCurrent, IsRunFor, ShowsWorld, WasBlind}
+use Rattle.wq_headline.specs.Alone.{EventsAreRuns, HasGone, HappensFirst, HappensFor, IsCurrent, IsRunFor, ShowsWorld, WasBlind}
 use Rattle.wq_headline.proofs.Asked.{asks_well, exact_or_short, short_of_watch}
+use Rattle.wq_headline.proofs.Gone.{stayed_reply}
 use Rattle.wq_headline.proofs.Idled.{own_follows}
 use Rattle.wq_headline.proofs.Lists.{some_same}
 use Rattle.wq_headline.proofs.Looks.{numbers_find_roots}
@@ -91,7 +92,7 @@ module _ (one_view : HasOneView) (basis : Basis) (client : ℤ) (before after : 
 
   -- the reply to the ask, if it is ready so
   abbrev Reply : ReadyData → Type 0
-  Reply ready = Replies ready ask (stand (Some world.shelf) (world.follows client)) out (stand_at after)
+  Reply ready = Replies false ready ask (stand (Some world.shelf) (world.follows client)) out (stand_at after)
 
   -- the world replies so too
   run_for : (ready : ReadyData) → IsReadyThere one_view basis before.known after.known world roots current (need_of ask) ready → Reply ready
@@ -118,15 +119,20 @@ module _ (one_view : HasOneView) (basis : Basis) (client : ℤ) (before after : 
       by (inr short) = run_for other there (short other may)
 
   ask_run : IsAnswered basis ask before.known (stand_at before) out after.known (stand_at after)
-      → WasBlind basis before event out after ⊎ IsRunFor basis client world event out after
-  ask_run (ready, readies, replies) =
-      let it = readies_well one_view basis before.known after.known world roots current (need_of ask) ready readies in
-      replied it.0 ready it.1 it.2
-      (subst (λ s. Replies ready ask (stand s (world.follows client)) out (stand_at after)) shows.shelf
-      (subst (λ f. Replies ready ask (stand before.shelf f) out (stand_at after)) (sym shows.follows) replies))
+      → HasGone out ⊎ WasBlind basis before event out after ⊎ IsRunFor basis client world event out after
+  ask_run (ready, readies, replies) = by (stayed_reply ready ask (stand_at before) out (stand_at after) replies)
+    where
+      by : (out ≡ gone None) ⊎ Replies false ready ask (stand_at before) out (stand_at after)
+          → HasGone out ⊎ WasBlind basis before event out after ⊎ IsRunFor basis client world event out after
+      by (inl goes) = inl goes
+      by (inr stays) =
+          let it = readies_well one_view basis before.known after.known world roots current (need_of ask) ready readies in
+          inr (replied it.0 ready it.1 it.2
+          (subst (λ s. Replies false ready ask (stand s (world.follows client)) out (stand_at after)) shows.shelf
+          (subst (λ f. Replies false ready ask (stand before.shelf f) out (stand_at after)) (sym shows.follows) stays)))
 
 pub events_are_runs : HasOneView → (basis : Basis) → EventsAreRuns basis
-events_are_runs one_view basis client before after (Idle root) out world shows (hands, does) current = inr (idle_run one_view basis client before after root out world shows does current)
+events_are_runs one_view basis client before after (Idle root) out world shows (hands, does) current = inr (inr (idle_run one_view basis client before after root out world shows does current))
 events_are_runs one_view basis client before after (Line line) out world shows (hands, (ask, asks, is)) current = ask_run one_view basis client before after (Line line) out world shows current (λ h it. it) ask asks is
 events_are_runs one_view basis client before after Long out world shows (hands, (ask, asks, is)) current = ask_run one_view basis client before after Long out world shows current (λ h it. it) ask asks is
 events_are_runs one_view basis client before after Binary out world shows (hands, (ask, asks, is)) current = ask_run one_view basis client before after Binary out world shows current (λ h it. it) ask asks is

@@ -213,7 +213,7 @@ module _ (run : RunData) (client : ℤ) where
         (begun_at so.here so.name so.root so.object so.query so.program so.there so.asks)))
         gives
 
-    answered : (ask : Ask) (shelf after : ShelfNow) (left : List SubscriptionData) → AnswersAsk ask at shelf follows out after left
+    answered : (ask : Ask) (shelf after : ShelfNow) (left : List SubscriptionData) → AnswersAsk false ask at shelf follows out after left
         → Accounts events (said ++ sent_to client out) left
     answered ask shelf after left (inl is) =
         subst (Accounts events (said ++ sent_to client out)) (ap (λ a. (a.done).follows) is)
@@ -224,7 +224,7 @@ module _ (run : RunData) (client : ℤ) where
   -- an ask of the client
   asked_all : (world : WorldData) (said : List SentData) (ask : Ask) (out : OutData) (ready : ReadyData) (later : List RootEvent) (shelf : ShelfNow) (left : List SubscriptionData)
       → world.run ≡ run → Accounts world.events said (world.follows client) → Meets (need_of ask) world.run world.refused world.events ready later
-      → Replies ready ask (stand (Some world.shelf) (world.follows client)) out (stand (Some shelf) left)
+      → Replies false ready ask (stand (Some world.shelf) (world.follows client)) out (stand (Some shelf) left)
       → Accounts later (said ++ sent_to client out) (kept out.goes_on left)
   asked_all world said ask out ready later shelf left of_run all met replies = goes out.goes_on
     where
@@ -232,7 +232,7 @@ module _ (run : RunData) (client : ℤ) where
       before = all_grown world.events later said (sent_to client out) (world.follows client) (meets (need_of ask) world.run world.refused world.events ready later met) all
 
       by : (ready : ReadyData) → Meets (need_of ask) run world.refused world.events ready later
-          → Replies ready ask (stand (Some world.shelf) (world.follows client)) out (stand (Some shelf) left)
+          → Replies false ready ask (stand (Some world.shelf) (world.follows client)) out (stand (Some shelf) left)
           → Accounts later (said ++ sent_to client out) left
       by (Err fault) met (may, same) = subst (Accounts later (said ++ sent_to client out)) (sym (ap (λ (s : StandData). s.follows) same)) before
       by (Ok at) met (next, answers, same) =

@@ -26,3 +26,4 @@ mod Triggered
 mod Rounded
 mod Threads
 mod Clocks
+mod Gone

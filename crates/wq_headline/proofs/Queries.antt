@@ -126,7 +126,7 @@ module _ (shelf : ShelfNow) (valid : (name : List ℕ) (raw : Raw) → under nam
 
   -- the reply to an ask for files
   pub query_reply : (root : List ℕ) (crawl : Bool) (q : Value) (at : Option AtData) (follows left : List SubscriptionData) (out : OutData) (after : ShelfNow)
-      → AnswersAsk (OfRoot root crawl (AsksQuery q)) at shelf follows out after left → IsReplyAt root (data_of q) at shelf out
+      → AnswersAsk false (OfRoot root crawl (AsksQuery q)) at shelf follows out after left → IsReplyAt root (data_of q) at shelf out
   query_reply root crawl q at follows left out after (inl is) = reply_at root (data_of q) at follows out (ap (λ a. (a.done).out) (sym is))
   query_reply root crawl q at follows left out after (inr (inl (takes, is, same, stays))) = inr (inr is)
   query_reply root crawl q at follows left out after (inr (inr (plan, cursor, work, is, unset, stays))) = inr (inr is)

@@ -10,7 +10,7 @@ use Rattle.wq_session.specs.Serving.{PlaceData, line_for, lines_for, written_for
 use Rattle.wq_session.specs.Out.{OutData}
 use Rattle.wq_stream.specs.declared.event.Event.{Event}
 use Rattle.wq_view.specs.View.{HasOneView}
-use Rattle.wq_headline.specs.Alone.{AloneGoesOn, EndsShowAWorld, GoingOnIsARun, HappensFor, HappensInTurn, IsRunFor, IsRunOf, ServedAloneIsARun, ShowsWorld, WasBlind, WasBlindOnce, written_of}
+use Rattle.wq_headline.specs.Alone.{AloneGoesOn, EndsShowAWorld, GoingOnIsARun, HasGone, HappensFor, HappensInTurn, IsRunFor, IsRunOf, ServedAloneIsARun, ShowsWorld, WasBlind, WasBlindOnce, written_of}
 use Rattle.wq_headline.proofs.Events.{events_are_runs}
 
 lines_both : (texts more : List (List ℕ)) → lines_for (texts ++ more) ≡ lines_for texts ++ lines_for more
@@ -57,11 +57,12 @@ module _ (basis : Basis) (client : ℤ) (before next after : PlaceData) (event :
     shown,
   )
 
-  one_more : WasBlind basis before event out next ⊎ IsRunFor basis client world event out next
+  one_more : HasGone out ⊎ WasBlind basis before event out next ⊎ IsRunFor basis client world event out next
       → ((between : WorldData) → ShowsWorld basis.run client true next between → Blind ⊎ IsRunOf basis client between later rest true after)
       → (WasBlind basis before event out next ⊎ Blind) ⊎ IsRunOf basis client world (event ∷ later) written true after
-  one_more (inl blind) others = inl (inl blind)
-  one_more (inr (happenings, between, happens, runs, shown)) others =
+  one_more (inl left) others = absurd (cc (left, goes))
+  one_more (inr (inl blind)) others = inl (inl blind)
+  one_more (inr (inr (happenings, between, happens, runs, shown))) others =
       joined between happenings happens runs (others between (subst (λ g. ShowsWorld basis.run client g next between) goes shown))
 
 pub going_on_is_a_run : HasOneView → (basis : Basis) → GoingOnIsARun basis
@@ -85,10 +86,11 @@ module _ (basis : Basis) (client : ℤ) (between after : PlaceData) (events : Li
     (world mid : WorldData) (happenings : List HappeningData) (sent : List SentData) (in_turn : HappensInTurn basis client events happenings)
     (runs : Runs world happenings sent mid) (wrote : lines ≡ written_of sent) where
   -- the runs of all are one
-  joined_last : WasBlind basis between last out after ⊎ IsRunFor basis client mid last out after
-      → WasBlind basis between last out after ⊎ IsRunOf basis client world (events ++ last ∷ []) (lines ++ written_for out) out.goes_on after
-  joined_last (inl blind) = inl blind
-  joined_last (inr (more, next, happens, runs_on, shown)) = inr (
+  joined_last : HasGone out ⊎ WasBlind basis between last out after ⊎ IsRunFor basis client mid last out after
+      → HasGone out ⊎ WasBlind basis between last out after ⊎ IsRunOf basis client world (events ++ last ∷ []) (lines ++ written_for out) out.goes_on after
+  joined_last (inl left) = inl left
+  joined_last (inr (inl blind)) = inr (inl blind)
+  joined_last (inr (inr (more, next, happens, runs_on, shown))) = inr (inr (
     happenings ++ more,
     sent ++ sent_to client out,
     next,
@@ -97,14 +99,14 @@ module _ (basis : Basis) (client : ℤ) (between after : PlaceData) (events : Li
     ap (λ l. l ++ written_for out) wrote ∙ ap (λ l. written_of sent ++ l) (sym (sent_written client out))
         ∙ sym (written_then sent (sent_to client out)),
     shown,
-  )
+  ))
 
 pub served_alone_is_a_run : HasOneView → (basis : Basis) → ServedAloneIsARun basis
 served_alone_is_a_run one_view basis client before between after events lines last out world shows alone serves current =
     by (going_on_is_a_run one_view basis client before between events lines world shows alone)
   where
     by : WasBlindOnce basis before events lines between alone ⊎ IsRunOf basis client world events lines true between
-        → WasBlindOnce basis before events lines between alone ⊎ WasBlind basis between last out after
+        → WasBlindOnce basis before events lines between alone ⊎ HasGone out ⊎ WasBlind basis between last out after
         ⊎ IsRunOf basis client world (events ++ last ∷ []) (lines ++ written_for out) out.goes_on after
     by (inl once) = inl once
     by (inr (happenings, sent, mid, in_turn, runs, wrote, shown)) =

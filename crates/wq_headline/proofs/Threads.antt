@@ -1,11 +1,11 @@
 -- The replies of a session on threads to lines that ask for files.
-use Rattle.std.proofs.Common.{◌≡◌, ℕ, Bool, true, false, List, [], ◌∷◌, Option, Some, None, option_map, Result, Ok, Err, IfSome, inl, inr, refl, ap, sym, subst, ◌∙◌}
+use Rattle.std.proofs.Common.{◌≡◌, ◌⊎◌, ℕ, Bool, true, false, List, [], ◌∷◌, Option, Some, None, option_map, Result, Ok, Err, IfSome, inl, inr, refl, ap, sym, subst, ◌∙◌}
 use Rattle.serde_json.specs.Data.{Data}
 use Rattle.serde_json.specs.View.{view as data_of}
 use Rattle.serde_json.specs.declared.value.Value.{Value}
 use Rattle.wq_ask.specs.HandedIn.{AsksHandInValid, HandsInValid}
 use Rattle.wq_session.specs.Need.{need_of}
-use Rattle.wq_session.specs.Out.{OutData}
+use Rattle.wq_session.specs.Out.{OutData, gone}
 use Rattle.wq_ask.specs.Reading.{Asks}
 use Rattle.wq_ask.specs.declared.ask.Ask.{Ask}
 use Rattle.wq_ask.specs.declared.ask.Ask.TheVariants.{Alone, OfRoot}
@@ -39,6 +39,7 @@ use Rattle.wq_stream.specs.declared.event.Event.{Event}
 use Rattle.wq_stream.specs.declared.event.Event.TheVariants.{Line, Long, Binary, Idle, End, Fault}
 use Rattle.wq_view.specs.View.{ViewData}
 use Rattle.wq_headline.specs.Exact.{AreExact, HearsBefore, IsExact, IsReplyAt, IsReplyOf, SeesAt, ServedRepliesAreExact, Shows}
+use Rattle.wq_headline.proofs.Gone.{stayed}
 use Rattle.wq_headline.proofs.Moments.{lists_exact}
 use Rattle.wq_headline.proofs.Queries.{query_reply}
 use Rattle.wq_headline.proofs.Worldly.{AsksFiles, line_asks, short_reply}
@@ -75,14 +76,14 @@ unset_stays None shelf reached = reached
 unset_stays (Some cursor) shelf reached = unset_reached cursor.root cursor.name shelf reached
 
 answer_reached : (ask : Ask) (at : Option AtData) (shelf after : ShelfNow) (follows left : List SubscriptionData) (out : OutData) → HandsInValid ask
-    → AnswersAsk ask at shelf follows out after left → IsReached shelf → IsReached after
+    → AnswersAsk true ask at shelf follows out after left → IsReached shelf → IsReached after
 answer_reached ask at shelf after follows left out valid (inl is) reached = subst IsReached (ap (λ a. a.shelf) is) (begun_reached ask at shelf valid reached)
 answer_reached ask at shelf after follows left out valid (inr (inl (takes, is, same, stays))) reached = subst IsReached (sym same) reached
 answer_reached ask at shelf after follows left out valid (inr (inr (plan, cursor, work, is, unset, stays))) reached =
     subst IsReached (sym unset) (unset_stays cursor (taken_ask ask at shelf).shelf (begun_reached ask at shelf valid reached))
 
 shelf_reached : (shown after : Option ShelfNow) (ask : Ask) (at : Option AtData) (follows left : List SubscriptionData) (out : OutData) → HandsInValid ask
-    → AnswersShelf shown follows ask at out after left → IfSome shown IsReached → IfSome after IsReached
+    → AnswersShelf true shown follows ask at out after left → IfSome shown IsReached → IfSome after IsReached
 shelf_reached None after ask at follows left out valid (shelf, next, here, answers, is) reached = subst (λ s. IfSome s IsReached) (sym is) tt
 shelf_reached (Some shelf) after ask at follows left out valid (next, answers, is) reached =
     subst (λ s. IfSome s IsReached) (sym is) (answer_reached ask at shelf next follows left out valid answers reached)
@@ -92,7 +93,7 @@ module _ (hand_in_valid : AsksHandInValid) (basis : Basis) where
       → IsAnswered basis ask before stand out after left → IfSome stand.shelf IsReached → IfSome left.shelf IsReached
   answered_reached event ask before after stand left out asks (ready, readies, replies) reached = by ready replies
     where
-      by : (ready : ReadyData) → Replies ready ask stand out left → IfSome left.shelf IsReached
+      by : (ready : ReadyData) → Replies true ready ask stand out left → IfSome left.shelf IsReached
       by (Ok at) answers = shelf_reached stand.shelf left.shelf ask at stand.follows left.follows out (hand_in_valid event ask asks) answers reached
       by (Err fault) (may, same) = subst (λ (s : StandData). IfSome s.shelf IsReached) (sym same) reached
 
@@ -107,8 +108,8 @@ module _ (hand_in_valid : AsksHandInValid) (basis : Basis) where
 
 -- the shelf at which an ask is answered
 answered_at : (shown after : Option ShelfNow) (ask : Ask) (at : Option AtData) (follows left : List SubscriptionData) (out : OutData)
-    → IfSome shown IsReached → AnswersShelf shown follows ask at out after left
-    → (shelf : ShelfNow) × (next : ShelfNow) × IfSome shown (λ s. shelf ≡ s) × IsReached shelf × AnswersAsk ask at shelf follows out next left
+    → IfSome shown IsReached → AnswersShelf true shown follows ask at out after left
+    → (shelf : ShelfNow) × (next : ShelfNow) × IfSome shown (λ s. shelf ≡ s) × IsReached shelf × AnswersAsk true ask at shelf follows out next left
 answered_at None after ask at follows left out reached (shelf, next, here, answers, is) = (shelf, next, tt, here, answers)
 answered_at (Some shelf) after ask at follows left out reached (next, answers, is) = (shelf, next, refl, reached, answers)
 
@@ -116,7 +117,7 @@ module _ (programs : ReachedProgramsAreValid) (basis : Basis) (before after : Pl
     (root : List ℕ) (d : Data) (out : OutData) where
   -- the reply to an ask that is ready
   abbrev Reply : ReadyData → Ask → Type 0
-  Reply ready ask = Replies ready ask (stand_at before) out (stand_at after)
+  Reply ready ask = Replies true ready ask (stand_at before) out (stand_at after)
 
   -- at what the session sees
   reply_at : (crawl : Bool) (q : Value) (heard : KnownData) (at : Option AtData) (ready : ReadyData) → data_of q ≡ d → HearsBefore crawl root before.known heard
@@ -124,16 +125,22 @@ module _ (programs : ReachedProgramsAreValid) (basis : Basis) (before after : Pl
   reply_at crawl q heard at ready same hears looks is replies =
       let it = answered_at before.shelf after.shelf (OfRoot root crawl (AsksQuery q)) at before.follows after.follows out reached
       (subst (λ r. Reply r (OfRoot root crawl (AsksQuery q))) is replies) in
-      inr (inl (
+      by it.0 it.1 it.2 it.3 (stayed (OfRoot root crawl (AsksQuery q)) at it.0 before.follows out it.1 after.follows it.4)
+    where
+      by : (shelf next : ShelfNow) → IfSome before.shelf (λ s. shelf ≡ s) → IsReached shelf
+          → (out ≡ gone None) ⊎ AnswersAsk false (OfRoot root crawl (AsksQuery q)) at shelf before.follows out next after.follows
+          → IsReplyOf basis before root crawl d out after
+      by shelf next shown there (inl goes) = inr (inr (inr goes))
+      by shelf next shown there (inr answers) = inr (inl (
         heard,
         at,
-        it.0,
+        shelf,
         hears,
         sees_of_look basis root heard after.known at looks,
-        it.2,
-        it.3,
-        subst (λ e. IsReplyAt root e at it.0 out) same
-            (query_reply it.0 (λ name raw. programs it.0 name raw it.3) root crawl q at before.follows after.follows out it.1 it.4),
+        shown,
+        there,
+        subst (λ e. IsReplyAt root e at shelf out) same
+            (query_reply shelf (λ name raw. programs shelf name raw there) root crawl q at before.follows after.follows out next answers),
       ))
 
   crawled : (q : Value) (told : Result (Option (List RootEvent)) CrawlFault) (heard : KnownData) (ready : ReadyData) → data_of q ≡ d
@@ -156,7 +163,12 @@ module _ (programs : ReachedProgramsAreValid) (basis : Basis) (before after : Pl
       let met : (ready ≡ Ok None) × (after.known ≡ before.known) = subst (λ a. Readies basis (need_of a) before.known ready after.known) is readies in
       let it = answered_at before.shelf after.shelf (Alone (Refused NoMemory)) None before.follows after.follows out reached
       (subst (λ r. Reply r (Alone (Refused NoMemory))) met.0 (subst (Reply ready) is replies)) in
-      inr (inr (short_reply None it.0 it.1 before.follows after.follows out it.4))
+      by it.0 it.1 (stayed (Alone (Refused NoMemory)) None it.0 before.follows out it.1 after.follows it.4)
+    where
+      by : (shelf next : ShelfNow) → (out ≡ gone None) ⊎ AnswersAsk false (Alone (Refused NoMemory)) None shelf before.follows out next after.follows
+          → IsReplyOf basis before root crawl d out after
+      by shelf next (inl goes) = inr (inr (inr goes))
+      by shelf next (inr answers) = inr (inr (inl (short_reply None shelf next before.follows after.follows out answers)))
 
 module _ (programs : ReachedProgramsAreValid) (hand_in_valid : AsksHandInValid) (basis : Basis) where
   -- of one event

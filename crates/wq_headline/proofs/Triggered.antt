@@ -271,7 +271,7 @@ module _ (run : RunData) where
       unset_fit (Some cursor) = (tt, tt)
 
       accepts_fit : (ask : Ask) (at : Option AtData) (shelf : ShelfNow) (follows : List SubscriptionData) (out : OutData) (calls : List CallNow) → IsPlaced at
-          → Accepts ask at shelf follows out calls → AllByRecursion Fits calls
+          → Accepts false ask at shelf follows out calls → AllByRecursion Fits calls
       accepts_fit ask at shelf follows out calls placed (inl (begun, tries, gives, is)) = subst (AllByRecursion Fits) (sym is) (calls_fit ask at shelf placed)
       accepts_fit ask at shelf follows out calls placed (inr (inl (refusal, tries, gives, is))) = subst (AllByRecursion Fits) (sym is) tt
       accepts_fit ask at shelf follows out calls placed (inr (inr (inl (takes, gives, is)))) = subst (AllByRecursion Fits) (sym is) tt
@@ -280,11 +280,11 @@ module _ (run : RunData) where
 
       -- the shelf that an ask leaves
       replies_keep : AnswersAreCalls → (ask : Ask) (ready : ReadyData) (shelf left : ShelfNow) (follows kept : List SubscriptionData) (out : OutData)
-          → ((at : Option AtData) → ready ≡ Ok at → IsPlaced at) → Replies ready ask (stand (Some shelf) follows) out (stand (Some left) kept) → Now shelf.roots → Now left.roots
+          → ((at : Option AtData) → ready ≡ Ok at → IsPlaced at) → Replies false ready ask (stand (Some shelf) follows) out (stand (Some left) kept) → Now shelf.roots → Now left.roots
       replies_keep answers ask (Err fault) shelf left follows kept out placed (may, same) all =
           subst (λ (s : ShelfNow). Now s.roots) (sym (some_same (ap (λ (s : StandData). s.shelf) same))) all
       replies_keep answers ask (Ok at) shelf left follows kept out placed (next, is, same) all =
-          let made = answers ask at shelf follows out next kept is in
+          let made = answers false ask at shelf follows out next kept is in
           subst (λ (s : ShelfNow). Now s.roots) (sym (some_same same ∙ made.2))
           (all_calls made.0 shelf (accepts_fit ask at shelf follows out made.0 (placed at refl) made.1) all)
 

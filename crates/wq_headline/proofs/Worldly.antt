@@ -62,7 +62,7 @@ line_asks line root crawl d ask is (inr short) = inr short
 
 -- a line for which memory ran out is refused for that
 pub short_reply : (at : Option AtData) (shelf after : ShelfNow) (follows left : List SubscriptionData) (out : OutData)
-    → AnswersAsk (Alone (Refused NoMemory)) at shelf follows out after left → out ≡ runs_out None
+    → AnswersAsk false (Alone (Refused NoMemory)) at shelf follows out after left → out ≡ runs_out None
 short_reply at shelf after follows left out (inl is) = ap (λ a. (a.done).out) (sym is)
 short_reply at shelf after follows left out (inr (inl (takes, is, same, stays))) = is
 short_reply at shelf after follows left out (inr (inr (plan, cursor, work, is, unset, stays))) = is
@@ -92,7 +92,7 @@ module _ (world : WorldData) (valid : (name : List ℕ) (raw : Raw) → under na
     (client : ℤ) (root : List ℕ) (d : Data) (out : OutData) (shelf : ShelfNow) (left : List SubscriptionData) where
   -- the reply to an ask that is ready
   abbrev Reply : ReadyData → Ask → Type 0
-  Reply ready ask = Replies ready ask (stand (Some world.shelf) (world.follows client)) out (stand (Some shelf) left)
+  Reply ready ask = Replies false ready ask (stand (Some world.shelf) (world.follows client)) out (stand (Some shelf) left)
 
   -- at what is looked at
   reply_at : (crawl : Bool) (q : Value) (table : TableData) (is : IsTableOf world.events table) (ready : ReadyData) → data_of q ≡ d

@@ -17,7 +17,7 @@ use Rattle.wq_crawl.specs.Ready.{KnownData}
 use Rattle.wq_session.specs.Serving.{GoesOn, PlaceData, Serves, lines_for, written_for}
 use Rattle.wq_crawl.specs.Need.{NeedData, none, look, crawl as crawl_of, watch as watch_of, unwatch}
 use Rattle.wq_session.specs.Need.{need_of}
-use Rattle.wq_session.specs.Out.{OutData}
+use Rattle.wq_session.specs.Out.{OutData, gone}
 use Rattle.wq_ask.specs.Reading.{Asks}
 use Rattle.wq_ask.specs.declared.ask.Ask.{Ask}
 use Rattle.wq_session.specs.Answer.{answer, giving}
@@ -104,6 +104,11 @@ WasBlind basis before event out after = (ask : Ask) × (root : List ℕ) × (num
     × (number_of root (after.known).seen ≡ Some number) × IsUnwatched ask before out after
     × basis.refused (after.known).seen
 
+-- the client had gone when the files of its query were listed: there is no output, and its session
+-- ends
+abbrev pub HasGone : OutData → Type 0
+HasGone out = out ≡ gone None
+
 -- an event that a session took is a run of the world. The happenings for the event send the output
 -- of the session, and lead to the world that the ends show then
 abbrev pub IsRunFor : Basis → ℤ → WorldData → Event → OutData → PlaceData → Type 0
@@ -112,15 +117,17 @@ IsRunFor basis client world event out after = (happenings : List HappeningData)
     × Runs world happenings (sent_to client out) next
     × ShowsWorld basis.run client out.goes_on after next
 
--- an event of a session that is served alone is a run of the world, unless its look was refused.
--- There are two premises. The ends show a world before the event: those do that show a crawler and
--- a shelf. The session's last list after the event is the one that is published, with its table. A
--- look finds it if nobody else publishes, and each lawful list has a table, but no clause says so
+-- an event of a session that is served alone is a run of the world, unless its look was refused or
+-- the client has gone. There are two premises. The ends show a world before the event: those do
+-- that show a crawler and a shelf. The session's last list after the event is the one that is
+-- published, with its table. A look finds it if nobody else publishes, and each lawful list has a
+-- table, but no clause says so
 abbrev pub EventsAreRuns : Basis → Type 0
 EventsAreRuns basis = (client : ℤ) (before after : PlaceData) (event : Event) (out : OutData)
     (world : WorldData) → ShowsWorld basis.run client true before world
     → Serves basis before event out after → IsCurrent after.known
-    → WasBlind basis before event out after ⊎ IsRunFor basis client world event out after
+    → HasGone out ⊎ WasBlind basis before event out after
+    ⊎ IsRunFor basis client world event out after
 
 -- a session takes events alone, one after the other, and goes on after each. After each, its last
 -- list is the one that is published
@@ -159,7 +166,8 @@ GoingOnIsARun basis = (client : ℤ) (before after : PlaceData) (events : List E
     → WasBlindOnce basis before events written after alone
     ⊎ IsRunOf basis client world events written true after
 
--- the same with the last event of a session, after which it may end
+-- the same with the last event of a session, after which it may end, unless the client had gone
+-- then
 abbrev pub ServedAloneIsARun : Basis → Type 0
 ServedAloneIsARun basis = (client : ℤ) (before between after : PlaceData)
     (events : List Event) (lines : List ℕ) (last : Event) (out : OutData) (world : WorldData)
@@ -167,7 +175,7 @@ ServedAloneIsARun basis = (client : ℤ) (before between after : PlaceData)
     → (alone : GoesOnAlone basis before events lines between)
     → Serves basis between last out after → IsCurrent after.known
     → WasBlindOnce basis before events lines between alone
-    ⊎ WasBlind basis between last out after
+    ⊎ HasGone out ⊎ WasBlind basis between last out after
     ⊎ IsRunOf basis client world (events ++ last ∷ []) (lines ++ written_for out) out.goes_on after
 
 -- a session that goes on alone goes on as each session does

@@ -7,7 +7,7 @@ use mathlib.Core.List.{IsPrefix}
 use mathlib.Core.Logic.{inl, inr}
 use Rattle.serde_json.specs.Data.{Data}
 use Rattle.wq_ask.specs.Argument.{queries}
-use Rattle.wq_session.specs.Out.{MayRefuse, OutData, refuses, replies, runs_out, silence}
+use Rattle.wq_session.specs.Out.{MayRefuse, OutData, gone, refuses, replies, runs_out, silence}
 use Rattle.wq_ask.specs.Reading.{Asks, requested}
 use Rattle.wq_ask.specs.declared.ask.Ask.{Ask}
 use Rattle.wq_ask.specs.declared.refusal.Refusal.{Refusal}
@@ -119,7 +119,8 @@ IsNotCrawled crawl root before fault after =
     (crawl ≡ true) × Hears before (passing root) (Err fault) after
 
 -- the reply of a session to a query of a root: at what it sees there, and at a shelf that the acts
--- of sessions and rounds lead to. If a shelf is shown, that is it
+-- of sessions and rounds lead to. If a shelf is shown, that is it. There is none if the client has
+-- gone
 abbrev pub IsReplyOf : Basis → PlaceData → List ℕ → Bool → Data → OutData → PlaceData → Type 0
 IsReplyOf basis before root crawl d out after =
     ((fault : CrawlFault) × IsNotCrawled crawl root before.known fault after.known
@@ -129,6 +130,7 @@ IsReplyOf basis before root crawl d out after =
     × IfSome before.shelf (λ shown. shelf ≡ shown) × IsReached shelf
     × IsReplyAt root d at shelf out)
     ⊎ (out ≡ runs_out None)
+    ⊎ (out ≡ gone None)
 
 -- the lists of an idle moment of the root of this number: the first subscriptions get theirs, none
 -- of which is left out, and the others wait. If the look was refused there are none, and all stay

@@ -271,7 +271,7 @@ impl<N: Named, R: Wait + Drop> Publisher<N, R> {
     /// is not shown.
     ///
     /// An error changes nothing. The call waits for looks that still read the value before the last one.
-    pub fn end(&mut self, number: u64) -> Result<Told<N>, AllocError>
+    pub fn retire(&mut self, number: u64) -> Result<Told<N>, AllocError>
         ensures told { IfOk result (λ told. told ≡ self.new) }
         ensures published { N.published N.book self.new }
         ensures added { IfOk result (λ _. ((is_shown self.old number ≡ false)

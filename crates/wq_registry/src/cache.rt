@@ -1,11 +1,14 @@
 //! The programs of expressions that were compiled before.
-ghost use Rattle.std.specs.Prelude.{◌≡◌, ◌≤◌, ◌↔◌, false, IfOk, IfSome, IsErrOf, IsTrue};
+ghost use Rattle.std.specs.Prelude.{◌≡◌, ◌≤◌, ◌↔◌, false, IfOk, IfSome, IsErrOf, IsTrue, Ok};
+ghost use Rattle.serde_json.specs.View.{view as data_of};
 ghost use Rattle.wq_compile.specs.Code.{program_of};
 ghost use Rattle.wq_compile.specs.Cost.{most_steps_of};
 ghost use Rattle.wq_compile.specs.Large.{is_too_large};
 ghost use Rattle.wq_compile.specs.Meaning.{AnswersMeaning};
 ghost use Rattle.wq_term.specs.Expr.{term_of};
 ghost use Rattle.wq_term.specs.Fits.{expr_fits};
+ghost use Rattle.wq_term.specs.Limit.{max_depth};
+ghost use Rattle.wq_term.specs.Reading.{reads_as};
 ghost use Rattle.wq_verify.specs.Budget.{budget_of};
 ghost use Rattle.wq_record.specs.Limit.{max_name};
 ghost use Rattle.wq_registry.specs.CacheKey.{Says};
@@ -14,12 +17,13 @@ ghost use Rattle.wq_registry.specs.Kept.{StandsFor, instance_at};
 use crate::key::{CacheKey, Key, look_up, put};
 use crate::shared_program::share;
 use lru::LruCache;
+use serde_json::Value;
 use std::alloc::{AllocError, Global};
 use std::marker::Model;
 use std::num::NonZeroUsize;
 use std::sync::Arc;
 use wq_compile::{CompileFault, compile};
-use wq_term::Expr;
+use wq_term::{Expr, read_expressions_fit};
 use wq_verify::StoredProgram;
 
 /// How many programs are kept.
@@ -95,6 +99,42 @@ impl Cache {
             key: compiled.key.key,
             program: compiled.program,
         })
+    }
+
+    /// The program of the expression that is read from this value at the root of this number, in the run of the server
+    /// that this cache is of. It is the one that is kept, or one that is compiled now, and then kept.
+    ///
+    /// # Errors
+    /// Those of [`compile_shared`].
+    pub fn program(
+        &mut self,
+        root: u64,
+        value: &Value,
+        expr: &Expr,
+    ) -> Result<Arc<StoredProgram>, CompileFault>
+        requires { reads_as (instance_at self.old root) max_depth (data_of value.now)
+            ≡ Ok (term_of expr.now) }
+        ensures meaning { IfOk result (λ program.
+            AnswersMeaning program.value (term_of expr.now)) }
+        ensures cost { IfOk result (λ program.
+            budget_of program.value max_name ≤ most_steps_of (term_of expr.now)) }
+        ensures large { IsErrOf result CompileFault.TooLarge
+            ↔ IsTrue (is_too_large (term_of expr.now)) }
+        ensures same { self.new ≡ self.old }
+    {
+        // Only the proof uses the law of this call.
+        read_expressions_fit();
+        let Ok(key) = CacheKey::of_root(self.alloc, self.start, self.pid, root, value) else {
+            return compile_shared(self.alloc, expr);
+        };
+        if let Some(program) = self.get(&key) {
+            return Ok(program);
+        }
+        let program = compile_shared(self.alloc, expr)?;
+        if let Some(compiled) = Compiled::new(key, expr, &program) {
+            let _ = self.keep(compiled);
+        }
+        Ok(program)
     }
 
     /// Whether an expression was read in the run of the server that this cache is of.

@@ -46,12 +46,29 @@ impl CacheKey {
             → reads_as (instance_data instance.now) max_depth (data_of value.now) ≡ Ok t
             → Says key t) }
     {
+        CacheKey::of_root(alloc, instance.start, instance.pid, instance.root, value)
+    }
+
+    /// The key of the expression that is read from this value at this root of a server that started at this second as
+    /// this process.
+    pub(crate) fn of_root(
+        alloc: Global,
+        start: u64,
+        pid: u64,
+        root: u64,
+        value: &Value,
+    ) -> Result<CacheKey, AllocError>
+        ensures { IfOk result (λ key. (t : ExprData)
+            → reads_as (record { start = start; pid = pid; root = root }) max_depth
+            (data_of value.now) ≡ Ok t
+            → Says key t) }
+    {
         values_say_what_they_write();
         Ok(CacheKey {
-            start: instance.start,
-            pid: instance.pid,
+            start,
+            pid,
             key: Key {
-                root: instance.root,
+                root,
                 text: value.to_string(alloc)?,
             },
         })

@@ -250,7 +250,7 @@ unset_keeps root name sockname shelf earlier leads (Some cursor) there =
 -- after the accepted calls of an ask, a trigger that is there has the run that it had
 pub accepted_keep : (root : ℕ) (name : List ℕ) (sockname : List ℕ) (ask : Ask) (at : Option AtData) (shelf : ShelfNow) (earlier : List CallNow)
     (follows : List SubscriptionData) (out : OutData) (calls : List CallNow) → shelf ≡ after_all earlier (blank sockname)
-    → Accepts ask at shelf follows out calls → is_some (trigger_called root name (after_all calls shelf)) ≡ true
+    → Accepts false ask at shelf follows out calls → is_some (trigger_called root name (after_all calls shelf)) ≡ true
     → run_at root name (after_all calls shelf) ≡ run_at root name shelf
 accepted_keep root name sockname ask at shelf earlier follows out calls leads (inl (begun, tries, gives, is)) there =
     ap (λ cs. run_at root name (after_all cs shelf)) is

@@ -1,5 +1,5 @@
 -- The shelf of a world is the result of the accepted calls.
-use Rattle.std.proofs.Common.{◌≡◌, ℕ, ℤ, List, [], ◌∷◌, ◌++◌, Option, Some, None, Result, Ok, Err, inl, inr, refl, sym, ap, subst, ◌∙◌}
+use Rattle.std.proofs.Common.{◌≡◌, ℕ, ℤ, false, List, [], ◌∷◌, ◌++◌, Option, Some, None, Result, Ok, Err, inl, inr, refl, sym, ap, subst, ◌∙◌}
 use Rattle.wq_clock.specs.Instance.{InstanceData}
 use Rattle.wq_clock.specs.Run.{instance_of}
 use Rattle.wq_follow.specs.Launcher.{LauncherData}
@@ -70,18 +70,18 @@ module _ (answers_are_calls : AnswersAreCalls) (rounds_are_calls : RoundsAreCall
   -- an ask that was answered at a root
   answered_at : (at : Option AtData) (ready : ReadyData) (later : List RootEvent) (client : ℤ) (world : WorldData) (ask : Ask) (out : OutData) (after : WorldData)
       → ready ≡ Ok at → RepliesIn client ready (at_events later world) ask out after
-      → (calls : List CallNow) × Accepts ask at world.shelf (world.follows client) out calls × (after.shelf ≡ after_all calls world.shelf)
+      → (calls : List CallNow) × Accepts false ask at world.shelf (world.follows client) out calls × (after.shelf ≡ after_all calls world.shelf)
   answered_at at ready later client world ask out after is (shelf, left, replies, same) =
-      let answers = subst (λ (r : ReadyData). Replies r ask (stand (Some world.shelf) (world.follows client)) out (stand (Some shelf) left)) is replies in
-      let it = answers_are_calls ask at world.shelf (world.follows client) out shelf left
-      (shown_answer ask at (world.follows client) left out world.shelf shelf answers) in
+      let answers = subst (λ (r : ReadyData). Replies false r ask (stand (Some world.shelf) (world.follows client)) out (stand (Some shelf) left)) is replies in
+      let it = answers_are_calls false ask at world.shelf (world.follows client) out shelf left
+      (shown_answer false ask at (world.follows client) left out world.shelf shelf answers) in
       (it.0, it.1, ap (λ w. w.shelf) same ∙ it.2)
 
   -- an ask that was refused before
   refused_by : (fault : CrawlFault) (ready : ReadyData) (later : List RootEvent) (client : ℤ) (world : WorldData) (ask : Ask) (out : OutData) (after : WorldData)
       → ready ≡ Err fault → RepliesIn client ready (at_events later world) ask out after → MayRefuse (crawl_refusal fault) out × (after.shelf ≡ world.shelf)
   refused_by fault ready later client world ask out after is (shelf, left, replies, same) =
-      let it = subst (λ (r : ReadyData). Replies r ask (stand (Some world.shelf) (world.follows client)) out (stand (Some shelf) left)) is replies in
+      let it = subst (λ (r : ReadyData). Replies false r ask (stand (Some world.shelf) (world.follows client)) out (stand (Some shelf) left)) is replies in
       (it.0, ap (λ w. w.shelf) same ∙ some_same (ap (λ (s : StandData). s.shelf) it.1))
 
   -- the reply to an ask

@@ -1,5 +1,5 @@
 -- The programs on a shelf of a world are those that asks handed in.
-use Rattle.std.proofs.Common.{◌≡◌, ◌⊎◌, ℕ, ℤ, List, [], ◌∷◌, ◌++◌, Option, Some, None, inl, inr, sym, ap, subst, ◌∙◌}
+use Rattle.std.proofs.Common.{◌≡◌, ◌⊎◌, ℕ, ℤ, false, List, [], ◌∷◌, ◌++◌, Option, Some, None, inl, inr, sym, ap, subst, ◌∙◌}
 use Rattle.wq_code.specs.declared.raw.Raw.{Raw}
 use Rattle.wq_crawl.specs.declared.fault.CrawlFault.{CrawlFault}
 use Rattle.wq_live.specs.Table.{RootView, TableData, root_by_text}
@@ -28,8 +28,8 @@ module _ (added_are_asked : AddedAreAsked) (hand_in_valid : AsksHandInValid) (ra
   -- a program that the calls of an ask add
   at_end : (number : Option ℕ) (table : TableData) (client : ℤ) (world : WorldData) (ask : Ask) (out : OutData) (calls : List CallNow)
       → AcceptsAt number table client world ask out calls → HandsInValid ask → AddsOne raw calls → IsValid raw
-  at_end None table client world ask out calls accepts good one = handed ask (added_are_asked ask _ world.shelf (world.follows client) out calls raw accepts one) good
-  at_end (Some number) table client world ask out calls (inl accepts) good one = handed ask (added_are_asked ask _ world.shelf (world.follows client) out calls raw accepts one) good
+  at_end None table client world ask out calls accepts good one = handed ask (added_are_asked false ask _ world.shelf (world.follows client) out calls raw accepts one) good
+  at_end (Some number) table client world ask out calls (inl accepts) good one = handed ask (added_are_asked false ask _ world.shelf (world.follows client) out calls raw accepts one) good
   at_end (Some number) table client world ask out calls (inr (may, none)) good one = absurd (subst (AddsOne raw) none one)
 
   unless : (fault : Option CrawlFault) (table : TableData) (client : ℤ) (world : WorldData) (ask : Ask) (out : OutData) (calls : List CallNow)

@@ -93,7 +93,7 @@ follows_still client left world code next stands now other =
 pub answers_well : (before : WorldData) (client : ℤ) (ask : Ask) (ready : ReadyData) (later : List RootEvent) (from shelf : ShelfNow) (had : List Client)
     (left : List SubscriptionData) (out : OutData) (code : World) → before.shelf ≡ from
     → ((other : ℤ) → before.follows other ≡ follows_in other had) → Meets (need_of ask) before.run before.refused before.events ready later
-    → Replies ready ask (stand (Some from) (follows_in client had)) out (stand (Some shelf) left)
+    → Replies false ready ask (stand (Some from) (follows_in client had)) out (stand (Some shelf) left)
     → FollowsNow client (kept out.goes_on left) had code.clients.items → before.run ≡ run_data code.views.run
     → IsTableOf later code.views.table → shelf ≡ shelf_data code.shelf → before.runs ≡ runs_data code.runs
     → None ≡ option_map refused_data code.views.refused → code.spent ≡ false
@@ -107,8 +107,8 @@ answers_well before client ask ready later from shelf had left out code held fol
     (
       shelf,
       left,
-      subst (λ f. Replies ready ask (stand (Some before.shelf) f) out (stand (Some shelf) left)) (sym (follows client))
-          (subst (λ s. Replies ready ask (stand (Some s) (follows_in client had)) out (stand (Some shelf) left)) (sym held) replies),
+      subst (λ f. Replies false ready ask (stand (Some before.shelf) f) out (stand (Some shelf) left)) (sym (follows client))
+          (subst (λ s. Replies false ready ask (stand (Some s) (follows_in client had)) out (stand (Some shelf) left)) (sym held) replies),
       refl,
     ),
   ),

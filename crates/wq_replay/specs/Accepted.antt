@@ -1,7 +1,7 @@
 -- The accepted calls of the shelf for the happenings in a world. The shelf of the world is the
 -- result of these calls.
 -- It is this server's own.
-use Rattle.std.specs.Prelude.{◌≡◌, ◌⊎◌, List, [], ◌∷◌, ◌++◌, Option, Some, None, ℕ, ℤ}
+use Rattle.std.specs.Prelude.{◌≡◌, ◌⊎◌, List, [], ◌∷◌, ◌++◌, false, Option, Some, None, ℕ, ℤ}
 use Rattle.wq_clock.specs.Run.{RunData, instance_of}
 use Rattle.wq_live.specs.Table.{RootView, TableData, IsTableOf, root_by_text}
 use Rattle.wq_registry.specs.History.{adds_root, after_all}
@@ -25,9 +25,10 @@ use Rattle.wq_replay.specs.World.{ended, SentData, new_world, root_text}
 -- memory ran out over that end, there are none
 abbrev pub AcceptsAt : Option ℕ → TableData → ℤ → WorldData → Ask → OutData → List CallNow → Type 0
 AcceptsAt None table client world ask out calls =
-    Accepts ask (looked (need_of ask) world.run table) world.shelf (world.follows client) out calls
+    Accepts false ask (looked (need_of ask) world.run table) world.shelf (world.follows client)
+    out calls
 AcceptsAt (Some number) table client world ask out calls =
-    Accepts ask (Some (at_end world.run number)) world.shelf (world.follows client) out calls
+    Accepts false ask (Some (at_end world.run number)) world.shelf (world.follows client) out calls
     ⊎ (MayRefuse NoMemory out × (calls ≡ []))
 
 -- these are the accepted calls of an ask: none, if its crawl or watching was refused

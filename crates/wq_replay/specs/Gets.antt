@@ -40,7 +40,7 @@ answered client shelf left world = record world {
 -- or its line is refused
 abbrev pub RepliesIn : ℤ → ReadyData → WorldData → Ask → OutData → WorldData → Type 0
 RepliesIn client ready world ask out after = (shelf : ShelfNow) × (left : List SubscriptionData)
-    × Replies ready ask (stand (Some world.shelf) (world.follows client)) out
+    × Replies false ready ask (stand (Some world.shelf) (world.follows client)) out
     (stand (Some shelf) left)
     × (after ≡ answered client shelf (kept out.goes_on left) world)
 

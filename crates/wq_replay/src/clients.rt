@@ -1,5 +1,5 @@
 //! The clients of a world, each with its session. One that has no subscription is not kept.
-ghost use Rattle.std.specs.Prelude.{◌≡◌, ◌++◌, ◌≤◌, ◌<◌, List, IfNone, IfOk, IfSome, OnOk, Some};
+ghost use Rattle.std.specs.Prelude.{◌≡◌, ◌++◌, ◌≤◌, ◌<◌, List, IfNone, IfOk, IfSome, OnOk, Some, false};
 ghost use Rattle.std.specs.Prelude.{length, map, option_map, position, vec_capacity, vec_len};
 ghost use Rattle.std.specs.List.{insert};
 ghost use Rattle.wq_follow.specs.Followed.{subscription_data};
@@ -36,14 +36,14 @@ pub(crate) fn answer<V: Views + Drop>(
 ) -> Result<(V, Out), AllocError>
     ensures { IfOk result (λ it. (ready : ReadyData) × (left : List SubscriptionData)
         × V.readies views (need_of ask) ready it.0
-        × Replies ready ask
+        × Replies false ready ask
         (stand (Some (shelf_data shelf.old)) (follows_in number clients.old.items))
         it.1 (stand (Some (shelf_data shelf.new)) left)
         × FollowsNow number (kept (it.1).goes_on left) clients.old.items clients.new.items) }
 {
     clients.reserve(1)?;
     let mut session = take_out(clients, alloc, number);
-    let (views, out) = session.answer(&Alone {}, alloc, ask, views, shelf);
+    let (views, out) = session.answer(&Alone {}, ask, views, shelf);
     if out.goes_on() {
         put_back(clients, number, session);
     }
@@ -65,7 +65,7 @@ pub(crate) fn idle(
 {
     clients.reserve(1)?;
     let mut session = take_out(clients, alloc, number);
-    let out = session.idle(alloc, root, at);
+    let out = session.idle(root, at);
     put_back(clients, number, session);
     Ok(out)
 }

@@ -101,7 +101,7 @@ fn needed<'a>(
             root: Text::copied(alloc, name)?,
             seen: listed(tree, name),
         })),
-        Need::Watch(name) => Ok(Some(Happening::Watch {
+        Need::Open(name) => Ok(Some(Happening::Watch {
             root: Text::copied(alloc, name)?,
             seen: listed(tree, name),
         })),

@@ -159,7 +159,7 @@ fn crawl(alloc: Global, world: &mut World, tree: &Pass) -> Result<(), AllocError
         root,
         seen: Ok(tree),
     })?;
-    world.play(alloc, happenings)?;
+    world.play(happenings)?;
     Ok(())
 }
 
@@ -199,7 +199,7 @@ fn hear<W: Write>(
         (W.contents writer.old) (W.contents writer.new) result stage.new }
 {
     let happenings = happenings(alloc, &stage.tree, client, ask)?;
-    let sent = stage.world.play(alloc, happenings)?;
+    let sent = stage.world.play(happenings)?;
     send(alloc, writer, &sent)
 }
 
@@ -214,7 +214,7 @@ fn rest<W: Write>(
         → TakesTurn at (rests client)
         (W.contents writer.old) (W.contents writer.new) result stage.new }
 {
-    let numbers = stage.world.numbers(alloc, client)?;
+    let numbers = stage.world.numbers(client)?;
     let moments = moments(alloc, client, &numbers)?;
     happen(alloc, stage, writer, moments)
 }
@@ -274,7 +274,7 @@ fn happen<W: Write>(
         → TakesAll at (map happening_data happenings.entry.items)
         (W.contents writer.old) (W.contents writer.new) result stage.new }
 {
-    let sent = stage.world.play(alloc, happenings)?;
+    let sent = stage.world.play(happenings)?;
     send(alloc, writer, &sent)?;
     Ok(true)
 }

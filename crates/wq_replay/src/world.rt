@@ -32,7 +32,7 @@ use wq_crawl::{CrawlFault, Place, Refused, TableViews, place_for};
 use wq_follow::Trigger;
 use wq_live::RootTable;
 use wq_registry::{Cache, Shelf};
-use wq_session::{Out, round};
+use wq_session::{Out, round_ahead};
 use wq_view::{Pass, ViewFault};
 
 /// A world in which clients ask about roots.
@@ -46,6 +46,7 @@ pub struct World {
     pub(crate) runs: RunSet,
     /// Whether memory ran out in a call, so that every later call is refused.
     pub(crate) spent: bool,
+    pub(crate) alloc: Global,
 }
 
 /// The root of a new world.
@@ -67,6 +68,7 @@ impl World {
                 clients: Vec::new(alloc),
                 runs: RunSet::new(alloc),
                 spent: false,
+                alloc,
             }),
             Err(_) => Err(AllocError),
         }
@@ -80,11 +82,7 @@ impl World {
     /// # Errors
     /// Memory ran out for a view, for the place of a client, or for the list of the lines. From then on every call is
     /// refused.
-    pub fn play(
-        &mut self,
-        alloc: Global,
-        happenings: Vec<Happening<'_>>,
-    ) -> Result<Vec<Sent>, AllocError>
+    pub fn play(&mut self, happenings: Vec<Happening<'_>>) -> Result<Vec<Sent>, AllocError>
         // For every world that this one means:
         ensures runs { (before : WorldData) → Stands before self.old → IfOk result (λ sent.
             (after : WorldData) × Runs before (map happening_data happenings.entry.items)
@@ -100,7 +98,7 @@ impl World {
         if self.spent {
             return Err(AllocError);
         }
-        let sent = self.play_all(alloc, happenings);
+        let sent = self.play_all(happenings);
         if sent.is_err() {
             self.spent = true;
         }
@@ -108,15 +106,12 @@ impl World {
     }
 
     /// Plays these happenings in turn, if memory suffices.
-    fn play_all(
-        &mut self,
-        alloc: Global,
-        happenings: Vec<Happening<'_>>,
-    ) -> Result<Vec<Sent>, AllocError>
+    fn play_all(&mut self, happenings: Vec<Happening<'_>>) -> Result<Vec<Sent>, AllocError>
         ensures { (before : WorldData) → Stands before self.old → IfOk result (λ sent.
             (after : WorldData) × Runs before (map happening_data happenings.entry.items)
             (all_sent sent.items) after × Stands after self.new) }
     {
+        let alloc = self.alloc;
         let mut sent = Vec::new(alloc);
         for happening in happenings {
             if let Some(said) = self.happen(alloc, happening)? {
@@ -291,11 +286,11 @@ impl World {
     }
 
     /// The numbers of the roots of a client's subscriptions, each once, ascending.
-    pub fn numbers(&self, alloc: Global, client: i64) -> Result<Vec<u64>, AllocError>
+    pub fn numbers(&self, client: i64) -> Result<Vec<u64>, AllocError>
         ensures { (before : WorldData) → Stands before self.now → IfOk result (λ numbers.
             numbers.items ≡ root_numbers_of (before.follows client)) }
     {
-        clients::numbers(&self.clients, alloc, client)
+        clients::numbers(&self.clients, self.alloc, client)
     }
 
     /// Has a round of the triggers of a root, in which the launcher gives these answers to the starts in turn. A start
@@ -320,7 +315,7 @@ impl World {
         let instance = self.views.run.instance(number);
         let runs = mem::replace(&mut self.runs, RunSet::new(alloc));
         let mut launcher = MemoryLauncher::new(alloc, runs, answers);
-        round(alloc, &instance, view, &mut self.shelf, &[], &mut launcher);
+        round_ahead(alloc, &instance, view, &mut self.shelf, &[], &mut launcher);
         if launcher.spent {
             return Err(AllocError);
         }

@@ -4,3 +4,4 @@ mod Tokens
 mod RowTexts
 mod Longs
 mod WrittenRows
+mod Searches

@@ -8,4 +8,5 @@ pub mod Rows
 pub mod Long
 pub mod Answer
 pub mod Following
+pub mod Search
 pub mod Law

@@ -1,14 +1,16 @@
 //! Which files a program keeps, found before someone asks for it.
-ghost use Rattle.std.specs.Prelude.{◌≡◌, ◌<◌, ◌≤◌, All, IfOk, IfSome, List, filter, length};
+ghost use Rattle.std.specs.Prelude.{◌≡◌, ◌<◌, ◌≤◌, All, IfErr, IfOk, IfSome, List, filter, length};
 ghost use Rattle.wq_eval.specs.Answer.{says_yes};
 ghost use Rattle.wq_reply.specs.Ahead.{IsAheadAt};
+ghost use Rattle.wq_reply.specs.Search.{MayEnd};
 ghost use Rattle.wq_view.specs.Limit.{max_records};
 ghost use Rattle.wq_view.specs.Position.{passes_at};
 ghost use Rattle.wq_record.specs.RecordData.{RecordData};
 
-use crate::crew::{Alone, Crew};
+use crate::crew::{Alone, Crew, found};
 use std::alloc::{AllocError, Global};
 use std::sync::Arc;
+use wq_base::Unanswered;
 use wq_clock::Bound;
 use wq_gen::candidates;
 use wq_term::Generators;
@@ -44,7 +46,7 @@ impl Ahead {
             glob: None,
         };
         let positions = candidates(alloc, view, &changed)?;
-        let kept = kept(&Alone {}, alloc, &program, view, &positions, None)?;
+        let kept = found(kept(&Alone {}, alloc, &program, view, &positions, None))?;
         Ok(Ahead {
             program,
             positions,
@@ -75,12 +77,13 @@ pub(crate) fn kept<C: Crew>(
     view: &View,
     positions: &[u32],
     ahead: Option<&Ahead>,
-) -> Result<Vec<u32>, AllocError>
+) -> Result<Vec<u32>, Unanswered>
     requires within { All (λ i. i < length view.now.records) positions.now }
     requires count { length positions.now ≤ max_records }
     requires ahead { IfSome ahead (λ ahead. IsAheadAt view.now.records ahead.now) }
-    ensures { IfOk result (λ kept. kept.items
+    ensures kept { IfOk result (λ kept. kept.items
         ≡ filter (passes_at (says_yes program.now) view.now.records) positions.now) }
+    ensures ends { IfErr result (MayEnd C.may_go) }
 {
     if positions.is_empty() {
         return Ok(Vec::new(alloc));
@@ -88,7 +91,7 @@ pub(crate) fn kept<C: Crew>(
     if let Some(ahead) = ahead
         && let Some(kept) = ahead.kept_of(program, positions)
     {
-        return Vec::from_slice(alloc, kept);
+        return Ok(Vec::from_slice(alloc, kept)?);
     }
     let opened = program.open(alloc)?;
     crew.filter(alloc, opened.program(), view, positions)

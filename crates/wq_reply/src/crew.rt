@@ -1,10 +1,11 @@
 //! The crew that finds the files of a query and prints its reply: the thread that asks alone, or several threads.
-ghost use Rattle.std.specs.Prelude.{◌≡◌, ◌<◌, ◌≤◌, All, IfOk, MatchResult, Ok, filter, is_err, length, true};
+ghost use Rattle.std.specs.Prelude.{◌≡◌, ◌<◌, ◌≤◌, All, IfErr, IfOk, MatchResult, Ok, false, filter, is_err, length, true};
 ghost use Rattle.wq_base.specs.Limit.{AreFew};
 ghost use Rattle.wq_eval.specs.Answer.{says_yes};
 ghost use Rattle.wq_gen.specs.Candidate.{is_candidate};
 ghost use Rattle.wq_reply.specs.Listing.{AreWithin};
 ghost use Rattle.wq_reply.specs.Rows.{IsPrinted};
+ghost use Rattle.wq_reply.specs.Search.{MayEnd};
 ghost use Rattle.wq_view.specs.Limit.{max_records};
 ghost use Rattle.wq_view.specs.Position.{passes_at, positions_of};
 
@@ -29,13 +30,17 @@ const MIN_FOR_WORKER: usize = 4096;
 
 /// The crew that finds the files of a query and prints its reply. No answer depends on it.
 pub trait Crew {
-    ghost use Rattle.std.specs.Prelude.{◌≡◌, ◌<◌, ◌≤◌, All, IfOk, filter, length};
+    ghost use Rattle.std.specs.Prelude.{◌≡◌, ◌<◌, ◌≤◌, All, Bool, IfErr, IfOk, filter, length};
     ghost use Rattle.wq_eval.specs.Answer.{says_yes};
     ghost use Rattle.wq_gen.specs.Candidate.{is_candidate};
     ghost use Rattle.wq_reply.specs.Listing.{AreWithin};
     ghost use Rattle.wq_reply.specs.Rows.{IsPrinted};
+    ghost use Rattle.wq_reply.specs.Search.{MayEnd};
     ghost use Rattle.wq_view.specs.Limit.{max_records};
     ghost use Rattle.wq_view.specs.Position.{passes_at, positions_of};
+
+    // Whether the asker may go before it has the answer.
+    ghost may_go: { Bool };
 
     /// The positions of the candidates, ascending, each once ([`candidates`](wq_gen::candidates)).
     fn candidates(
@@ -43,9 +48,10 @@ pub trait Crew {
         alloc: Global,
         view: &View,
         generators: &Generators,
-    ) -> Result<Vec<u32>, AllocError>
-        ensures { IfOk result (λ found. found.items
-            ≡ positions_of (is_candidate generators.now) view.now.records) };
+    ) -> Result<Vec<u32>, Unanswered>
+        ensures found { IfOk result (λ found. found.items
+            ≡ positions_of (is_candidate generators.now) view.now.records) }
+        ensures ends { IfErr result (MayEnd may_go) };
 
     /// The positions of those files for which the program answers yes, in the order in which they are given.
     fn filter(
@@ -54,11 +60,12 @@ pub trait Crew {
         program: &Program,
         view: &View,
         positions: &[u32],
-    ) -> Result<Vec<u32>, AllocError>
+    ) -> Result<Vec<u32>, Unanswered>
         requires within { All (λ i. i < length view.now.records) positions.now }
         requires count { length positions.now ≤ max_records }
-        ensures { IfOk result (λ kept. kept.items
-            ≡ filter (passes_at (says_yes program.now) view.now.records) positions.now) };
+        ensures kept { IfOk result (λ kept. kept.items
+            ≡ filter (passes_at (says_yes program.now) view.now.records) positions.now) }
+        ensures ends { IfErr result (MayEnd may_go) };
 
     /// Whether a list of so many files is long: it is printed while it is sent.
     fn prints_later(&self, files: usize) -> bool;
@@ -74,18 +81,22 @@ pub trait Crew {
         ensures { All (λ one. IfOk one (IsPrinted rows.now)) result.items };
 }
 
-/// The thread that asks, alone.
+/// The thread that asks, alone. Its asker waits for each answer.
 #[derive(Drop)]
 pub struct Alone {}
 
 impl Crew for Alone {
+    ghost use Rattle.std.specs.Prelude.{false};
+
+    ghost may_go = { false };
+
     fn candidates(
         &self,
         alloc: Global,
         view: &View,
         generators: &Generators,
-    ) -> Result<Vec<u32>, AllocError> {
-        candidates(alloc, view, generators)
+    ) -> Result<Vec<u32>, Unanswered> {
+        Ok(candidates(alloc, view, generators)?)
     }
 
     fn filter(
@@ -94,8 +105,8 @@ impl Crew for Alone {
         program: &Program,
         view: &View,
         positions: &[u32],
-    ) -> Result<Vec<u32>, AllocError> {
-        filter(alloc, program, view, positions)
+    ) -> Result<Vec<u32>, Unanswered> {
+        Ok(filter(alloc, program, view, positions)?)
     }
 
     fn prints_later(&self, _files: usize) -> bool {
@@ -117,8 +128,7 @@ impl Crew for Alone {
 }
 
 /// Several threads, if there is enough to do for each: they find files if there are 16,384 candidates or more, and print
-/// if as many files are to be listed. Each has at least 4,096 of them. If the asker goes they find none, as if memory had
-/// run out.
+/// if as many files are to be listed. Each has at least 4,096 of them. If the asker goes, they give up.
 #[derive(Drop)]
 pub struct Several<'a, R: Threads, A: Asker> {
     /// The handle that starts the threads.
@@ -147,27 +157,33 @@ impl<R: Threads, A: Asker> Several<'_, R, A> {
 }
 
 impl<R: Threads, A: Asker> Crew for Several<'_, R, A> {
+    ghost use Rattle.std.specs.Prelude.{true};
+
+    ghost may_go = { true };
+
+    #[tactic(auto, using(crate::proofs::Searches::may_end))]
     fn candidates(
         &self,
         alloc: Global,
         view: &View,
         generators: &Generators,
-    ) -> Result<Vec<u32>, AllocError> {
-        found(candidates_for(alloc, self.asker, view, generators))
+    ) -> Result<Vec<u32>, Unanswered> {
+        candidates_for(alloc, self.asker, view, generators)
     }
 
+    #[tactic(auto, using(crate::proofs::Searches::may_end))]
     fn filter(
         &self,
         alloc: Global,
         program: &Program,
         view: &View,
         positions: &[u32],
-    ) -> Result<Vec<u32>, AllocError> {
+    ) -> Result<Vec<u32>, Unanswered> {
         let count = self.count_for(positions.len());
         if count == 1 {
-            return found(filter_for(alloc, self.asker, program, view, positions));
+            return filter_for(alloc, self.asker, program, view, positions);
         }
-        found(filter_workers_for(
+        filter_workers_for(
             self.rt,
             alloc,
             &OpenGate {},
@@ -177,7 +193,7 @@ impl<R: Threads, A: Asker> Crew for Several<'_, R, A> {
             program,
             view,
             positions,
-        ))
+        )
     }
 
     fn prints_later(&self, files: usize) -> bool {
@@ -205,12 +221,14 @@ impl<R: Threads, A: Asker> Crew for Several<'_, R, A> {
     }
 }
 
-/// What a search found. Nobody reads the reply of an asker that has gone, so it may say that memory ran out.
-fn found(searched: Result<Vec<u32>, Unanswered>) -> Result<Vec<u32>, AllocError>
+/// The result of a search whose asker waits for each answer.
+pub(crate) fn found(searched: Result<Vec<u32>, Unanswered>) -> Result<Vec<u32>, AllocError>
+    requires { IfErr searched (MayEnd false) }
     ensures { MatchResult searched (λ places. result ≡ Ok places) (λ _. is_err result ≡ true) }
 {
     match searched {
         Ok(places) => Ok(places),
-        Err(_) => Err(AllocError),
+        Err(Unanswered::NoMemory) => Err(AllocError),
+        Err(Unanswered::Gone) => unreachable!(),
     }
 }

@@ -7,7 +7,7 @@ ghost use Rattle.wq_reply.specs.Plan.{planned};
 ghost use Rattle.wq_view.specs.Limit.{max_records};
 ghost use Rattle.wq_view.specs.Position.{passes_at, positions_of, records_at};
 
-use crate::crew::{Alone, PIECE};
+use crate::crew::{Alone, PIECE, found};
 use crate::listing::{candidates_of, is_empty, listed_places};
 use crate::plan::Plan;
 use std::alloc::{AllocError, Global};
@@ -55,7 +55,7 @@ fn matching_by_workers<R: Threads, G: Gate + Sync>(
     ensures { IfOk result (λ places. places.items
         ≡ positions_of (is_match (planned plan.now)) view.now.records) }
 {
-    let places = candidates_of(&Alone {}, alloc, plan, view)?;
+    let places = found(candidates_of(&Alone {}, alloc, plan, view))?;
     kept_by_workers(rt, alloc, gate, workers, &plan.program, view, &places)
 }
 

@@ -1,5 +1,5 @@
 //! The files that a plan lists: candidates for which its program answers yes.
-ghost use Rattle.std.specs.Prelude.{◌≡◌, ◌≤◌, IfOk, IfSome, filter, length};
+ghost use Rattle.std.specs.Prelude.{◌≡◌, ◌≤◌, IfErr, IfOk, IfSome, filter, length};
 ghost use Rattle.wq_gen.specs.Candidate.{is_candidate};
 ghost use Rattle.wq_view.specs.Limit.{max_records};
 ghost use Rattle.wq_view.specs.Position.{passes_at, positions_of, records_at};
@@ -7,11 +7,13 @@ ghost use Rattle.wq_reply.specs.Ahead.{IsAheadAt};
 ghost use Rattle.wq_reply.specs.Listing.{AreWithin, files_of, generators_of};
 ghost use Rattle.wq_reply.specs.Listing.{lists_nothing, is_listed, is_match, is_new};
 ghost use Rattle.wq_reply.specs.Plan.{planned};
+ghost use Rattle.wq_reply.specs.Search.{MayEnd};
 
 use crate::ahead::{Ahead, kept};
 use crate::crew::Crew;
 use crate::plan::Plan;
 use std::alloc::{AllocError, Global};
+use wq_base::Unanswered;
 use wq_clock::Bound;
 use wq_term::Generators;
 use wq_view::{Record, View, positions_are_there, positions_filter};
@@ -23,12 +25,13 @@ pub(crate) fn listed<C: Crew>(
     plan: &Plan,
     view: &View,
     ahead: Option<&Ahead>,
-) -> Result<Vec<u32>, AllocError>
+) -> Result<Vec<u32>, Unanswered>
     requires { IfSome ahead (λ ahead. IsAheadAt view.now.records ahead.now) }
     ensures within { IfOk result (λ places. AreWithin view.now.records places.items) }
     ensures count { IfOk result (λ places. length places.items ≤ max_records) }
     ensures files { IfOk result (λ places. records_at view.now.records places.items
         ≡ files_of (planned plan.now) view.now.records) }
+    ensures ends { IfErr result (MayEnd C.may_go) }
 {
     if is_empty(plan) {
         return Ok(Vec::new(alloc));
@@ -37,7 +40,8 @@ pub(crate) fn listed<C: Crew>(
     view.len();
     positions_filter();
     positions_are_there();
-    listed_places(alloc, plan, view, matching(crew, alloc, plan, view, ahead)?)
+    let places = matching(crew, alloc, plan, view, ahead)?;
+    Ok(listed_places(alloc, plan, view, places)?)
 }
 
 /// The places of the files that pass the plan's filter, even if the plan is to list nothing. `places`
@@ -68,10 +72,11 @@ fn matching<C: Crew>(
     plan: &Plan,
     view: &View,
     ahead: Option<&Ahead>,
-) -> Result<Vec<u32>, AllocError>
+) -> Result<Vec<u32>, Unanswered>
     requires { IfSome ahead (λ ahead. IsAheadAt view.now.records ahead.now) }
-    ensures { IfOk result (λ places. places.items
+    ensures places { IfOk result (λ places. places.items
         ≡ positions_of (is_match (planned plan.now)) view.now.records) }
+    ensures ends { IfErr result (MayEnd C.may_go) }
 {
     let places = candidates_of(crew, alloc, plan, view)?;
     kept(crew, alloc, &plan.program, view, &places, ahead)
@@ -83,11 +88,12 @@ pub(crate) fn candidates_of<C: Crew>(
     alloc: Global,
     plan: &Plan,
     view: &View,
-) -> Result<Vec<u32>, AllocError>
+) -> Result<Vec<u32>, Unanswered>
     ensures places { IfOk result (λ places. places.items
         ≡ positions_of (is_candidate (generators_of (planned plan.now))) view.now.records) }
     ensures within { IfOk result (λ places. AreWithin view.now.records places.items) }
     ensures count { IfOk result (λ places. length places.items ≤ max_records) }
+    ensures ends { IfErr result (MayEnd C.may_go) }
 {
     // Only the proof uses the contract of this call, which is about the length of a view.
     view.len();

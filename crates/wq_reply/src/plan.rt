@@ -4,7 +4,7 @@ ghost use Rattle.wq_term.specs.Expr.{term_of};
 ghost use Rattle.wq_reply.specs.Meaning.{KeepsMeasure, SaysMeaning};
 
 use crate::ahead::Ahead;
-use crate::crew::Alone;
+use crate::crew::{Alone, found};
 use crate::listing::listed;
 use std::alloc::{AllocError, Global};
 use std::snapshot::Snapshot;
@@ -133,7 +133,7 @@ impl Plan {
         ensures files { IfOk result (λ places. records_at view.now.records places.items
             ≡ files_of (planned self.now) view.now.records) }
     {
-        listed(&Alone {}, alloc, self, view, ahead)
+        found(listed(&Alone {}, alloc, self, view, ahead))
     }
 
     /// Another share of the plan's program.

@@ -1,5 +1,5 @@
 //! The text of the reply to a query.
-ghost use Rattle.std.specs.Prelude.{◌≡◌, IfOk};
+ghost use Rattle.std.specs.Prelude.{◌≡◌, IfErr, IfOk};
 ghost use Rattle.serde_json.specs.Written.{compact_text};
 ghost use Rattle.wq_clock.specs.Instance.{instance_data};
 ghost use Rattle.wq_reply.specs.Answer.{text_in};
@@ -7,6 +7,7 @@ ghost use Rattle.wq_reply.specs.Plan.{planned};
 ghost use Rattle.wq_reply.specs.Listing.{AreWithin, files_of};
 ghost use Rattle.wq_view.specs.Position.{records_at};
 ghost use Rattle.wq_reply.specs.Reply.{reply_of};
+ghost use Rattle.wq_reply.specs.Search.{MayEnd};
 
 use crate::crew::Crew;
 use crate::form::Form;
@@ -17,6 +18,7 @@ use crate::printer::print_reply;
 use crate::room::{room_of, with_room};
 use json::Writer;
 use std::alloc::{AllocError, Global};
+use wq_base::Unanswered;
 use wq_clock::Instance;
 use wq_view::View;
 
@@ -37,9 +39,10 @@ pub fn answer_text<C: Crew>(
     plan: &Plan,
     instance: &Instance,
     view: &View,
-) -> Result<ReplyText, AllocError>
-    ensures { IfOk result (λ text. text_in text
+) -> Result<ReplyText, Unanswered>
+    ensures text { IfOk result (λ text. text_in text
         ≡ compact_text (reply_of (planned plan.now) (instance_data instance.now) view.now)) }
+    ensures ends { IfErr result (MayEnd C.may_go) }
 {
     let places = listed(crew, alloc, plan, view, None)?;
     if places.is_empty() || !crew.prints_later(places.len()) {

@@ -10,7 +10,7 @@ ghost use Rattle.wq_reply.specs.Plan.{planned};
 ghost use Rattle.wq_reply.specs.Reply.{reply_of};
 ghost use Rattle.wq_view.specs.Position.{records_at};
 
-use crate::crew::Alone;
+use crate::crew::{Alone, found};
 use crate::gated::listed_by_workers;
 use crate::listing::listed;
 use crate::plan::Plan;
@@ -37,7 +37,7 @@ pub fn answer(
     ensures { IfOk result (λ v. data_of v
         ≡ reply_of (planned plan.now) (instance_data instance.now) view.now) }
 {
-    let places = listed(&Alone {}, alloc, plan, view, None)?;
+    let places = found(listed(&Alone {}, alloc, plan, view, None))?;
     value_of(alloc, plan, instance, view, &places)
 }
 
@@ -55,7 +55,7 @@ pub fn answer_bytes(
         ≡ compact_text (reply_of (planned plan.now) (instance_data instance.now) view.now)
         ++ newline ∷ []) }
 {
-    let places = listed(&Alone {}, alloc, plan, view, None)?;
+    let places = found(listed(&Alone {}, alloc, plan, view, None))?;
     let mut line = text_of(alloc, plan, instance, view, &places)?;
     line.push(b'\n')?;
     Ok(line)

@@ -18,7 +18,7 @@ use Rattle.wq_registry.specs.ByName.{has_no_place}
 use Rattle.wq_registry.specs.Shelf.{root_has_no_place}
 use Rattle.wq_registry.specs.History.{adds_trigger, after_all, removes_trigger}
 use Rattle.wq_ask.specs.Program.{is_name}
-use Rattle.wq_session.specs.Out.{OutData, runs_out}
+use Rattle.wq_session.specs.Out.{EndsListing, OutData}
 use Rattle.wq_ask.specs.declared.ask.Ask.{Ask}
 use Rattle.wq_ask.specs.declared.ask.Ask.TheVariants.{Alone, OfRoot, OfShelf, Unwatch, Watch}
 use Rattle.wq_ask.specs.declared.ask.LoneAsk.{LoneAsk}
@@ -169,33 +169,33 @@ one_more [] None shelf = refl
 one_more [] (Some cursor) shelf = refl
 one_more (c ∷ cs) cursor shelf = one_more cs cursor _
 
-module _ (ask : Ask) (at : Option AtData) (shelf : ShelfNow) (follows : List SubscriptionData) where
+module _ (may_go : Bool) (ask : Ask) (at : Option AtData) (shelf : ShelfNow) (follows : List SubscriptionData) where
   -- the answer, by the result of the ask
   whole : (r : Result BegunData Refusal) → begun_ask ask at shelf ≡ r → Leads (calls_of ask at shelf) shelf r
-      → (calls : List CallNow) × Accepts ask at shelf follows (finished (or_refused r shelf).work at follows).out calls
+      → (calls : List CallNow) × Accepts may_go ask at shelf follows (finished (or_refused r shelf).work at follows).out calls
       × ((or_refused r shelf).shelf ≡ after_all calls shelf)
   whole (Ok b) is so = (calls_of ask at shelf, inl (b, is, refl, refl), so)
   whole (Err refusal) is so = ([], inr (inl (refusal, is, refl, refl)), refl)
 
-  -- memory that ran out over the files
+  -- an end without a reply, over the files
   unfinished : (r : Result BegunData Refusal) → begun_ask ask at shelf ≡ r → Leads (calls_of ask at shelf) shelf r
-      → (plan : PlanData) (cursor : Option Cursor) → (or_refused r shelf).work ≡ evaluates plan cursor
-      → (calls : List CallNow) × Accepts ask at shelf follows (runs_out None) calls
+      → (plan : PlanData) (cursor : Option Cursor) (out : OutData) → (or_refused r shelf).work ≡ evaluates plan cursor → EndsListing may_go None out
+      → (calls : List CallNow) × Accepts may_go ask at shelf follows out calls
       × (without_cursor cursor (or_refused r shelf).shelf ≡ after_all calls shelf)
-  unfinished (Ok b) is so plan cursor work = (
+  unfinished (Ok b) is so plan cursor out work ends = (
     calls_of ask at shelf ++ unset_calls cursor,
-    inr (inr (inr (b, plan, cursor, is, work, refl, refl))),
+    inr (inr (inr (b, plan, cursor, is, work, ends, refl))),
     ap (without_cursor cursor) so ∙ sym (one_more (calls_of ask at shelf) cursor shelf),
   )
-  unfinished (Err refusal) is so plan cursor work = absurd (cc work)
+  unfinished (Err refusal) is so plan cursor out work ends = absurd (cc work)
 
 -- the law
 pub answers_are_calls : AnswersAreCalls
-answers_are_calls ask at shelf follows out after left (inl is) =
-    let it = whole ask at shelf follows (begun_ask ask at shelf) refl (leads ask at shelf) in
-    subst (λ (a : AnswerData). (calls : List CallNow) × Accepts ask at shelf follows (a.done).out calls × (a.shelf ≡ after_all calls shelf)) is it
-answers_are_calls ask at shelf follows out after left (inr (inl (takes, short, same, stay))) =
+answers_are_calls may_go ask at shelf follows out after left (inl is) =
+    let it = whole may_go ask at shelf follows (begun_ask ask at shelf) refl (leads ask at shelf) in
+    subst (λ (a : AnswerData). (calls : List CallNow) × Accepts may_go ask at shelf follows (a.done).out calls × (a.shelf ≡ after_all calls shelf)) is it
+answers_are_calls may_go ask at shelf follows out after left (inr (inl (takes, short, same, stay))) =
     ([], inr (inr (inl (takes, short, refl))), same)
-answers_are_calls ask at shelf follows out after left (inr (inr (plan, cursor, work, short, same, stay))) =
-    let it = unfinished ask at shelf follows (begun_ask ask at shelf) refl (leads ask at shelf) plan cursor work in
-    (it.0, subst (λ o. Accepts ask at shelf follows o it.0) (sym short) it.1, same ∙ it.2)
+answers_are_calls may_go ask at shelf follows out after left (inr (inr (plan, cursor, work, ends, same, stay))) =
+    let it = unfinished may_go ask at shelf follows (begun_ask ask at shelf) refl (leads ask at shelf) plan cursor out work ends in
+    (it.0, it.1, same ∙ it.2)

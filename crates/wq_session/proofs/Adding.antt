@@ -98,10 +98,10 @@ asked raw (Alone what) (Some at) shelf one = absurd one
 
 -- the law
 pub added_are_asked : AddedAreAsked
-added_are_asked ask at shelf follows out calls raw (inl (begun, is, gave, same)) one = asked raw ask at shelf (subst (AddsOne raw) same one)
-added_are_asked ask at shelf follows out calls raw (inr (inl (refusal, is, gave, same))) one = absurd (subst (AddsOne raw) same one)
-added_are_asked ask at shelf follows out calls raw (inr (inr (inl (takes, gave, same)))) one = absurd (subst (AddsOne raw) same one)
-added_are_asked ask at shelf follows out calls raw (inr (inr (inr (begun, plan, cursor, is, work, gave, same)))) one =
+added_are_asked may_go ask at shelf follows out calls raw (inl (begun, is, gave, same)) one = asked raw ask at shelf (subst (AddsOne raw) same one)
+added_are_asked may_go ask at shelf follows out calls raw (inr (inl (refusal, is, gave, same))) one = absurd (subst (AddsOne raw) same one)
+added_are_asked may_go ask at shelf follows out calls raw (inr (inr (inl (takes, gave, same)))) one = absurd (subst (AddsOne raw) same one)
+added_are_asked may_go ask at shelf follows out calls raw (inr (inr (inr (begun, plan, cursor, is, work, gave, same)))) one =
     mine (one_of raw (calls_of ask at shelf) (unset_calls cursor) (subst (AddsOne raw) same one))
   where
     mine : AddsOne raw (calls_of ask at shelf) ⊎ AddsOne raw (unset_calls cursor) → (name : List ℕ) × (ask ≡ OfShelf (AddProgram name raw))

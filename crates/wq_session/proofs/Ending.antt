@@ -7,12 +7,12 @@ use Rattle.wq_view.specs.View.{ViewData}
 use Rattle.wq_registry.specs.Shelf.{cursor_unset}
 use Rattle.wq_follow.specs.Subscription.{SubscriptionData}
 use Rattle.wq_clock.specs.Instance.{InstanceData}
-use Rattle.wq_session.specs.Out.{settled, OutData, refuses, replies, runs_out, silence}
+use Rattle.wq_session.specs.Out.{settled, EndsListing, OutData, refuses, replies, runs_out, silence}
 use Rattle.wq_ask.specs.declared.refusal.Refusal.TheVariants.{TooManySubscriptions}
 use Rattle.wq_ask.specs.declared.ask.Ask.{Ask}
 use Rattle.wq_session.specs.declared.cursor.Cursor.{Cursor}
 use Rattle.wq_session.proofs.Follows.{followed_stays, is_followed}
-use Rattle.wq_session.specs.Answer.{AnswersAsk, Finishes, TakesAsk, AnswerData, DoneData, subscribing_at, subscribing_by, finished, following, giving, listed, unmade, without_cursor}
+use Rattle.wq_session.specs.Answer.{AnswersAsk, Finishes, TakesAsk, AnswerData, DoneData, subscribing_at, subscribing_by, finished, following, giving, listed, IsUnmade, without_cursor}
 use Rattle.wq_session.specs.Followed.{has_no_room}
 use Rattle.wq_crawl.specs.At.{AtData}
 use Rattle.wq_session.specs.At.{ShelfNow}
@@ -61,11 +61,18 @@ all_given : (out : OutData) → out.unset ≡ None → settled out ≡ out
 all_given out none =
     ap (λ cursor. record { reply = out.reply; lists = out.lists; goes_on = out.goes_on; shuts = out.shuts; unset = cursor }) (sym none)
 
-module _ (ask : Ask) (at : Option AtData) (shelf : ShelfNow) (follows : List SubscriptionData) where
+-- a listing without a reply names the cursor that was moved for it, and is one without it
+settled_ends : (may_go : Bool) (cursor : Option Cursor) (out : OutData) → EndsListing may_go cursor out
+    → EndsListing may_go None (settled out) × (out.unset ≡ cursor)
+settled_ends false cursor out ran = (ap settled ran, ap (λ (o : OutData). o.unset) ran)
+settled_ends true cursor out (inl ran) = (inl (ap settled ran), ap (λ (o : OutData). o.unset) ran)
+settled_ends true cursor out (inr left) = (inr (ap settled left), ap (λ (o : OutData). o.unset) left)
+
+module _ (may_go : Bool) (ask : Ask) (at : Option AtData) (shelf : ShelfNow) (follows : List SubscriptionData) where
   -- the whole of an answer
   whole : (work : WorkData) (after : ShelfNow) (out : OutData) (left : List SubscriptionData)
       → taken_ask ask at shelf ≡ record { work = work; shelf = after } → finished work at follows ≡ giving out left
-      → AnswersAsk ask at shelf follows (settled out) (without_cursor out.unset after) left
+      → AnswersAsk may_go ask at shelf follows (settled out) (without_cursor out.unset after) left
   whole work after out left is done =
       let none : out.unset ≡ None = ap (λ (d : DoneData). d.out.unset) (sym done) ∙ none_named work at follows in
       inl (ap (λ (b : BegunData). record { done = finished b.work at follows; shelf = b.shelf }) is
@@ -77,66 +84,73 @@ module _ (ask : Ask) (at : Option AtData) (shelf : ShelfNow) (follows : List Sub
       both o p s t same alike =
           ap (λ x. record { done = giving x left; shelf = s }) same ∙ ap (λ x. record { done = giving p left; shelf = x }) alike
 
-  -- memory ran out when files were listed
-  unlisted : (plan : PlanData) (cursor : Option Cursor) (after : ShelfNow)
-      → taken_ask ask at shelf ≡ record { work = evaluates plan cursor; shelf = after }
-      → AnswersAsk ask at shelf follows (runs_out None) (without_cursor cursor after) follows
-  unlisted plan cursor after is = inr (inr (
-    plan,
-    cursor,
-    ap (λ (b : BegunData). b.work) is,
-    refl,
-    ap (λ (b : BegunData). without_cursor cursor b.shelf) (sym is),
-    refl,
-  ))
+  -- files were to be listed, and memory ran out, or the client has gone
+  unlisted : (plan : PlanData) (cursor : Option Cursor) (after : ShelfNow) (out : OutData)
+      → taken_ask ask at shelf ≡ record { work = evaluates plan cursor; shelf = after } → EndsListing may_go cursor out
+      → AnswersAsk may_go ask at shelf follows (settled out) (without_cursor out.unset after) follows
+  unlisted plan cursor after out is ends =
+      let it = settled_ends may_go cursor out ends in inr (inr (
+        plan,
+        cursor,
+        ap (λ (b : BegunData). b.work) is,
+        it.0,
+        ap (λ c. without_cursor c after) it.1 ∙ ap (λ (b : BegunData). without_cursor cursor b.shelf) (sym is),
+        refl,
+      ))
 
   -- or when a reply was printed, or a subscription began or ended, for which the shelf stays
   unkept : (work : WorkData) (after : ShelfNow) → is_followed work ≡ true
       → taken_ask ask at shelf ≡ record { work = work; shelf = after }
-      → AnswersAsk ask at shelf follows (runs_out None) after follows
+      → AnswersAsk may_go ask at shelf follows (runs_out None) after follows
   unkept work after kind is =
       let it = followed_stays ask at shelf (subst (λ (b : BegunData). is_followed b.work ≡ true) (sym is) kind) in
       inr (inl (it.0, refl, ap (λ (b : BegunData). b.shelf) (sym is) ∙ it.1, refl))
 
+  -- the same of an output
+  so : (after : ShelfNow) (out given : OutData) → out ≡ given
+      → AnswersAsk may_go ask at shelf follows (settled given) (without_cursor given.unset after) follows
+      → AnswersAsk may_go ask at shelf follows (settled out) (without_cursor out.unset after) follows
+  so after out given same answers =
+      subst (λ (o : OutData). AnswersAsk may_go ask at shelf follows (settled o) (without_cursor o.unset after) follows) (sym same) answers
+
   -- or was told before
-  unmade_work : (work : WorkData) (after : ShelfNow) → taken_ask ask at shelf ≡ record { work = work; shelf = after }
-      → AnswersAsk ask at shelf follows (settled (unmade work)) (without_cursor (unmade work).unset after) follows
-  unmade_work (says out) after is = whole (says out) after (settled out) follows is refl
-  unmade_work (prints d) after is = unkept (prints d) after refl is
-  unmade_work (evaluates plan cursor) after is = unlisted plan cursor after is
-  unmade_work (begins s) after is = unkept (begins s) after refl is
-  unmade_work (drops number name) after is = unkept (drops number name) after refl is
+  unmade_work : (work : WorkData) (after : ShelfNow) (out : OutData) → taken_ask ask at shelf ≡ record { work = work; shelf = after }
+      → IsUnmade may_go work out → AnswersAsk may_go ask at shelf follows (settled out) (without_cursor out.unset after) follows
+  unmade_work (says given) after out is same = so after out (settled given) same (whole (says given) after (settled given) follows is refl)
+  unmade_work (prints d) after out is same = so after out (runs_out None) same (unkept (prints d) after refl is)
+  unmade_work (evaluates plan cursor) after out is ends = unlisted plan cursor after out is ends
+  unmade_work (begins s) after out is same = so after out (runs_out None) same (unkept (begins s) after refl is)
+  unmade_work (drops number name) after out is same = so after out (runs_out None) same (unkept (drops number name) after refl is)
 
   -- memory ran out before anything was done
   untaken : (after : ShelfNow) (out : OutData) (left : List SubscriptionData) → takes_memory ask ≡ true
-      → after ≡ shelf → Finishes (says (runs_out None)) at follows out left
-      → AnswersAsk ask at shelf follows (settled out) (without_cursor out.unset after) left
+      → after ≡ shelf → Finishes may_go (says (runs_out None)) at follows out left
+      → AnswersAsk may_go ask at shelf follows (settled out) (without_cursor out.unset after) left
   untaken after out left takes same (inl is) = of (ap (λ (d : DoneData). d.out) (sym is)) (ap (λ (d : DoneData). d.follows) (sym is))
     where
-      of : out ≡ settled (runs_out None) → left ≡ follows → AnswersAsk ask at shelf follows (settled out) (without_cursor out.unset after) left
-      of is stay = subst (λ (o : OutData). AnswersAsk ask at shelf follows (settled o) (without_cursor o.unset after) left) (sym is)
+      of : out ≡ settled (runs_out None) → left ≡ follows → AnswersAsk may_go ask at shelf follows (settled out) (without_cursor out.unset after) left
+      of is stay = subst (λ (o : OutData). AnswersAsk may_go ask at shelf follows (settled o) (without_cursor o.unset after) left) (sym is)
           (inr (inl (takes, refl, same, stay)))
   untaken after out left takes same (inr is) =
-      subst (λ (o : OutData). AnswersAsk ask at shelf follows (settled o) (without_cursor o.unset after) left) (sym is.0)
+      subst (λ (o : OutData). AnswersAsk may_go ask at shelf follows (settled o) (without_cursor o.unset after) left) (sym is.0)
       (inr (inl (takes, refl, same, is.1)))
 
   -- taking and then finishing gives the answer
   pub answered : (work : WorkData) (after : ShelfNow) (out : OutData) (left : List SubscriptionData)
-      → TakesAsk ask at shelf work after → Finishes work at follows out left
-      → AnswersAsk ask at shelf follows (settled out) (without_cursor out.unset after) left
+      → TakesAsk ask at shelf work after → Finishes may_go work at follows out left
+      → AnswersAsk may_go ask at shelf follows (settled out) (without_cursor out.unset after) left
   answered work after out left (inl is) (inl done) = whole work after out left is done
   answered work after out left (inl is) (inr done) =
-      subst (λ (l : List SubscriptionData). AnswersAsk ask at shelf follows (settled out) (without_cursor out.unset after) l) (sym done.1)
-      (subst (λ (o : OutData). AnswersAsk ask at shelf follows (settled o) (without_cursor o.unset after) follows) (sym done.0)
-      (unmade_work work after is))
+      subst (λ (l : List SubscriptionData). AnswersAsk may_go ask at shelf follows (settled out) (without_cursor out.unset after) l) (sym done.1)
+      (unmade_work work after out is done.0)
   answered work after out left (inr refused) done =
-      untaken after out left refused.0 refused.2 (subst (λ w. Finishes w at follows out left) refused.1 done)
+      untaken after out left refused.0 refused.2 (subst (λ w. Finishes may_go w at follows out left) refused.1 done)
 
   -- and if a cursor is named, it is unset
   pub answered_with : (work : WorkData) (after : ShelfNow) (out given : OutData) (left : List SubscriptionData)
-      (cursor : Cursor) (kept : ShelfNow) → TakesAsk ask at shelf work after → Finishes work at follows out left → given ≡ settled out
-      → out.unset ≡ Some cursor → kept ≡ cursor_unset cursor.root cursor.name after → AnswersAsk ask at shelf follows given kept left
+      (cursor : Cursor) (kept : ShelfNow) → TakesAsk ask at shelf work after → Finishes may_go work at follows out left → given ≡ settled out
+      → out.unset ≡ Some cursor → kept ≡ cursor_unset cursor.root cursor.name after → AnswersAsk may_go ask at shelf follows given kept left
   answered_with work after out given left cursor kept takes done is named unset =
       let same : kept ≡ without_cursor out.unset after = unset ∙ ap (λ c. without_cursor c after) (sym named) in
-      subst (λ (o : OutData). AnswersAsk ask at shelf follows o kept left) (sym is)
-      (subst (λ (s : ShelfNow). AnswersAsk ask at shelf follows (settled out) s left) (sym same) (answered work after out left takes done))
+      subst (λ (o : OutData). AnswersAsk may_go ask at shelf follows o kept left) (sym is)
+      (subst (λ (s : ShelfNow). AnswersAsk may_go ask at shelf follows (settled out) s left) (sym same) (answered work after out left takes done))

@@ -21,6 +21,7 @@ mod Polled
 mod Moments
 pub mod Rounds
 mod Listing
+mod NoFloat
 pub mod Reaching
 mod Staying
 mod Going

@@ -1,5 +1,5 @@
 -- Sessions and rounds at a shelf lead on from there, as accepted calls do.
-use Rattle.std.proofs.Common.{◌≡◌, ◌⊎◌, ℕ, List, [], ◌∷◌, ◌++◌, Option, Some, inl, inr, refl, sym, ap, subst, ◌∙◌}
+use Rattle.std.proofs.Common.{◌≡◌, ◌⊎◌, ℕ, false, List, [], ◌∷◌, ◌++◌, Option, Some, inl, inr, refl, sym, ap, subst, ◌∙◌}
 use Rattle.wq_clock.specs.Instance.{InstanceData}
 use Rattle.wq_code.specs.declared.raw.Raw.{Raw}
 use Rattle.wq_follow.specs.Launcher.{LauncherData}
@@ -58,12 +58,12 @@ module _ (answers_are_calls : AnswersAreCalls) (rounds_are_calls : RoundsAreCall
   by_act (takes ask at work) before after sockname first is (valid, taken) =
       let done = finished work at [] in
       let answers =
-      none_unset ask at [] done.follows work done.out (settled done.out) before after taken (inl refl) refl (none_named work at []) in
-      let it = answers_are_calls ask at before [] (settled done.out) after done.follows answers in
+      none_unset false ask at [] done.follows work done.out (settled done.out) before after taken (inl refl) refl (none_named work at []) in
+      let it = answers_are_calls false ask at before [] (settled done.out) after done.follows answers in
       record {
         calls = it.0;
         is = it.2;
-        valid = λ raw one. subst HandsInValid (added_are_asked ask at before [] (settled done.out) it.0 raw it.1 one).1 valid;
+        valid = λ raw one. subst HandsInValid (added_are_asked false ask at before [] (settled done.out) it.0 raw it.1 one).1 valid;
       }
   by_act (unsets root name) before after sockname first is unset = record {
     calls = unsets_cursor root name ∷ [];

@@ -1,5 +1,5 @@
 -- What was accepted of a session's events is the shelf at its end.
-use Rattle.std.proofs.Common.{◌≡◌, ℕ, List, [], ◌∷◌, ◌++◌, Option, Some, Ok, Err, inl, inr, append_assoc, append-nil, refl, sym, ap, subst, ◌∙◌}
+use Rattle.std.proofs.Common.{◌≡◌, ℕ, true, List, [], ◌∷◌, ◌++◌, Option, Some, Ok, Err, inl, inr, append_assoc, append-nil, refl, sym, ap, subst, ◌∙◌}
 use Rattle.wq_crawl.specs.Basis.{Basis}
 use Rattle.wq_registry.specs.History.{after_all}
 use Rattle.wq_session.specs.Out.{OutData}
@@ -20,16 +20,16 @@ use Rattle.wq_session.proofs.Reaching.{after_both}
 module _ (answers_are_calls : AnswersAreCalls) where
   -- an ask was answered
   answered : (ask : Ask) (at : Option AtData) (shelf : ShelfNow) (stand left : StandData) (out : OutData) → stand.shelf ≡ Some shelf
-      → AnswersAt stand ask at out left
-      → (calls : List CallNow) × Accepts ask at shelf stand.follows out calls × (left.shelf ≡ Some (after_all calls shelf))
+      → AnswersAt true stand ask at out left
+      → (calls : List CallNow) × Accepts true ask at shelf stand.follows out calls × (left.shelf ≡ Some (after_all calls shelf))
   answered ask at shelf stand left out shows answers =
-      let it = subst (λ s. AnswersShelf s stand.follows ask at out left.shelf left.follows) shows answers in
-      let made = answers_are_calls ask at shelf stand.follows out it.0 left.follows it.1 in
+      let it = subst (λ s. AnswersShelf true s stand.follows ask at out left.shelf left.follows) shows answers in
+      let made = answers_are_calls true ask at shelf stand.follows out it.0 left.follows it.1 in
       (made.0, made.1, it.2 ∙ ap Some made.2)
 
   -- or it was refused before
   replied : (event : Event) (ask : Ask) (ready : ReadyData) (shelf : ShelfNow) (stand left : StandData) (out : OutData) → Asks event ask
-      → stand.shelf ≡ Some shelf → Replies ready ask stand out left
+      → stand.shelf ≡ Some shelf → Replies true ready ask stand out left
       → (calls : List CallNow) × AreOfEvent event shelf calls × (left.shelf ≡ Some (after_all calls shelf))
   replied event ask (Ok at) shelf stand left out asks shows answers =
       let it = answered ask at shelf stand left out shows answers in

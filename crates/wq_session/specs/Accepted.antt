@@ -1,6 +1,7 @@
 -- The calls of the shelf that an ask leads to. They are all that its answer does there.
 -- It is this server's own.
-use Rattle.std.specs.Prelude.{◌≡◌, ◌⊎◌, ℕ, true, List, [], ◌∷◌, ◌++◌, Option, Some, None, Result, Ok, Err}
+use Rattle.std.specs.Prelude.{◌≡◌, ◌⊎◌, ℕ, Bool, true, List, [], ◌∷◌, ◌++◌, Option, Some, None}
+use Rattle.std.specs.Prelude.{Result, Ok, Err}
 use Rattle.serde_json.specs.Data.{Data}
 use Rattle.serde_json.specs.View.{view as data_of}
 use Rattle.wq_clock.specs.Instance.{InstanceData}
@@ -16,7 +17,7 @@ use Rattle.wq_registry.specs.History.{Call, adds_program, removes_program, adds_
 use Rattle.wq_registry.specs.History.{uses_cursor, unsets_cursor, adds_trigger, removes_trigger}
 use Rattle.wq_registry.specs.History.{AddsOne, after_all}
 use Rattle.wq_view.specs.View.{ViewData}
-use Rattle.wq_session.specs.Out.{OutData, refuses, runs_out}
+use Rattle.wq_session.specs.Out.{EndsListing, OutData, refuses, runs_out}
 use Rattle.wq_ask.specs.declared.ask.Ask.{Ask}
 use Rattle.wq_ask.specs.declared.ask.Ask.TheVariants.{OfRoot, OfShelf, Unwatch, Watch}
 use Rattle.wq_ask.specs.declared.ask.RootAsk.{RootAsk}
@@ -102,12 +103,12 @@ abbrev pub unset_calls : Option Cursor → List CallNow
 unset_calls None = []
 unset_calls (Some cursor) = unsets_cursor cursor.root cursor.name ∷ []
 
--- these calls were accepted of an ask that was answered so. They are its own; or none, if the line
--- was refused or memory ran out first; or its own and then the unsetting of the cursor, if memory
--- ran out over the files
-abbrev pub Accepts : Ask → Option AtData → ShelfNow → List SubscriptionData → OutData → List CallNow
-    → Type 0
-Accepts ask at shelf follows out calls =
+-- these calls were accepted of an ask that was answered so, of a client that may go, or may not.
+-- They are its own; or none, if the line was refused or memory ran out first; or its own and then
+-- the unsetting of the cursor, if memory ran out over the files or the client has gone by then
+abbrev pub Accepts : Bool → Ask → Option AtData → ShelfNow → List SubscriptionData → OutData
+    → List CallNow → Type 0
+Accepts may_go ask at shelf follows out calls =
     ((b : BegunData) × (begun_ask ask at shelf ≡ Ok b)
     × (out ≡ (finished b.work at follows).out)
     × (calls ≡ calls_of ask at shelf))
@@ -116,19 +117,19 @@ Accepts ask at shelf follows out calls =
     ⊎ ((takes_memory ask ≡ true) × (out ≡ runs_out None) × (calls ≡ []))
     ⊎ ((b : BegunData) × (plan : PlanData) × (cursor : Option Cursor)
     × (begun_ask ask at shelf ≡ Ok b) × (b.work ≡ evaluates plan cursor)
-    × (out ≡ runs_out None) × (calls ≡ calls_of ask at shelf ++ unset_calls cursor))
+    × EndsListing may_go None out × (calls ≡ calls_of ask at shelf ++ unset_calls cursor))
 
 -- an answer leaves the shelf that results from the calls that were accepted of the ask
 abbrev pub AnswersAreCalls : Type 0
-AnswersAreCalls = (ask : Ask) (at : Option AtData) (shelf : ShelfNow)
+AnswersAreCalls = (may_go : Bool) (ask : Ask) (at : Option AtData) (shelf : ShelfNow)
     (follows : List SubscriptionData) (out : OutData) (after : ShelfNow)
-    (left : List SubscriptionData) → AnswersAsk ask at shelf follows out after left
-    → (calls : List CallNow) × Accepts ask at shelf follows out calls
+    (left : List SubscriptionData) → AnswersAsk may_go ask at shelf follows out after left
+    → (calls : List CallNow) × Accepts may_go ask at shelf follows out calls
     × (after ≡ after_all calls shelf)
 
 -- a program that accepted calls add is the one that the ask hands in
 abbrev pub AddedAreAsked : Type 0
-AddedAreAsked = (ask : Ask) (at : Option AtData) (shelf : ShelfNow)
+AddedAreAsked = (may_go : Bool) (ask : Ask) (at : Option AtData) (shelf : ShelfNow)
     (follows : List SubscriptionData) (out : OutData) (calls : List CallNow) (raw : Raw)
-    → Accepts ask at shelf follows out calls → AddsOne raw calls
+    → Accepts may_go ask at shelf follows out calls → AddsOne raw calls
     → (name : List ℕ) × (ask ≡ OfShelf (AddProgram name raw))

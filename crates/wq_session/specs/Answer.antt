@@ -1,7 +1,7 @@
 -- The whole answer to an ask: its beginning while the shelf is held, and its end without the shelf.
--- And the results if memory runs out.
+-- And the results if memory runs out, or if the client goes: no reply is owed then.
 -- If the reply of a cursor could not be made, the cursor is unset: this is this server's own.
-use Rattle.std.specs.Prelude.{◌≡◌, ◌⊎◌, ℕ, true, is_some, List, Option, Some, None}
+use Rattle.std.specs.Prelude.{◌≡◌, ◌⊎◌, ℕ, Bool, true, is_some, List, Option, Some, None}
 use Rattle.std.specs.Prelude.{if◌then◌else◌}
 use Rattle.std.specs.Option.{option_map_or}
 use Rattle.wq_clock.specs.ClockText.{clock_text}
@@ -11,7 +11,8 @@ use Rattle.wq_reply.specs.Plan.{PlanData}
 use Rattle.wq_reply.specs.Reply.{reply_of}
 use Rattle.wq_registry.specs.Shelf.{cursor_unset}
 use Rattle.wq_view.specs.View.{ViewData}
-use Rattle.wq_session.specs.Out.{OutData, refuses, replies, replies_with, runs_out, silence, settled}
+use Rattle.wq_session.specs.Out.{EndsListing, OutData, refuses, replies, replies_with, runs_out}
+use Rattle.wq_session.specs.Out.{silence, settled}
 use Rattle.wq_ask.specs.Subscribe.{subscribe_data, unsubscribe_data}
 use Rattle.wq_ask.specs.declared.ask.Ask.{Ask}
 use Rattle.wq_session.specs.declared.cursor.Cursor.{Cursor}
@@ -95,20 +96,20 @@ TakesAsk ask at shelf work after =
     (taken_ask ask at shelf ≡ record { work = work; shelf = after })
     ⊎ ((takes_memory ask ≡ true) × (work ≡ says (runs_out None)) × (after ≡ shelf))
 
--- the result of work if memory runs out
-abbrev pub unmade : WorkData → OutData
-unmade (says out) = settled out
-unmade (prints d) = runs_out None
-unmade (evaluates plan cursor) = runs_out cursor
-unmade (begins s) = runs_out None
-unmade (drops number name) = runs_out None
+-- the result of work if memory runs out, or if the client goes while files are listed
+abbrev pub IsUnmade : Bool → WorkData → OutData → Type 0
+IsUnmade may_go (says out) given = given ≡ settled out
+IsUnmade may_go (prints d) given = given ≡ runs_out None
+IsUnmade may_go (evaluates plan cursor) given = EndsListing may_go cursor given
+IsUnmade may_go (begins s) given = given ≡ runs_out None
+IsUnmade may_go (drops number name) given = given ≡ runs_out None
 
--- the result of finished work, with the subscriptions of the session before and after; without
--- memory they stay
-abbrev pub Finishes : WorkData → Option AtData → List SubscriptionData → OutData
+-- the result of finished work for a client that may go, or may not, with the subscriptions of the
+-- session before and after. Without memory they stay, and so they do for a client that has gone
+abbrev pub Finishes : Bool → WorkData → Option AtData → List SubscriptionData → OutData
     → List SubscriptionData → Type 0
-Finishes work at follows out left =
-    (finished work at follows ≡ giving out left) ⊎ ((out ≡ unmade work) × (left ≡ follows))
+Finishes may_go work at follows out left =
+    (finished work at follows ≡ giving out left) ⊎ (IsUnmade may_go work out × (left ≡ follows))
 
 -- the session looks at a view
 abbrev pub HasView : Option AtData → Type 0
@@ -128,15 +129,16 @@ abbrev pub without_cursor : Option Cursor → ShelfNow → ShelfNow
 without_cursor None shelf = shelf
 without_cursor (Some cursor) shelf = cursor_unset cursor.root cursor.name shelf
 
--- the result of an ask: its answer; or memory ran out, before anything changed, or when the files
--- were listed. In the last case the cursor that the answer would have moved is unset
-abbrev pub AnswersAsk : Ask → Option AtData → ShelfNow → List SubscriptionData → OutData → ShelfNow
-    → List SubscriptionData → Type 0
-AnswersAsk ask at shelf follows out after left =
+-- the result of an ask of a client that may go, or may not: its answer; or memory ran out, before
+-- anything changed, or when the files were listed; or the client has gone by then. In the last two
+-- cases the cursor that the answer would have moved is unset
+abbrev pub AnswersAsk : Bool → Ask → Option AtData → ShelfNow → List SubscriptionData → OutData
+    → ShelfNow → List SubscriptionData → Type 0
+AnswersAsk may_go ask at shelf follows out after left =
     (answer ask at shelf follows ≡ record { done = giving out left; shelf = after })
     ⊎ ((takes_memory ask ≡ true) × (out ≡ runs_out None) × (after ≡ shelf) × (left ≡ follows))
     ⊎ ((plan : PlanData) × (cursor : Option Cursor)
     × ((taken_ask ask at shelf).work ≡ evaluates plan cursor)
-    × (out ≡ runs_out None)
+    × EndsListing may_go None out
     × (after ≡ without_cursor cursor (taken_ask ask at shelf).shelf)
     × (left ≡ follows))

@@ -1,6 +1,6 @@
 -- The events at the shelf that all clients share, while it is held for one of them.
 -- It is this server's own.
-use Rattle.std.specs.Prelude.{◌≡◌, List, Option, Some, None, option_map, Ok, Err}
+use Rattle.std.specs.Prelude.{◌≡◌, Bool, List, Option, Some, None, option_map, Ok, Err}
 use Rattle.wq_follow.specs.Subscription.{SubscriptionData}
 use Rattle.wq_registry.specs.Shelf.{cursor_unset}
 use Rattle.wq_session.specs.Out.{MayRefuse, OutData}
@@ -38,22 +38,23 @@ stand shelf follows = record { shelf = shelf; follows = follows }
 
 -- an ask is answered at a shelf. If a shelf is shown, that one is used, and the result is then
 -- shown. If none is shown, it is some shelf that the acts of sessions lead to. The subscriptions of
--- the session are these, and then those that are left
-abbrev pub AnswersShelf : Option ShelfNow → List SubscriptionData → Ask → Option AtData → OutData
-    → Option ShelfNow → List SubscriptionData → Type 0
-AnswersShelf (Some shelf) follows ask at out after left =
-    (next : ShelfNow) × AnswersAsk ask at shelf follows out next left × (after ≡ Some next)
-AnswersShelf None follows ask at out after left =
+-- the session are these, and then those that are left. The client may go, or may not
+abbrev pub AnswersShelf : Bool → Option ShelfNow → List SubscriptionData → Ask → Option AtData
+    → OutData → Option ShelfNow → List SubscriptionData → Type 0
+AnswersShelf may_go (Some shelf) follows ask at out after left =
+    (next : ShelfNow) × AnswersAsk may_go ask at shelf follows out next left × (after ≡ Some next)
+AnswersShelf may_go None follows ask at out after left =
     (shelf : ShelfNow) × (next : ShelfNow) × IsReached shelf
-    × AnswersAsk ask at shelf follows out next left × (after ≡ None)
+    × AnswersAsk may_go ask at shelf follows out next left × (after ≡ None)
 
 -- an ask is answered in this state
-abbrev pub AnswersAt : StandData → Ask → Option AtData → OutData → StandData → Type 0
-AnswersAt stand ask at out after =
-    AnswersShelf stand.shelf stand.follows ask at out after.shelf after.follows
+abbrev pub AnswersAt : Bool → StandData → Ask → Option AtData → OutData → StandData → Type 0
+AnswersAt may_go stand ask at out after =
+    AnswersShelf may_go stand.shelf stand.follows ask at out after.shelf after.follows
 
 -- an ask that is ready is answered at the shelf; or its line is refused because its root could not
 -- be crawled, opened or retired, which leaves the shelf and the subscriptions
-abbrev pub Replies : ReadyData → Ask → StandData → OutData → StandData → Type 0
-Replies (Ok at) ask stand out after = AnswersAt stand ask at out after
-Replies (Err fault) ask stand out after = MayRefuse (crawl_refusal fault) out × (after ≡ stand)
+abbrev pub Replies : Bool → ReadyData → Ask → StandData → OutData → StandData → Type 0
+Replies may_go (Ok at) ask stand out after = AnswersAt may_go stand ask at out after
+Replies may_go (Err fault) ask stand out after =
+    MayRefuse (crawl_refusal fault) out × (after ≡ stand)

@@ -6,9 +6,11 @@ use Rattle.std.specs.Prelude.{Option, Some, None}
 use Rattle.serde_json.specs.Data.{Data}
 use Rattle.serde_json.specs.Written.{compact_text}
 use Rattle.wq_ask.specs.Reply.{error_data}
+use Rattle.wq_base.specs.declared.asker.Unanswered.{Unanswered}
+use Rattle.wq_base.specs.declared.asker.Unanswered.TheVariants.{Gone, NoMemory}
 use Rattle.wq_session.specs.declared.cursor.Cursor.{Cursor}
 use Rattle.wq_ask.specs.declared.refusal.Refusal.{Refusal}
-use Rattle.wq_ask.specs.declared.refusal.Refusal.TheVariants.{NoMemory}
+use Rattle.wq_ask.specs.declared.refusal.Refusal.TheVariants.{NoMemory as ShortOfMemory}
 use Rattle.wq_ask.specs.Refusal.{ends_session}
 
 -- the output
@@ -66,12 +68,34 @@ silence goes_on =
 -- memory ran out, with the cursor that was moved
 abbrev pub runs_out : Option Cursor → OutData
 runs_out cursor = record {
-  reply = Some (compact_text (error_data NoMemory));
+  reply = Some (compact_text (error_data ShortOfMemory));
   lists = [];
   goes_on = true;
   shuts = false;
   unset = cursor;
 }
+
+-- the client has gone: nothing is written for it, and its session ends; with the cursor that was
+-- moved
+abbrev pub gone : Option Cursor → OutData
+gone cursor = record {
+  reply = None;
+  lists = [];
+  goes_on = false;
+  shuts = false;
+  unset = cursor;
+}
+
+-- the possible outputs of a listing without a reply: memory ran out; or the client has gone, if it
+-- may go
+abbrev pub EndsListing : Bool → Option Cursor → OutData → Type 0
+EndsListing false cursor out = out ≡ runs_out cursor
+EndsListing true cursor out = (out ≡ runs_out cursor) ⊎ (out ≡ gone cursor)
+
+-- the output for the reason why a search has no answer, with the cursor that was moved
+abbrev pub unanswered : Unanswered → Option Cursor → OutData
+unanswered Gone cursor = gone cursor
+unanswered NoMemory cursor = runs_out cursor
 
 -- a text and the list that follows it, and then the session goes on
 abbrev pub saying_with : List ℕ → List ℕ → OutData

@@ -1,7 +1,7 @@
 -- A round of the triggers of a root: each in turn starts its command, if that is not running and
 -- files changed.
 -- From Watchman's documentation of `trigger`; the rounds are this server's own.
-use Rattle.std.specs.Prelude.{◌≡◌, ◌<◌, ◌≤◌, ◌⊎◌, ℕ, List, [], ◌∷◌, ◌++◌, length, Option}
+use Rattle.std.specs.Prelude.{◌≡◌, ◌<◌, ◌≤◌, ◌⊎◌, ℕ, List, [], ◌∷◌, ◌++◌, length, Option, MatchOption}
 use Rattle.wq_clock.specs.Instance.{InstanceData}
 use Rattle.wq_follow.specs.Launcher.{LauncherData, most_failures}
 use Rattle.wq_follow.specs.Round.{Agrees, CountsFailure, FiredData, Fires, TriggerData, failed}
@@ -11,6 +11,7 @@ use Rattle.wq_registry.specs.History.{adds_trigger, after_all}
 use Rattle.wq_registry.specs.Shelf.{blank, root_changed, triggers_of}
 use Rattle.wq_view.specs.View.{ViewData}
 use Rattle.wq_session.specs.Accepted.{CallNow}
+use Rattle.wq_crawl.specs.At.{AtData}
 use Rattle.wq_session.specs.At.{ShelfNow}
 
 -- the part of a round for one trigger: its name, the action, and the trigger then
@@ -82,6 +83,13 @@ abbrev pub IsCountedRound : InstanceData → ViewData → ShelfNow → Option La
     → Option LauncherData → ℕ → Type 0
 IsCountedRound instance view shelf shown count after left counted =
     (round : IsRound instance view shelf shown after left) × CountFailures round.turns count counted
+
+-- a round of the root that is looked at, at its view; if it shows none, nothing changes
+abbrev pub RoundsAt : AtData → ShelfNow → Option LauncherData → ℕ → ShelfNow → Option LauncherData
+    → ℕ → Type 0
+RoundsAt at shelf shown count after left counted =
+    MatchOption at.view ((after ≡ shelf) × (left ≡ shown) × (counted ≡ count))
+    (λ view. IsCountedRound at.instance view shelf shown count after left counted)
 
 -- the calls of turns: each puts its trigger under its name again
 abbrev pub turn_calls : ℕ → List TriggerTurnData → List CallNow

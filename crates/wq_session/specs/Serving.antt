@@ -37,12 +37,12 @@ pub record PlaceData : Type 0 where
 abbrev pub stand_at : PlaceData → StandData
 stand_at place = record { shelf = place.shelf; follows = place.follows }
 
--- an ask is answered after its needs are met
+-- an ask is answered after its needs are met, and the client may go before
 abbrev pub IsAnswered : Basis → Ask → KnownData → StandData → OutData → KnownData → StandData
     → Type 0
 IsAnswered basis ask before stand out after left =
     (ready : ReadyData) × Readies basis (need_of ask) before ready after
-    × Replies ready ask stand out left
+    × Replies true ready ask stand out left
 
 -- the result of an event: at an idle moment the session tells the subscriptions of a root; any
 -- other event asks something, and the session answers it

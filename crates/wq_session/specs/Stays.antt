@@ -1,7 +1,7 @@
 -- The shelf at the end of a session: it has all that was accepted of the session's events, however
 -- the session ended.
 -- It is this server's own.
-use Rattle.std.specs.Prelude.{◌≡◌, ◌⊎◌, ℕ, List, [], ◌∷◌, ◌++◌, Option, Some}
+use Rattle.std.specs.Prelude.{◌≡◌, ◌⊎◌, ℕ, true, List, [], ◌∷◌, ◌++◌, Option, Some}
 use mathlib.Core.Logic.{inl, inr}
 use Rattle.wq_follow.specs.Subscription.{SubscriptionData}
 use Rattle.wq_registry.specs.History.{after_all}
@@ -20,7 +20,7 @@ abbrev pub AreOfEvent : Event → ShelfNow → List CallNow → Type 0
 AreOfEvent event shelf calls =
     (calls ≡ [])
     ⊎ ((ask : Ask) × Asks event ask × (at : Option AtData) × (follows : List SubscriptionData)
-    × (out : OutData) × Accepts ask at shelf follows out calls)
+    × (out : OutData) × Accepts true ask at shelf follows out calls)
 
 -- calls that events make, one event after the other, from a shelf on
 abbrev pub AreOfEvents : List Event → ShelfNow → List CallNow → Type 0

@@ -22,10 +22,11 @@ impl Session {
     /// told the changes since its last list, or that it ends.
     ///
     /// If memory runs out for one, that one and all after it have not moved, and are told at a later moment.
-    pub fn idle(&mut self, alloc: Global, root: u64, at: Option<At<'_>>) -> Out
+    pub fn idle(&mut self, root: u64, at: Option<At<'_>>) -> Out
         ensures { Idles root (option_map at_data at.entry) (follows_of self.old) result
             (follows_of self.new) }
     {
+        let alloc = self.alloc;
         let shown = shown_in(at);
         let mut lists = Vec::new(alloc);
         let mut place = 0;

@@ -12,10 +12,10 @@ pub fn need_of(ask: &Ask) -> Need<'_>
     ensures { need_data result ≡ need_of ask.now }
 {
     match ask {
-        Ask::Watch { root } => Need::Watch(root.as_str()),
-        Ask::Unwatch { root } => Need::Unwatch(root.as_str()),
+        Ask::Watch { root } => Need::Open(root.as_str()),
+        Ask::Unwatch { root } => Need::Retire(root.as_str()),
         Ask::OfRoot { root, crawl, .. } => seen(*crawl, root),
-        _ => Need::None,
+        _ => Need::Nothing,
     }
 }
 

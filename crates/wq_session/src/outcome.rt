@@ -1,7 +1,7 @@
 //! The output of a session for an event: replies that were made, and fixed ones.
 ghost use Rattle.std.specs.Prelude.{◌≡◌, ◌⊎◌, ◌++◌, codes, false, option_map, IfOk, MatchResult};
 ghost use Rattle.wq_session.specs.Out.{MayRefuse, replies, runs_out, saying_text, saying_with};
-ghost use Rattle.wq_session.specs.Out.{shuts_with, silence, tells_lists, settled};
+ghost use Rattle.wq_session.specs.Out.{gone, shuts_with, silence, tells_lists, settled, unanswered};
 ghost use Rattle.wq_ask.specs.Reply.{error_data};
 ghost use Rattle.wq_session.specs.Said.{line_in};
 ghost use Rattle.wq_reply.specs.Answer.{text_in};
@@ -15,6 +15,7 @@ use serde_json::Value;
 use std::alloc::{AllocError, Global};
 use std::marker::Model;
 use wq_ask::{NO_MEMORY, Refusal, SHUTS_DOWN, VERSION_ALONE, error_reply};
+use wq_base::Unanswered;
 use wq_reply::{LongReply, ReplyText};
 
 /// The output of a session for an event: a reply or none, the lists of subscriptions that follow it, and whether the
@@ -151,12 +152,12 @@ impl Out {
         })
     }
 
-    /// The reply of this text, if it was made. If memory ran out for the text or the newline, the output says so, with the
-    /// cursor that was moved for the reply.
-    pub fn of_answer(text: Result<ReplyText, AllocError>, cursor: Option<Cursor>) -> Out
+    /// The reply of this text, if it was made. If memory ran out for the text or the newline, the output says so. If the
+    /// client has gone, nothing is written for it. Both have the cursor that was moved for the reply.
+    pub fn of_answer(text: Result<ReplyText, Unanswered>, cursor: Option<Cursor>) -> Out
         ensures { MatchResult text
             (λ text. (result ≡ saying_text (text_in text)) ⊎ (result ≡ runs_out cursor))
-            (λ _. result ≡ runs_out cursor) }
+            (λ why. result ≡ unanswered why cursor) }
     {
         match text {
             Ok(ReplyText::Whole(text)) => match Out::of_text(text) {
@@ -164,7 +165,8 @@ impl Out {
                 Err(_) => Out::runs_out(cursor),
             },
             Ok(ReplyText::Long(reply)) => Out::of_long(reply),
-            Err(_) => Out::runs_out(cursor),
+            Err(Unanswered::NoMemory) => Out::runs_out(cursor),
+            Err(Unanswered::Gone) => Out::gone(cursor),
         }
     }
 
@@ -247,6 +249,19 @@ impl Out {
             goes_on,
             shuts: false,
             unset: None,
+        }
+    }
+
+    /// The client has gone: nothing is written, and the session ends; with the cursor that was moved for the reply.
+    pub fn gone(cursor: Option<Cursor>) -> Out
+        ensures { result ≡ gone cursor }
+    {
+        Out {
+            reply: Reply::None,
+            lists: None,
+            goes_on: false,
+            shuts: false,
+            unset: cursor,
         }
     }
 

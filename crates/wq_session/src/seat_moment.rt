@@ -7,7 +7,6 @@ ghost use Rattle.wq_session.specs.Followed.{follows_of};
 use crate::at::at_of;
 use crate::outcome::Out;
 use crate::session::Session;
-use std::alloc::Global;
 use wq_crawl::{At, RootAt, Roots, SeatViews};
 use wq_live::Named;
 
@@ -16,7 +15,6 @@ use wq_live::Named;
 /// The look ends before lists are made, as before a reply is, if there is a share of the root's view. If the look is
 /// refused, the moment is skipped.
 pub(crate) fn rest<N: Named, R: Roots<N> + Drop>(
-    alloc: Global,
     session: &mut Session,
     root: u64,
     views: SeatViews<N, R>,
@@ -29,10 +27,10 @@ pub(crate) fn rest<N: Named, R: Roots<N> + Drop>(
     let SeatViews { run, seat, roots } = views;
     let (seat, out) = match seat.look() {
         Ok(look) => match RootAt::numbered(run, root, &look) {
-            Ok(shared) => (look.leave(), session.idle(alloc, root, at_of(&shared))),
+            Ok(shared) => (look.leave(), session.idle(root, at_of(&shared))),
             Err(_) => {
                 let at = At::numbered(run, root, &look);
-                let out = session.idle(alloc, root, at);
+                let out = session.idle(root, at);
                 (look.leave(), out)
             }
         },

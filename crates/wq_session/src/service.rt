@@ -49,8 +49,8 @@ pub struct Ended<N: Named, R: Roots<N> + Drop> {
 /// open while it makes them only if there is no share of the root's view.
 ///
 /// As many threads as the roots allow may look for the files of a query. The handle starts them, and they end before
-/// the reply is made. The asker is whoever reads the replies. If it has gone they give up, and the line is answered that
-/// memory ran out.
+/// the reply is made. The asker is whoever reads the replies. If it has gone they give up, nothing is written for the
+/// line, and the session ends.
 ///
 /// A long list is printed while it is written. If memory runs out for that, it is as if the writer had failed.
 ///
@@ -124,10 +124,10 @@ fn take_event<T: Threads, A: Asker, N: Named, I: Inbox, R: Roots<N> + Drop, D: D
     ensures run { result.0.run ≡ views.run }
 {
     match inbox.next() {
-        Event::Idle(root) => rest(alloc, session, root, views),
+        Event::Idle(root) => rest(session, root, views),
         event => {
             let ask = Ask::read(alloc, event);
-            session.answer(crew, alloc, ask, views, desk)
+            session.answer(crew, ask, views, desk)
         }
     }
 }

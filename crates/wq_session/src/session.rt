@@ -35,6 +35,7 @@ use wq_view::View;
 #[derive(Drop)]
 pub struct Session {
     pub(crate) subscriptions: Vec<Subscription>,
+    pub(crate) alloc: Global,
 }
 
 impl Session {
@@ -44,6 +45,7 @@ impl Session {
     {
         Session {
             subscriptions: Vec::new(alloc),
+            alloc,
         }
     }
 
@@ -58,33 +60,23 @@ impl Session {
     /// subscription once its first list is made, or ends it. The root is the one that the ask was
     /// [prepared](Prepared::of) at.
     ///
-    /// If memory runs out, the output says so, and the subscriptions stay.
-    pub fn finish<C: Crew>(
-        &mut self,
-        crew: &C,
-        alloc: Global,
-        work: Work,
-        at: Option<At<'_>>,
-    ) -> Out
+    /// If memory runs out, the output says so, and the subscriptions stay. They also stay if the client has gone, and
+    /// then the output says nothing, and that the session ends.
+    pub fn finish<C: Crew>(&mut self, crew: &C, work: Work, at: Option<At<'_>>) -> Out
         requires { CanFinish (work_data work) (option_map at_data at) }
-        ensures { Finishes (work_data work) (option_map at_data at.entry) (follows_of self.old)
-            result (follows_of self.new) }
+        ensures { Finishes C.may_go (work_data work) (option_map at_data at.entry)
+            (follows_of self.old) result (follows_of self.new) }
     {
-        self.finish_rest(crew, alloc, work.into_rest(), at)
+        self.finish_rest(crew, work.into_rest(), at)
     }
 
     /// The same, of the rest of the work.
-    fn finish_rest<C: Crew>(
-        &mut self,
-        crew: &C,
-        alloc: Global,
-        rest: Rest,
-        at: Option<At<'_>>,
-    ) -> Out
+    pub(crate) fn finish_rest<C: Crew>(&mut self, crew: &C, rest: Rest, at: Option<At<'_>>) -> Out
         requires { CanFinish (rest_data rest) (option_map at_data at) }
-        ensures { Finishes (rest_data rest) (option_map at_data at.entry) (follows_of self.old)
-            result (follows_of self.new) }
+        ensures { Finishes C.may_go (rest_data rest) (option_map at_data at.entry)
+            (follows_of self.old) result (follows_of self.new) }
     {
+        let alloc = self.alloc;
         match rest {
             Rest::Says(mut out) => {
                 let _ = out.settle();
@@ -124,7 +116,7 @@ impl Session {
         instance: &Instance,
         view: &View,
     ) -> Out
-        ensures { Finishes (evaluates (planned plan.now) cursor)
+        ensures { Finishes C.may_go (evaluates (planned plan.now) cursor)
             (Some (record { instance = instance_data instance.now; view = Some view.now }))
             (follows_of self.now) result (follows_of self.now) }
     {
@@ -136,19 +128,18 @@ impl Session {
     pub fn answer<V: Views, C: Crew, D: Desk>(
         &mut self,
         crew: &C,
-        alloc: Global,
         ask: Ask,
         views: V,
         desk: &mut D,
     ) -> (V, Out)
         ensures { (ready : ReadyData) × V.readies views (need_of ask) ready result.0
-            × Replies ready ask (stand (D.shelf desk.old) (follows_of self.old)) result.1
+            × Replies C.may_go ready ask (stand (D.shelf desk.old) (follows_of self.old)) result.1
             (stand (D.shelf desk.new) (follows_of self.new)) }
     {
         let (views, ready) = views.ready(need_of(&ask));
         match ready {
-            Ok(root) => (views, self.answer_at(crew, alloc, ask, at_of(&root), desk)),
-            Err(fault) => (views, Out::refused(alloc, crawl_refusal(fault))),
+            Ok(root) => (views, self.answer_at(crew, ask, at_of(&root), desk)),
+            Err(fault) => (views, Out::refused(self.alloc, crawl_refusal(fault))),
         }
     }
 
@@ -160,17 +151,16 @@ impl Session {
     pub fn answer_at<C: Crew, D: Desk>(
         &mut self,
         crew: &C,
-        alloc: Global,
         ask: Ask,
         at: Option<At<'_>>,
         desk: &mut D,
     ) -> Out
-        ensures { AnswersShelf (D.shelf desk.old) (follows_of self.old) ask
+        ensures { AnswersShelf C.may_go (D.shelf desk.old) (follows_of self.old) ask
             (option_map at_data at.entry) result (D.shelf desk.new) (follows_of self.new) }
     {
-        let prepared = prepare_at(alloc, ask, at, desk);
+        let prepared = prepare_at(self.alloc, ask, at, desk);
         let work = desk.hold(prepared);
-        let mut out = self.finish(crew, alloc, work, at);
+        let mut out = self.finish(crew, work, at);
         if let Some(cursor) = out.settle() {
             desk.unset(cursor);
         }
@@ -180,7 +170,7 @@ impl Session {
 
 /// An ask with its query read. The program of the query is found at the desk, or compiled and kept
 /// there.
-fn prepare_at<'a, D: Desk>(
+pub(crate) fn prepare_at<'a, D: Desk>(
     alloc: Global,
     ask: Ask,
     at: Option<At<'a>>,

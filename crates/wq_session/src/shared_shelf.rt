@@ -15,7 +15,7 @@ use crate::cursor::Cursor;
 use crate::kept::Kept;
 use crate::law::{added_are_asked, answers_are_calls, rounds_are_calls};
 use crate::prepared::Prepared;
-use crate::trigger_round::round;
+use crate::trigger_round::round_ahead;
 use crate::unset::Unset;
 use crate::work::Work;
 use std::alloc::{AllocError, Global};
@@ -132,7 +132,7 @@ impl ReachedShelf<Trigger> {
         Ok(asks)
     }
 
-    /// A round of the triggers of a root, at a view of it ([`round`]).
+    /// A round of the triggers of a root, at a view of it ([`round_ahead`]).
     pub fn round<L: Launch>(
         &mut self,
         alloc: Global,
@@ -147,7 +147,7 @@ impl ReachedShelf<Trigger> {
             (L.shown launcher.old) (L.failures_of launcher.old) (shelf_data self.new)
             (L.shown launcher.new) (L.failures_of launcher.new) }
     {
-        round(alloc, instance, view, &mut self.shelf, ahead, launcher);
+        round_ahead(alloc, instance, view, &mut self.shelf, ahead, launcher);
     }
 }
 

@@ -1,18 +1,32 @@
 //! Rounds of triggers: the command of each trigger of a root is started, if it is not running and files changed.
 ghost use Rattle.std.specs.Prelude.{◌≡◌, ◌<◌, IfSome, List, length};
 ghost use Rattle.wq_clock.specs.Instance.{instance_data};
+ghost use Rattle.wq_crawl.specs.At.{at_data};
 ghost use Rattle.wq_reply.specs.Ahead.{AreAheadAt, IsAheadAt};
 ghost use Rattle.wq_registry.specs.Shelf.{triggers_of};
-ghost use Rattle.wq_session.specs.Round.{HasTurn, IsCountedRound};
+ghost use Rattle.wq_session.specs.Round.{HasTurn, IsCountedRound, RoundsAt};
 ghost use Rattle.wq_session.specs.Shelved.{shelf_data};
 ghost use Rattle.wq_record.specs.RecordData.{RecordData};
 
 use std::alloc::Global;
 use wq_clock::Instance;
+use wq_crawl::At;
 use wq_follow::{Launch, Trigger};
 use wq_registry::Shelf;
 use wq_reply::Ahead;
 use wq_view::View;
+
+/// A round of the triggers of the root that is looked at, in their order ([`round_ahead`]). Nothing was found ahead of it.
+/// It does nothing if the root shows no view, or is not on the shelf under its number.
+pub fn round<L: Launch>(alloc: Global, shelf: &mut Shelf<Trigger>, at: At<'_>, launcher: &mut L)
+    ensures { RoundsAt (at_data at.entry) (shelf_data shelf.old) (L.shown launcher.old)
+        (L.failures_of launcher.old) (shelf_data shelf.new) (L.shown launcher.new)
+        (L.failures_of launcher.new) }
+{
+    if let Some(view) = at.view {
+        round_ahead(alloc, &at.instance, view, shelf, &[], launcher);
+    }
+}
 
 /// A round of the triggers of a root, in their order, at a view of it. It does nothing if the root is not on the shelf
 /// under the number of the instance.
@@ -21,7 +35,7 @@ use wq_view::View;
 /// a later round. The launcher's count of failures rose in each turn whose start failed, and in no other.
 ///
 /// What was found ahead for the trigger at each place saves a run of its program, and changes no answer.
-pub fn round<L: Launch>(
+pub fn round_ahead<L: Launch>(
     alloc: Global,
     instance: &Instance,
     view: &View,

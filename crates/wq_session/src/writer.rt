@@ -1,16 +1,32 @@
 //! Writing the lines of an output. If a writer fails, it has written a front of them.
-ghost use Rattle.std.specs.Prelude.{OnErr, OnOk};
+ghost use Rattle.std.specs.Prelude.{◌≡◌, IfOk, OnErr, OnOk};
 ghost use Rattle.std.specs.Io.KnownBytes.{Appends};
 ghost use Rattle.wq_base.specs.Writing.{WritesFront};
 ghost use Rattle.wq_session.specs.Serving.{line_for, lines_for, written_for};
 
 use crate::line::Line;
 use crate::outcome::{Out, ReplyLine};
-use std::alloc::Global;
+use std::alloc::{AllocError, Global};
 use std::io;
 use std::io::Write;
 use wq_base::write_all;
-use wq_reply::Crew;
+use wq_reply::{Alone, Crew};
+
+impl Out {
+    /// All bytes of the output: the line of the reply, if there is one, and then that of each list.
+    ///
+    /// # Errors
+    /// Memory ran out.
+    pub fn bytes(&self, alloc: Global) -> Result<Vec<u8>, AllocError>
+        ensures { IfOk result (λ bytes. bytes.items ≡ written_for self.now) }
+    {
+        let mut bytes = Vec::new(alloc);
+        match write_out(&mut bytes, &Alone {}, alloc, self) {
+            Ok(()) => Ok(bytes),
+            Err(_) => Err(AllocError),
+        }
+    }
+}
 
 /// Writes the line of a reply, if there is one, and then that of each list. A crew prints a long reply.
 pub(crate) fn write_out<C: Crew, W: Write>(

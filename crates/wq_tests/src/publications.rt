@@ -39,8 +39,8 @@ impl<N: Named, R: Wait + Drop> Roots<N> for Publishing<'_, N, R> {
 
     ghost crawler = { λ _. None };
 
-    fn watch(&mut self, root: &str) -> Result<Told<N>, CrawlFault> {
-        let told = self.roots.watch(root);
+    fn open(&mut self, root: &str) -> Result<Told<N>, CrawlFault> {
+        let told = self.roots.open(root);
         publish_twice(&mut self.roots);
         told
     }
@@ -50,9 +50,9 @@ impl<N: Named, R: Wait + Drop> Roots<N> for Publishing<'_, N, R> {
         self.roots.crawl(root)
     }
 
-    fn unwatch(&mut self, root: FoundRoot) -> Result<Told<N>, CrawlFault> {
+    fn retire(&mut self, root: FoundRoot) -> Result<Told<N>, CrawlFault> {
         publish_twice(&mut self.roots);
-        self.roots.unwatch(root)
+        self.roots.retire(root)
     }
 
     fn workers(&self) -> u32 {

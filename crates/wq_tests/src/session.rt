@@ -111,9 +111,9 @@ fn is_crawled<N: Named, R: Roots<N>>(roots: &mut R, root: &str) -> Option<bool> 
 fn is_answered<N: Named, R: Roots<N>>(roots: &mut R, found: FoundRoot) -> bool {
     is_crawled(roots, "/r") == Some(true)
         && is_crawled(roots, "/q") == Some(false)
-        && roots.unwatch(found).is_ok()
+        && roots.retire(found).is_ok()
         && is_crawled(roots, "/r") == Some(false)
-        && roots.watch("/r").is_ok()
+        && roots.open("/r").is_ok()
         && is_crawled(roots, "/r") == Some(true)
 }
 

@@ -61,7 +61,7 @@ fn new_world(alloc: Global) -> Result<World, AllocError> {
 /// The lines that such a world sends while it plays these happenings.
 fn play(alloc: Global, happenings: Vec<Happening<'_>>) -> Result<Vec<Sent>, AllocError> {
     let mut world = new_world(alloc)?;
-    world.play(alloc, happenings)
+    world.play(happenings)
 }
 
 /// The lines that such a world sends in these steps.

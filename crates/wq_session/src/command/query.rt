@@ -181,7 +181,8 @@ pub(crate) fn listed<C: Crew>(
     instance: &Instance,
     view: &View,
 ) -> Out
-    ensures { (follows : List SubscriptionData) → Finishes (evaluates (planned plan.now) cursor)
+    ensures { (follows : List SubscriptionData)
+        → Finishes C.may_go (evaluates (planned plan.now) cursor)
         (Some (record { instance = instance_data instance.now; view = Some view.now }))
         follows result follows }
 {

@@ -4,14 +4,14 @@ use Rattle.wq_crawl.specs.Basis.{basis_of}
 use Rattle.wq_crawl.specs.Meeting.{IsMet}
 use Rattle.wq_crawl.specs.Ready.{known}
 use Rattle.wq_crawl.specs.Need.{need_data}
-use Rattle.wq_crawl.proofs.Needs.{met_by_crawl, met_by_look, met_by_watch}
+use Rattle.wq_crawl.proofs.Needs.{met_by_crawl, met_by_look, met_by_open}
 use Rattle.wq_crawl.proofs.seat_views.meet.Goals as goal
 
-pub returns-in-None : goal.returns-in-None
-returns-in-None g c =
+pub returns-in-Nothing : goal.returns-in-Nothing
+returns-in-Nothing g c =
     let basis = basis_of c.args.run (g.N.Witness.published g.N.Named.book) (g.N.Witness.refused g.N.Named.book) in
     let now = known (g.R.Roots.crawler c.args.roots.now) c.args.seat in
-    subst (λ n. IsMet basis n now (Ok None) now) (sym (ap need_data c.in-None.is)) (Ok None, (refl, refl), refl)
+    subst (λ n. IsMet basis n now (Ok None) now) (sym (ap need_data c.in-Nothing.is)) (Ok None, (refl, refl), refl)
 
 pub returns-in-Look : goal.returns-in-Look
 returns-in-Look g c =
@@ -29,11 +29,11 @@ returns-in-Crawl g c =
     subst (λ n. IsMet basis n (known given c.args.seat) it.1 (known later it.0)) (sym (ap need_data c.in-Crawl.is))
     (met_by_crawl basis c.in-Crawl.root.now c.args.seat it.0 it.1 c.crawl-told.result given later c.crawl-told.ensures c.learn_and_look.ensures)
 
-pub returns-in-Watch : goal.returns-in-Watch
-returns-in-Watch g c =
+pub returns-in-Open : goal.returns-in-Open
+returns-in-Open g c =
     let basis = basis_of c.args.run (g.N.Witness.published g.N.Named.book) (g.N.Witness.refused g.N.Named.book) in
     let given = g.R.Roots.crawler c.args.roots.now in
-    let later = g.R.Roots.crawler c.watch-told.new.roots in
-    let it = c.learn_and_look-in-Watch.result in
-    subst (λ n. IsMet basis n (known given c.args.seat) it.1 (known later it.0)) (sym (ap need_data c.in-Watch.is))
-    (met_by_watch basis c.in-Watch.root.now c.args.seat it.0 it.1 c.watch-told.result given later c.watch-told.ensures c.learn_and_look-in-Watch.ensures)
+    let later = g.R.Roots.crawler c.open-told.new.roots in
+    let it = c.learn_and_look-in-Open.result in
+    subst (λ n. IsMet basis n (known given c.args.seat) it.1 (known later it.0)) (sym (ap need_data c.in-Open.is))
+    (met_by_open basis c.in-Open.root.now c.args.seat it.0 it.1 c.open-told.result given later c.open-told.ensures c.learn_and_look-in-Open.ensures)

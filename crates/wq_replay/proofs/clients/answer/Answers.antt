@@ -1,5 +1,5 @@
 -- The session answers, and is kept if it goes on.
-use Rattle.std.proofs.Common.{rules, ◌≡◌, ℤ, List, ◌++◌, Some, ap, sym, subst, ◌∙◌}
+use Rattle.std.proofs.Common.{rules, ◌≡◌, ℤ, false, List, ◌++◌, Some, ap, sym, subst, ◌∙◌}
 use mir.Facts.{to_z-of_z}
 use Rattle.wq_follow.specs.Subscription.{SubscriptionData}
 use Rattle.wq_session.specs.Desk.{stand}
@@ -28,7 +28,7 @@ returns g c =
       it.0,
       follows_of session,
       it.1,
-      subst (λ (f : List SubscriptionData). Replies it.0 c.args.ask (stand (Some (shelf_data c.args.shelf.now)) f) out
+      subst (λ (f : List SubscriptionData). Replies false it.0 c.args.ask (stand (Some (shelf_data c.args.shelf.now)) f) out
           (stand (Some (shelf_data c.answer-views.new.desk)) (follows_of session))) had it.2,
       elim c.if-goes_on.branch [
         | then-goes_on w ↦

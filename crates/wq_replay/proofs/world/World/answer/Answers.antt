@@ -1,5 +1,5 @@
 -- The roots of the world met the need, and the session of the client answered.
-use Rattle.std.proofs.Common.{ℤ, Some, ap, option_map, refl, subst, sym, ◌∙◌}
+use Rattle.std.proofs.Common.{ℤ, false, Some, ap, option_map, refl, subst, sym, ◌∙◌}
 use mir.Facts.{to_z-of_z}
 use Rattle.wq_clock.specs.Run.{run_data}
 use Rattle.wq_live.specs.Table.{IsTableOf}
@@ -23,7 +23,7 @@ returns c = λ before stands.
     let value = c.replace-views.ensures.value in
     let out = (c.in_ok-answered.answered).1 in
     let it = c.in_ok-answered.ensures in
-    let replies = subst (λ (client : ℤ). Replies it.0 c.args.ask (stand (Some (shelf_data c.args.self.now.shelf)) (follows_in client had)) out
+    let replies = subst (λ (client : ℤ). Replies false it.0 c.args.ask (stand (Some (shelf_data c.args.self.now.shelf)) (follows_in client had)) out
     (stand (Some (shelf_data c.answer.new.shelf)) it.1)) number it.3 in
     let follows = subst (λ (client : ℤ). FollowsNow client (kept out.goes_on it.1) had c.answer.new.clients.items) number it.4 in
     let run = stands.run ∙ ap (λ (v : TableViews). run_data v.run) (sym value) in

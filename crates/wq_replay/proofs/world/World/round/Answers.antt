@@ -25,13 +25,13 @@ returns-in_default c = λ before stands. (
 
 pub returns : goal.returns
 returns c = λ before stands.
-    let launcher = c.round.new.launcher in
-    let left = shelf_data c.round.new.shelf in
+    let launcher = c.round_ahead.new.launcher in
+    let left = shelf_data c.round_ahead.new.shelf in
     let mine = runs_data c.replace-runs.result in
     let held : before.runs ≡ mine = stands.runs ∙ ap runs_data (sym c.replace-runs.ensures.value) in
     let about : c.in_ok-lines.lines ≡ map tried_text (all_tried launcher.tried.items) = c.in_ok-lines.ensures ∙ ap (λ tried. map tried_text (all_tried tried)) c.deref.ensures.value in
     let had = has_round before (instance_data c.instance-instance.result) c.in-Some.view.now c.args.answers.items (shelf_data c.args.self.now.shelf) left mine launcher
-    (launcher_shown c.new-launcher.result) c.in_ok-lines.lines stands.shelf held c.round.ensures.0 c.new-launcher.ensures c.if-launcher.false about in
+    (launcher_shown c.new-launcher.result) c.in_ok-lines.lines stands.shelf held c.round_ahead.ensures.0 c.new-launcher.ensures c.if-launcher.false about in
     let after = fired left (runs_data launcher.runs) before in (
       after,
       (

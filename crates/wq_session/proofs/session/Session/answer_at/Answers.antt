@@ -17,7 +17,7 @@ finish-out-requires g c =
 pub returns-in-Some : goal.returns-in-Some
 returns-in-Some g c =
     let made = c.prepare_at-prepared in
-    unset_answer c.args.ask (option_map at_data c.args.at) (follows_of c.args.self.now) _ (work_data c.hold-work.result) c.finish-out.result
+    unset_answer g.C.Crew.may_go c.args.ask (option_map at_data c.args.at) (follows_of c.args.self.now) _ (work_data c.hold-work.result) c.finish-out.result
     c.settle.new.self _ _ _ c.in-Some.cursor
     (held_as (g.D.Desk.shelf c.args.desk.now) (g.D.Desk.shelf made.new.desk) (g.D.Desk.shelf c.hold-work.new.self) c.args.ask (asked made.result)
     (option_map at_data c.args.at) (asked_at made.result) (work_data c.hold-work.result) made.ensures.same made.ensures.ask made.ensures.at c.hold-work.ensures)
@@ -26,7 +26,7 @@ returns-in-Some g c =
 pub returns-in_default : goal.returns-in_default
 returns-in_default g c =
     let made = c.prepare_at-prepared in
-    kept_answer c.args.ask (option_map at_data c.args.at) (follows_of c.args.self.now) _ (work_data c.hold-work.result) c.finish-out.result
+    kept_answer g.C.Crew.may_go c.args.ask (option_map at_data c.args.at) (follows_of c.args.self.now) _ (work_data c.hold-work.result) c.finish-out.result
     c.settle.new.self _ _
     (held_as (g.D.Desk.shelf c.args.desk.now) (g.D.Desk.shelf made.new.desk) (g.D.Desk.shelf c.hold-work.new.self) c.args.ask (asked made.result)
     (option_map at_data c.args.at) (asked_at made.result) (work_data c.hold-work.result) made.ensures.same made.ensures.ask made.ensures.at c.hold-work.ensures)

@@ -7,11 +7,11 @@ use Rattle.wq_session.proofs.Reaching.{round_reached}
 use Rattle.wq_session.proofs.shared_shelf.ReachedShelf+Trigger.round.Goals as goal
 
 pub invariant_of-self : goal.invariant_of-self
-invariant_of-self g c = round_reached _ _ (shelf_data c.self.inside.shelf) _ _ _ c.round.ensures.0 c.self.invariant
+invariant_of-self g c = round_reached _ _ (shelf_data c.self.inside.shelf) _ _ _ c.round_ahead.ensures.0 c.self.invariant
 
 pub returns-clause-round : goal.returns-clause-round
 returns-clause-round g c =
     subst
     (λ s. IsCountedRound (instance_data c.args.instance.now) c.args.view.now (shelf_data s) (g.L.Launch.shown c.args.launcher.now)
-    (g.L.Launch.failures_of c.args.launcher.now) (shelf_data c.round.new.shelf) (g.L.Launch.shown c.round.new.launcher)
-    (g.L.Launch.failures_of c.round.new.launcher)) c.self.view_is c.round.ensures
+    (g.L.Launch.failures_of c.args.launcher.now) (shelf_data c.round_ahead.new.shelf) (g.L.Launch.shown c.round_ahead.new.launcher)
+    (g.L.Launch.failures_of c.round_ahead.new.launcher)) c.self.view_is c.round_ahead.ensures

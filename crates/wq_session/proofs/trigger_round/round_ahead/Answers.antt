@@ -4,7 +4,7 @@ use Rattle.wq_clock.specs.Instance.{instance_data}
 use Rattle.wq_registry.specs.Shelf.{triggers_of}
 use Rattle.wq_session.proofs.Rounds.{all_had, as_many_now, next_had, none_had}
 use Rattle.wq_session.specs.Shelved.{shelf_data}
-use Rattle.wq_session.proofs.trigger_round.round.Goals as goal
+use Rattle.wq_session.proofs.trigger_round.round_ahead.Goals as goal
 
 pub loop-k-init : goal.loop-k-init
 loop-k-init g c =

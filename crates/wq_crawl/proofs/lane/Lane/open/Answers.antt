@@ -5,7 +5,7 @@ use Rattle.wq_crawl.specs.Publish.{IsPlace}
 use Rattle.wq_crawl.specs.Shared.{WatchedBetween}
 use Rattle.wq_crawl.specs.declared.place.Place.TheVariants.{Free}
 use Rattle.wq_crawl.proofs.Between.{found_then, not_before, not_begun_then, started_then}
-use Rattle.wq_crawl.proofs.lane.Lane.watch.Goals as goal
+use Rattle.wq_crawl.proofs.lane.Lane.open.Goals as goal
 
 pub returns-in_err-told-clause-watched : goal.returns-in_err-told-clause-watched
 returns-in_err-told-clause-watched g c =

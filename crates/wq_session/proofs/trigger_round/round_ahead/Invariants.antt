@@ -3,7 +3,7 @@ use Rattle.wq_clock.specs.Instance.{instance_data}
 use Rattle.wq_registry.specs.Shelf.{triggers_of}
 use Rattle.wq_session.specs.Shelved.{shelf_data}
 use Rattle.wq_session.proofs.Rounds.{Had}
-use Rattle.wq_session.proofs.trigger_round.round.Given as goal
+use Rattle.wq_session.proofs.trigger_round.round_ahead.Given as goal
 
 abbrev pub invariant-loop-k : goal.invariant-loop-k
 invariant-loop-k g l =

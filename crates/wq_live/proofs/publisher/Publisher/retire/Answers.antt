@@ -3,7 +3,7 @@ use Rattle.std.proofs.Common.{◌≡◌, ◌++◌, ◌∷◌, [], MatchOption, f
 use Rattle.wq_live.specs.declared.event.RootEvent.TheVariants.{Ended}
 use Rattle.wq_live.specs.Event.{is_shown}
 use Rattle.wq_live.specs.Table.{IsTableOf}
-use Rattle.wq_live.proofs.publisher.Publisher.end.Goals as goal
+use Rattle.wq_live.proofs.publisher.Publisher.retire.Goals as goal
 
 pub add-requires : goal.add-requires
 add-requires g c =

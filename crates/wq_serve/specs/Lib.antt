@@ -1,0 +1,15 @@
+pub use Rattle.wq_stream.specs.Stream
+pub use Rattle.wq_stream.specs.Inbox
+pub use Rattle.wq_ask.specs.Reading
+pub use Rattle.wq_crawl.specs.Need
+pub use Rattle.wq_crawl.specs.Roots
+pub use Rattle.wq_crawl.specs.At
+pub use Rattle.wq_session.specs.Answer
+pub use Rattle.wq_session.specs.Desk
+pub use Rattle.wq_session.specs.Moment
+pub use Rattle.wq_session.specs.Out
+pub use Rattle.wq_session.specs.Round
+pub use Rattle.wq_session.specs.Serving
+pub use Rattle.wq_replay.specs.Playing
+pub use Rattle.wq_replay.specs.Replay
+pub use Rattle.wq_replay.specs.World

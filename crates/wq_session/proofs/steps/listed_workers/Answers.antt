@@ -1,0 +1,12 @@
+-- The text is that of the reply, or memory ran out.
+use Rattle.std.proofs.Common.{false}
+use Rattle.wq_clock.specs.Instance.{instance_data}
+use Rattle.wq_reply.specs.Answer.{text_in}
+use Rattle.wq_reply.specs.Plan.{planned}
+use Rattle.wq_session.proofs.Listing.{listed_finishes}
+use Rattle.wq_session.proofs.steps.listed_workers.Goals as goal
+
+pub returns : goal.returns
+returns g c follows =
+    listed_finishes false text_in (planned c.args.plan.now) c.args.cursor (instance_data c.args.instance.now) c.args.view.now
+    c.text_workers-text.result c.of_answer.result follows c.text_workers-text.ensures.text c.text_workers-text.ensures.ends c.of_answer.ensures
