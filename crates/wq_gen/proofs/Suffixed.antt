@@ -1,5 +1,5 @@
 -- The files with one of some suffixes, and the looks that they take.
-use Rattle.std.proofs.Common.{◌≡◌, ◌≤◌, ◌<◌, ◌+◌, ℕ, Bool, true, false, cond, ◌||◌, ◌==◌, List, [], ◌∷◌, ◌++◌, length, count_by, sum_by, refl, sym, ap, ◌∙◌, arith, length-append}
+use Rattle.std.proofs.Common.{◌≡◌, ◌≤◌, ◌<◌, ◌+◌, ℕ, Bool, true, false, cond, ◌||◌, ◌==◌, List, [], ◌∷◌, length, count_by, sum_by, refl, sym, ap, ◌∙◌, arith}
 use mathlib.Core.Bool.{false≢true}
 use Rattle.std.specs.List.Sorted.{IsPermutation}
 use Rattle.std.proofs.lemmas.List.Sorted.{list_any-IsPermutation}
@@ -8,8 +8,7 @@ use Rattle.wq_record.specs.RecordData.{RecordData}
 use Rattle.wq_view.specs.Position.{positions_of}
 use Rattle.wq_view.specs.Suffix.{has_suffix}
 use Rattle.wq_gen.specs.Candidate.{suffix_is_among}
-use Rattle.wq_gen.specs.Counted.{one_more, text_looks}
-use Rattle.wq_gen.proofs.Looks.{one_more_few}
+use Rattle.wq_gen.specs.Counted.{text_looks}
 use Rattle.wq_gen.proofs.Positions.{none_given, positions_alike}
 use Rattle.wq_gen.proofs.SinceTick.{count_positions}
 
@@ -63,7 +62,6 @@ any_few (t ∷ texts) rs some =
     let all : sum_by (text_looks rs) (t ∷ texts) ≡ text_looks rs t + sum_by (text_looks rs) texts = sum_by-cons (text_looks rs) t texts in
     omega (arith, all, count_either (has_suffix t) (suffix_is_among texts) rs, any_count texts rs)
 
--- no more positions are found than there are, and each took one look
-pub found_few : (test : RecordData → Bool) (rs : List RecordData) (found left : List ℕ) (old was now : ℕ) → found ++ left ≡ positions_of test rs → was ≤ old + length found → now ≡ one_more was → now ≤ old + (count_by test rs + 1)
-found_few test rs found left old was now all few next =
-    omega (arith, few, next, one_more_few was, ap length all, length-append found left, count_positions test rs)
+-- each position took one look, and that there is no other took one
+pub found_few : (test : RecordData → Bool) (rs : List RecordData) (old now : ℕ) → now ≤ old + (length (positions_of test rs) + 1) → now ≤ old + (count_by test rs + 1)
+found_few test rs old now few = omega (arith, few, count_positions test rs)

@@ -1,7 +1,8 @@
 //! A view whose looks are counted. So the cost of a search for candidates can be stated.
-ghost use Rattle.std.specs.Prelude.{◌≡◌, ◌∷◌, ◌≤◌, ◌<◌, ◌+◌, ◌==◌, ◌&&◌, ℕ, [], false, nat_le, nat_lt, length, slice_get, IfSome, MatchOption, Some};
+ghost use Rattle.std.specs.Prelude.{◌≡◌, ◌≤◌, ◌<◌, ◌+◌, ◌++◌, ◌==◌, ◌&&◌, ℕ, false, nat_le, nat_lt, length, slice_get, IfOk, IfSome, MatchOption, Some};
 ghost use Rattle.wq_view.specs.Below.{is_below};
 ghost use Rattle.wq_view.specs.Limit.{max_records};
+ghost use Rattle.wq_view.specs.Looks.{count_after};
 ghost use Rattle.wq_view.specs.Order.{Known};
 ghost use Rattle.wq_view.specs.Position.{has_name, passes_at, positions_of};
 ghost use Rattle.wq_view.specs.Suffix.{has_suffix};
@@ -9,8 +10,9 @@ ghost use Rattle.wq_view.specs.View.{newest_of};
 ghost use Rattle.wq_gen.specs.Candidate.{suffix_is_among};
 ghost use Rattle.wq_gen.specs.Counted.{one_more};
 
+use std::alloc::AllocError;
 use std::marker::Model;
-use wq_view::{Reader, Record, SuffixSearch, Suffixes, View};
+use wq_view::{Reader, Record, Suffixes, View};
 
 /// A view, through which each look is counted.
 #[derive(Drop)]
@@ -100,24 +102,23 @@ impl<'a> Counted<'a> {
         self.view.suffix_at(text, k)
     }
 
-    /// A search for the records whose suffix is one of these. Each step of it is a look, and there was none yet.
-    pub fn search<'s>(&self, sought: &'s Suffixes<'s>) -> CountedSearch<'a, 's>
-        ensures { result ≡ positions_of (suffix_is_among sought.now) self.now.view.records }
-    {
-        CountedSearch {
-            search: self.view.search(sought),
-        }
-    }
-
-    /// The next position that a search gives, if there is one.
-    pub fn next_found(&mut self, search: &mut CountedSearch<'_, '_>) -> Option<usize>
-        ensures left { MatchOption result (search.old ≡ []) (λ i. search.old ≡ i ∷ search.new) }
-        ensures few { IfSome result (λ i. i < max_records) }
+    /// Adds the positions of the records whose suffix is one of these, ascending. Each of them is a look, and that there is
+    /// no other is one more.
+    pub fn push_with_suffix(
+        &mut self,
+        sought: &Suffixes<'_>,
+        found: &mut Vec<u32>,
+    ) -> Result<(), AllocError>
+        ensures found { IfOk result (λ _. found.new.items ≡ found.old.items
+            ++ positions_of (suffix_is_among sought.now) self.old.view.records) }
+        ensures counted { IfOk result (λ _. self.new.count ≡ count_after
+            (length (positions_of (suffix_is_among sought.now) self.old.view.records) + 1)
+            self.old.count) }
+        ensures few { self.new.count ≤ self.old.count
+            + (length (positions_of (suffix_is_among sought.now) self.old.view.records) + 1) }
         ensures same { self.new.view ≡ self.old.view }
-        ensures count { self.new.count ≡ one_more self.old.count }
     {
-        self.count = one_more(self.count);
-        search.search.next()
+        self.view.push_with_suffix(sought, &mut self.count, found)
     }
 
     /// The range of the positions of the records strictly below a directory. All records are below the empty one.
@@ -147,20 +148,6 @@ impl<'a> Counted<'a> {
         self.count = one_more(self.count);
         self.view.find(name)
     }
-}
-
-/// A search by suffix over a view whose looks are counted. [`Counted::next_found`] alone takes a step of it.
-#[derive(Drop)]
-pub struct CountedSearch<'a, 's> {
-    search: SuffixSearch<'a, 's>,
-}
-
-impl<'a, 's> Model for CountedSearch<'a, 's> {
-    ghost use Rattle.std.specs.Prelude.{ℕ, List};
-
-    ghost Value = { List ℕ };
-
-    ghost view = { λ s. s.search };
 }
 
 /// The count with one look more.

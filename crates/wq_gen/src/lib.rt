@@ -17,5 +17,5 @@ mod since;
 mod suffix;
 
 pub use candidate::{candidates, candidates_counted, candidates_counted_for, candidates_for};
-pub use counted::{Counted, CountedSearch};
+pub use counted::Counted;
 pub use wq_term::{Generators, PathGen};

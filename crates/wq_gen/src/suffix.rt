@@ -59,9 +59,6 @@ fn found_by_suffix(
     ensures same { counted.new.view ≡ counted.old.view }
 {
     let mut found = Vec::new(alloc);
-    let mut search = counted.search(sought);
-    while let Some(i) = counted.next_found(&mut search) {
-        found.push(i as u32)?;
-    }
+    counted.push_with_suffix(sought, &mut found)?;
     Ok(found)
 }

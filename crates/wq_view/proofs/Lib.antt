@@ -32,6 +32,6 @@ mod Stretches
 mod Counted
 mod PatchedViews
 mod SuffixPlaces
+mod SuffixSlots
 mod SuffixFlags
-mod Cursors
 mod Whole

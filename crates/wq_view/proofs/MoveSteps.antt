@@ -1,5 +1,5 @@
 -- The moves of records that a pass leaves as they are, and of the pairs of several chunks.
-use Rattle.std.proofs.Common.{◌≡◌, ◌<◌, ℕ, ℤ, pos, zero, suc, ◌+◌, true, List, [], ◌∷◌, ◌++◌, length, take, get_or, refl, sym, ap, ◌∙◌, append_assoc, append-nil, arith, length-append}
+use Rattle.std.proofs.Common.{◌≡◌, ◌<◌, ℕ, ℤ, pos, zero, suc, ◌+◌, true, List, [], ◌∷◌, ◌++◌, length, take, get_or, refl, sym, ap, ◌∙◌, append_assoc, arith, length-append}
 use mathlib.Core.Bool.{false≢true}
 use Rattle.std.specs.List.{list_all, range_with_len}
 use Rattle.std.proofs.lemmas.List.{length-map, take_more}
@@ -7,11 +7,11 @@ use Rattle.wq_view.specs.declared.chunk.Slot.{Slot}
 use Rattle.wq_record.specs.Seen.{SeenData}
 use Rattle.wq_record.specs.RecordData.{RecordData}
 use Rattle.wq_view.specs.Merge.{PairData, record_alone, record_and_row, row_alone, is_unchanged, pair_after, pairs_of, records_after}
-use Rattle.wq_view.specs.Run.{run_pairs, rows_behind, is_same_run}
+use Rattle.wq_view.specs.Run.{run_pairs, is_same_run}
 use Rattle.wq_view.specs.Chunk.{slot_records, records_in}
-use Rattle.wq_view.specs.Moves.{MovesData, with_known, with_pair, with_pairs, with_same, no_moves}
+use Rattle.wq_view.specs.Moves.{MovesData, with_known, with_pair, with_pairs, with_same}
 use Rattle.wq_view.proofs.NameOrder.{both_true}
-use Rattle.wq_view.proofs.Runs.{run_then, pairs_of_both, same_after}
+use Rattle.wq_view.proofs.Runs.{same_after}
 use Rattle.wq_view.proofs.Slots.{slot_taken}
 
 -- one number more in a range

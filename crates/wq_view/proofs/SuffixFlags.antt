@@ -1,16 +1,16 @@
 -- The flags of the numbers of suffixes.
-use Rattle.std.proofs.Common.{◌≡◌, ◌≢◌, ℕ, ◌+◌, ◌<◌, ◌⊎◌, inl, inr, Bool, true, false, List, [], length, drop, get_or, set, slice_get, Some, sym, refl, ap, subst, ◌∙◌, arith, get_or-set_same, get_or-set_other}
+use Rattle.std.proofs.Common.{◌≡◌, ◌≢◌, ℕ, ◌+◌, ◌<◌, ◌⊎◌, inl, inr, Bool, true, false, List, [], length, get_or, set, slice_get, Some, sym, ap, ◌∙◌, arith, get_or-set_same, get_or-set_other}
 use Rattle.std.proofs.lemmas.Bool.{cases_eq}
-use Rattle.std.proofs.lemmas.List.{get_or-drop, length-drop, length-map}
-use Rattle.std.proofs.lemmas.Option.{slice_get_read, slice_get_within, get_or_from_slice_get}
+use Rattle.std.proofs.lemmas.List.{length-map}
+use Rattle.std.proofs.lemmas.Option.{slice_get_within, get_or_from_slice_get}
 use Rattle.wq_base.specs.Name.{suffix_of}
 use Rattle.wq_record.specs.RecordData.{RecordData}
 use Rattle.wq_view.specs.declared.suffix.First.{First}
-use Rattle.wq_view.specs.Suffix.{AreFlagged, AreFlags, ArePlaces, IsFlagged, IsNumber, IsNumbered, first_places, folded_suffix, folded_suffixes, is_folded_of, is_one_of, max_numbered, suffix_at}
+use Rattle.wq_view.specs.Suffix.{AreFlagged, AreNumberFlags, ArePlaces, IsFlagged, IsNumber, IsNumbered, first_places, folded_suffix, folded_suffixes, is_folded_of, is_one_of, max_numbered, suffix_at}
 use Rattle.wq_view.proofs.SuffixNumbers.{place_in, place_is, suffix_there}
 
 -- the flag of a record's number
-module _ (texts : List (List ℕ)) (rs : List RecordData) (places numbers : List ℕ) (flags : List Bool) (table : IsNumbered (folded_suffixes rs) places numbers) (fit : AreFlags texts (folded_suffixes rs) places flags) where
+module _ (texts : List (List ℕ)) (rs : List RecordData) (places numbers : List ℕ) (flags : List Bool) (table : IsNumbered (folded_suffixes rs) places numbers) (fit : AreNumberFlags texts (folded_suffixes rs) places flags) where
   one_flagged : (i : ℕ) (r : RecordData) → slice_get rs i ≡ Some r → IsFlagged texts flags (get_or numbers i 0) r
   one_flagged i r is = by (table.right i (omega (arith, low, length-map rs folded_suffix)))
     where
@@ -29,18 +29,6 @@ module _ (texts : List (List ℕ)) (rs : List RecordData) (places numbers : List
     each = omega (arith, table.each, length-map rs folded_suffix);
     right = one_flagged;
   }
-
--- the flags of the records after some
-pub flagged_after : (texts : List (List ℕ)) (flags : List Bool) (numbers : List ℕ) (rs : List RecordData) (k : ℕ) → AreFlagged texts flags numbers rs → AreFlagged texts flags (drop k numbers) (drop k rs)
-flagged_after texts flags numbers rs k all = record {
-  each = omega (arith, all.each, length-drop k numbers, length-drop k rs);
-  right = λ i r is. subst (λ n. IsFlagged texts flags n r) (sym (get_or-drop k numbers i 0)) (all.right (k + i) r (there i r is));
-}
-  where
-    there : (i : ℕ) (r : RecordData) → slice_get (drop k rs) i ≡ Some r → slice_get rs (k + i) ≡ Some r
-    there i r is =
-        let low : i < length (drop k rs) = slice_get_within (drop k rs) i r is in
-        slice_get_read rs (length rs) (k + i) r refl (omega (arith, low, length-drop k rs)) (sym (sym (get_or-drop k rs i r) ∙ get_or_from_slice_get (drop k rs) i r r is))
 
 -- one flag more
 module _ (texts : List (List ℕ)) (rs : List RecordData) (firsts : List First) (flags now : List Bool) (k : ℕ) (flag : Bool) (is : now ≡ set flags k flag) where

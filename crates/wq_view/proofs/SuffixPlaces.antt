@@ -1,10 +1,9 @@
 -- The positions of records that pass a test, record by record.
-use Rattle.std.proofs.Common.{◌≡◌, ℕ, ◌+◌, ◌<◌, ◌≤◌, Bool, true, false, cond, ◌||◌, List, [], ◌∷◌, ◌++◌, length, map, drop, get_or, slice_get, Option, Some, None, MatchOption, sym, refl, ap, ◌∙◌, arith}
-use Rattle.std.proofs.lemmas.List.{drop_more, length-drop}
+use Rattle.std.proofs.Common.{◌≡◌, ◌≢◌, ℕ, zero, suc, ◌+◌, ◌-◌, ◌<◌, ◌≤◌, Bool, true, false, cond, ◌||◌, List, [], ◌∷◌, ◌++◌, length, map, drop, get_or, slice_get, Some, sym, refl, ap, ◌∙◌, arith}
+use Rattle.std.proofs.lemmas.List.{drop_more}
 use Rattle.std.proofs.Math.ListN.{drop_of_length-le}
-use Rattle.std.proofs.lemmas.Option.{slice_get_past, slice_get_read}
 use Rattle.wq_record.specs.RecordData.{RecordData}
-use Rattle.wq_view.specs.Position.{IsFirst, places_from, positions_from, positions_of}
+use Rattle.wq_view.specs.Position.{places_from, positions_from, positions_of}
 use Rattle.wq_view.specs.Suffix.{has_suffix, has_suffix_of}
 use Rattle.wq_view.proofs.PositionRuns.{positions_in_two}
 
@@ -49,41 +48,31 @@ module _ (test : RecordData → Bool) where
   pub all_places : (rs : List RecordData) → places_from test 0 rs ≡ positions_of test rs
   all_places rs = places_are_positions 0 rs ∙ same_twice (positions_of test rs)
 
-  -- what is left after so many records of which none passes
-  abbrev pub IsPassed : List RecordData → ℕ → Type 0
-  IsPassed rs i = (at : ℕ) → places_from test at rs ≡ places_from test (at + i) (drop i rs)
-
-  pub none_passed : (rs : List RecordData) → IsPassed rs 0
-  none_passed rs at =
-      let same : at ≡ at + 0 = omega arith in
-      ap (λ n. places_from test n rs) same
+  -- the positions that are left after so many records
+  abbrev pub places_after : ℕ → List RecordData → ℕ → List ℕ
+  places_after at rs i = places_from test (at + i) (drop i rs)
 
   here : (rs : List RecordData) (i at : ℕ) (r : RecordData) (b : Bool) → i < length rs → r ≡ get_or rs i r → test r ≡ b → places_from test (at + i) (drop i rs) ≡ cond b ((at + i) ∷ places_from test (at + i + 1) (drop (i + 1) rs)) (places_from test (at + i + 1) (drop (i + 1) rs))
   here rs i at r b low is e =
       ap (places_from test (at + i)) (drop_more rs i r low ∙ ap (λ x. x ∷ drop (i + 1) rs) (sym is)) ∙ ap (λ t. cond t ((at + i) ∷ places_from test (at + i + 1) (drop (i + 1) rs)) (places_from test (at + i + 1) (drop (i + 1) rs))) e
 
-  pub one_passed : (rs : List RecordData) (i : ℕ) (r : RecordData) → i < length rs → r ≡ get_or rs i r → test r ≡ false → IsPassed rs i → IsPassed rs (i + 1)
-  one_passed rs i r low is fails before at =
+  pub all_after : (at : ℕ) (rs : List RecordData) → places_after at rs 0 ≡ places_from test at rs
+  all_after at rs =
+      let same : at + 0 ≡ at = omega arith in
+      ap (λ n. places_from test n rs) same
+
+  pub none_after : (at : ℕ) (rs : List RecordData) (i : ℕ) → length rs ≤ i → places_after at rs i ≡ []
+  none_after at rs i past = ap (places_from test (at + i)) (drop_of_length-le rs past)
+
+  pub found_after : (at : ℕ) (rs : List RecordData) (i : ℕ) (r : RecordData) → i < length rs → r ≡ get_or rs i r → test r ≡ true → places_after at rs i ≡ (at + i) ∷ places_after at rs (i + 1)
+  found_after at rs i r low is passes =
       let next : at + i + 1 ≡ at + (i + 1) = omega arith in
-      before at ∙ here rs i at r false low is fails ∙ ap (λ n. places_from test n (drop (i + 1) rs)) next
+      here rs i at r true low is passes ∙ ap (λ n. (at + i) ∷ places_from test n (drop (i + 1) rs)) next
 
-  pub first_found : (rs : List RecordData) (i : ℕ) (r : RecordData) → i < length rs → r ≡ get_or rs i r → test r ≡ true → IsPassed rs i → IsFirst test rs (Some i)
-  first_found rs i r low is passes before = (low, λ at. before at ∙ here rs i at r true low is passes)
-
-  pub none_found : (rs : List RecordData) (i : ℕ) → length rs ≤ i → IsPassed rs i → IsFirst test rs None
-  none_found rs i past before at = before at ∙ ap (places_from test (at + i)) (drop_of_length-le rs past)
-
-  -- what is left after the first one, or if there is none
-  pub left_first : (at : ℕ) (rs rest : List RecordData) (i : ℕ) → IsFirst test rs (Some i) → places_from test at (rs ++ rest) ≡ (at + i) ∷ places_from test (at + i + 1) (drop (i + 1) rs ++ rest)
-  left_first at rs rest i first =
-      let end : at + length rs ≡ at + i + 1 + length (drop (i + 1) rs) = omega (arith, first.0, length-drop (i + 1) rs) in
-      places_both at rs rest
-      ∙ ap (λ l. l ++ places_from test (at + length rs) rest) (first.1 at)
-      ∙ ap (λ n. (at + i) ∷ (places_from test (at + i + 1) (drop (i + 1) rs) ++ places_from test n rest)) end
-      ∙ ap (λ l. (at + i) ∷ l) (sym (places_both (at + i + 1) (drop (i + 1) rs) rest))
-
-  pub left_none : (at : ℕ) (rs rest : List RecordData) → IsFirst test rs None → places_from test at (rs ++ rest) ≡ places_from test (at + length rs) rest
-  left_none at rs rest none = places_both at rs rest ∙ ap (λ l. l ++ places_from test (at + length rs) rest) (none at)
+  pub same_after : (at : ℕ) (rs : List RecordData) (i : ℕ) (r : RecordData) → i < length rs → r ≡ get_or rs i r → test r ≡ false → places_after at rs i ≡ places_after at rs (i + 1)
+  same_after at rs i r low is fails =
+      let next : at + i + 1 ≡ at + (i + 1) = omega arith in
+      here rs i at r false low is fails ∙ ap (λ n. places_from test n (drop (i + 1) rs)) next
 
 -- tests that agree pass at the same positions
 places_alike : (f g : RecordData → Bool) → ((r : RecordData) → f r ≡ g r) → (at : ℕ) (rs : List RecordData) → places_from f at rs ≡ places_from g at rs
@@ -103,31 +92,13 @@ pub positions_of_one : (text : List ℕ) (rs : List RecordData) → positions_of
 positions_of_one text rs =
     sym (all_places (has_suffix_of (text ∷ [])) rs) ∙ places_alike (has_suffix_of (text ∷ [])) (has_suffix text) (one_text text) 0 rs ∙ all_places (has_suffix text) rs
 
--- the positions that are left after so many
-module _ (all : List ℕ) (k : ℕ) where
-  next_low : (i : ℕ) (rest : List ℕ) → drop k all ≡ i ∷ rest → k < length all
-  next_low i rest is = omega (arith, ap length is, length-drop k all)
+-- the first one is passed
+pub nth_later : (x : ℕ) (xs : List ℕ) (k left : ℕ) → k ≢ 0 → left ≡ k - 1 → slice_get (x ∷ xs) k ≡ slice_get xs left
+nth_later x xs zero left some is = absurd (some refl)
+nth_later x xs (suc k) left some is =
+    let same : k ≡ left = omega (arith, is) in
+    ap (slice_get xs) same
 
-  next_is : (i : ℕ) (rest : List ℕ) → drop k all ≡ i ∷ rest → i ∷ rest ≡ get_or all k i ∷ drop (k + 1) all
-  next_is i rest is = sym is ∙ drop_more all k i (next_low i rest is)
-
-  -- one less is left
-  pub next_left : (i : ℕ) (rest : List ℕ) → drop k all ≡ i ∷ rest → rest ≡ drop (k + 1) all
-  next_left i rest is = ap tail (next_is i rest is)
-    where
-      tail : List ℕ → List ℕ
-      tail [] = []
-      tail (x ∷ xs) = xs
-
-  -- none is left, so none comes later
-  pub none_later : (n : ℕ) → drop k all ≡ [] → k ≤ n → None ≡ slice_get all n
-  none_later n none low = sym (slice_get_past all n (omega (arith, low, ap length none, length-drop k all)))
-
-  -- the first one that is left
-  pub kth : (result : Option ℕ) (rest : List ℕ) → MatchOption result (drop k all ≡ []) (λ i. drop k all ≡ i ∷ rest) → result ≡ slice_get all k
-  kth None rest none = none_later k none (omega arith)
-  kth (Some i) rest is = sym (slice_get_read all (length all) k i refl (next_low i rest is) (ap (head i) (next_is i rest is)))
-    where
-      head : ℕ → List ℕ → ℕ
-      head d [] = d
-      head d (x ∷ xs) = x
+-- the first one is the one sought
+pub nth_first : (x : ℕ) (xs : List ℕ) (k : ℕ) → k ≡ 0 → slice_get (x ∷ xs) k ≡ Some x
+nth_first x xs k none = ap (slice_get (x ∷ xs)) none

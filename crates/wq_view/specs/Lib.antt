@@ -16,7 +16,7 @@ pub mod Moves
 pub mod Suffix
 pub mod SeenRows
 pub mod Sought
-pub mod Cursor
+pub mod Looks
 pub mod Patch
 pub mod Patching
 pub mod Stretch

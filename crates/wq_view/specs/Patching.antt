@@ -1,15 +1,14 @@
 -- The step by which a view takes in a pass whose rows differ by patches from its records. No public
 -- document defines it.
 use Rattle.std.specs.Prelude.{◌≡◌, ℕ, ℤ, Bool, true, ◌&&◌, ◌+◌, IsTrue, List, [], ◌∷◌, ◌++◌, take, drop, length, map}
-use Rattle.std.specs.FinMap.{FinMap, from_entries, is_sorted}
+use Rattle.std.specs.FinMap.{is_sorted}
 use Rattle.std.specs.List.{AllByRecursion, list_all}
 use Rattle.std.specs.declared.cmp.Ordering.TheVariants.{Less}
 use Rattle.wq_record.specs.Name.{name_cmp}
 use Rattle.wq_record.specs.RecordData.{RecordData}
-use Rattle.wq_record.specs.Seen.{SeenData, Stat, entry_of, is_lawful_row}
+use Rattle.wq_record.specs.Seen.{SeenData, entry_of, is_lawful_row}
 use Rattle.wq_view.specs.Merge.{pairs_of, records_after, shows}
 use Rattle.wq_view.specs.Moves.{MovesData, with_pairs, with_same}
-use Rattle.wq_view.specs.Patch.{patched}
 use Rattle.wq_view.specs.declared.patch.Patch.{Patch}
 
 -- the records of which a patch keeps the files

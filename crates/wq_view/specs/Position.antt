@@ -1,6 +1,6 @@
 -- Positions of records: their places in the list of a view, from 0. They are this server's own.
 use Rattle.std.specs.Prelude.{◌≡◌, ◌<◌, ◌≤◌, ◌+◌, ℕ, Bool, false, if◌then◌else◌, All, List, [], ◌∷◌, length, map, filter}
-use Rattle.std.specs.Prelude.{bytes_eq, drop, slice_get, Option, MatchOption}
+use Rattle.std.specs.Prelude.{bytes_eq, slice_get}
 use Rattle.std.specs.List.{filter_map, range_with_len}
 use Rattle.std.specs.Option.{option_map_or}
 use Rattle.wq_record.specs.RecordData.{RecordData}
@@ -30,13 +30,6 @@ abbrev pub places_from : (RecordData → Bool) → ℕ → List RecordData → L
 places_from test at [] = []
 places_from test at (r ∷ records) =
     if test r then at ∷ places_from test (at + 1) records else places_from test (at + 1) records
-
--- the place of the first record that passes the test, if there is one
-abbrev pub IsFirst : (RecordData → Bool) → List RecordData → Option ℕ → Type 0
-IsFirst test records result =
-    MatchOption result ((at : ℕ) → places_from test at records ≡ [])
-    (λ i. (i < length records) × ((at : ℕ) → places_from test at records
-    ≡ (at + i) ∷ places_from test (at + i + 1) (drop (i + 1) records)))
 
 -- the records at these positions, in their order
 abbrev pub records_at : List RecordData → List ℕ → List RecordData

@@ -4,6 +4,6 @@ use Rattle.wq_view.specs.declared.sought.Sought.{Sought}
 use Rattle.wq_view.specs.declared.sought.Sought.TheVariants.{One, Any}
 
 -- the suffixes that are sought
-abbrev pub texts_of : Sought → List (List ℕ)
-texts_of (One text) = text.now ∷ []
-texts_of (Any suffixes) = suffixes.now
+abbrev pub sought_texts : Sought → List (List ℕ)
+sought_texts (One text) = text.now ∷ []
+sought_texts (Any suffixes) = suffixes.now

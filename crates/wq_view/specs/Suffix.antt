@@ -87,7 +87,7 @@ pub record AreFlagged (texts : List (List ℕ)) (flags : List Bool) (numbers : L
 
 -- the flags of numbers: whether the suffix at the place of each is one of these texts; the last one
 -- is set
-pub record AreFlags (texts suffixes : List (List ℕ)) (places : List ℕ) (flags : List Bool)
+pub record AreNumberFlags (texts suffixes : List (List ℕ)) (places : List ℕ) (flags : List Bool)
     : Type 0 where
   pub each : (number : ℕ) → number < length places
       → get_or flags number false ≡ is_folded_of texts (suffix_at suffixes places number)

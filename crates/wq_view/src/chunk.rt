@@ -4,12 +4,13 @@ ghost use Rattle.std.specs.List.{list_all};
 ghost use Rattle.wq_record.specs.Seen.{is_lawful_row};
 ghost use Rattle.wq_view.specs.SeenRows.{seen_rows};
 ghost use Rattle.wq_view.specs.Limit.{max_chunk};
-ghost use Rattle.wq_view.specs.Sought.{texts_of};
+ghost use Rattle.wq_view.specs.Sought.{sought_texts};
 ghost use Rattle.wq_view.specs.Suffix.{AreFlagged, folded_suffixes};
 
 use crate::existence::existing_in;
 use crate::sought::Sought;
 use crate::suffix::SuffixTable;
+use crate::suffix_search::Flagged;
 use std::alloc::{AllocError, Global};
 use std::marker::Model;
 use std::sync::Arc;
@@ -98,12 +99,17 @@ impl Chunk {
         self.existing
     }
 
-    /// The numbers of the records' suffixes, and the flags of those that are sought.
-    pub(crate) fn flagged(&self, sought: Sought<'_>) -> (&[u8], [bool; 256])
-        ensures { AreFlagged (texts_of sought.entry) result.1 result.0.now self.now }
+    /// The records, and which suffixes among theirs are sought.
+    pub(crate) fn flagged(&self, sought: Sought<'_>) -> Flagged<'_>
+        ensures flagged { AreFlagged (sought_texts sought.entry) result.flags result.numbers.now
+            result.records.now }
+        ensures records { result.records.now ≡ self.now }
     {
-        let flags = self.suffixes.flags(&self.records, sought);
-        (&self.suffixes.numbers, flags)
+        Flagged {
+            records: &self.records,
+            numbers: &self.suffixes.numbers,
+            flags: self.suffixes.flags(&self.records, sought),
+        }
     }
 }
 

@@ -1,6 +1,6 @@
 //! What a search for suffixes looks for.
 ghost use Rattle.std.specs.Prelude.{◌≡◌};
-ghost use Rattle.wq_view.specs.Sought.{texts_of};
+ghost use Rattle.wq_view.specs.Sought.{sought_texts};
 ghost use Rattle.wq_view.specs.Suffix.{is_one_of};
 
 use crate::suffixes::Suffixes;
@@ -18,7 +18,7 @@ pub(crate) enum Sought<'a> {
 impl<'a> Sought<'a> {
     /// Whether a suffix is sought. An empty text is no suffix.
     pub(crate) fn has(self, suffix: &[u8]) -> bool
-        ensures { result ≡ is_one_of (texts_of self.entry) suffix.now }
+        ensures { result ≡ is_one_of (sought_texts self.entry) suffix.now }
     {
         match self {
             Sought::One(text) => is_suffix(text, suffix),

@@ -3,8 +3,8 @@
 ghost use Rattle.std.specs.Prelude.{◌≡◌, ◌≤◌, ◌<◌, [], length, IfOk, IfSome, get_or};
 ghost use Rattle.std.specs.Str.{str_to_ascii_lowercase};
 ghost use Rattle.wq_view.specs.Limit.{max_chunk};
-ghost use Rattle.wq_view.specs.Sought.{texts_of};
-ghost use Rattle.wq_view.specs.Suffix.{AreFlagged, AreFlags, ArePlaces, IsNumberFor, IsNumbered, first_places, folded_suffixes};
+ghost use Rattle.wq_view.specs.Sought.{sought_texts};
+ghost use Rattle.wq_view.specs.Suffix.{AreFlagged, AreNumberFlags, ArePlaces, IsNumberFor, IsNumbered, first_places, folded_suffixes};
 
 use crate::sought::Sought;
 use std::alloc::{AllocError, Global};
@@ -63,7 +63,7 @@ impl SuffixTable {
     pub(crate) fn flags(&self, records: &[Record], sought: Sought<'_>) -> [bool; 256]
         requires { IsNumbered (folded_suffixes records.now) (first_places self.now.firsts.items)
             self.now.numbers.items }
-        ensures { AreFlagged (texts_of sought.entry) result self.now.numbers.items records.now }
+        ensures { AreFlagged (sought_texts sought.entry) result self.now.numbers.items records.now }
     {
         flags_of(&self.firsts, records, sought)
     }
@@ -121,7 +121,7 @@ fn mark_of(suffix: &[u8]) -> u8 {
 /// Says for each suffix with a number whether it is sought.
 fn flags_of(firsts: &[First], records: &[Record], sought: Sought<'_>) -> [bool; 256]
     requires { ArePlaces (length records.now) (first_places firsts.now) }
-    ensures { AreFlags (texts_of sought.entry) (folded_suffixes records.now) (first_places firsts.now)
+    ensures { AreNumberFlags (sought_texts sought.entry) (folded_suffixes records.now) (first_places firsts.now)
         result }
 {
     let mut flags = [false; 256];

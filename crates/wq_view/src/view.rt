@@ -9,6 +9,7 @@ ghost use Rattle.wq_view.specs.History.{History, last_stats};
 ghost use Rattle.wq_view.specs.Below.{is_below};
 ghost use Rattle.wq_record.specs.Limit.{max_tick};
 ghost use Rattle.wq_view.specs.Limit.{max_records};
+ghost use Rattle.wq_view.specs.Looks.{count_after};
 ghost use Rattle.wq_view.specs.Order.{Known};
 ghost use Rattle.wq_view.specs.Patching.{ArePatches};
 ghost use Rattle.wq_view.specs.Position.{has_name, passes_at, positions_of};
@@ -27,7 +28,7 @@ use crate::patch_merge::{all_shown, are_fit, chunks_patched};
 use crate::reader::Reader;
 use crate::records::Records;
 use crate::sought::Sought;
-use crate::suffix_search::SuffixSearch;
+use crate::suffix_search::{nth_found, push_found};
 use crate::suffixes::Suffixes;
 use std::alloc::{AllocError, Global};
 use std::marker::Model;
@@ -323,19 +324,27 @@ impl View {
             ≡ slice_get (positions_of (has_suffix text.now) self.now.records) k }
         ensures bound { IfSome result (λ i. i < length self.now.records) }
     {
-        let mut search = SuffixSearch::over(self.chunks.slots(), Sought::One(text));
-        for _ in 0..k {
-            search.next()?;
-        }
-        search.next()
+        nth_found(self.chunks.slots(), Sought::One(text), k)
     }
 
-    /// A search for the records whose suffix is one of these. A to Z count as a to z, and no record has an empty suffix.
-    /// The search gives their positions, ascending.
-    pub fn search<'a, 's>(&'a self, sought: &'s Suffixes<'s>) -> SuffixSearch<'a, 's>
-        ensures { result ≡ positions_of (has_suffix_of sought.now) self.now.records }
+    /// Adds the positions of the records whose suffix is one of these, ascending. A to Z count as a to z, and no record has
+    /// an empty suffix. Each position is a look, and that there is no other is one more.
+    ///
+    /// The call compares each suffix of a chunk once, and then reads a byte for each record.
+    pub fn push_with_suffix(
+        &self,
+        sought: &Suffixes<'_>,
+        looks: &mut u64,
+        found: &mut Vec<u32>,
+    ) -> Result<(), AllocError>
+        ensures found { IfOk result (λ _. found.new.items ≡ found.old.items
+            ++ positions_of (has_suffix_of sought.now) self.now.records) }
+        ensures counted { IfOk result (λ _. looks.new ≡ count_after
+            (length (positions_of (has_suffix_of sought.now) self.now.records) + 1) looks.old) }
+        ensures few { looks.new ≤ looks.old
+            + (length (positions_of (has_suffix_of sought.now) self.now.records) + 1) }
     {
-        SuffixSearch::over(self.chunks.slots(), Sought::Any(sought))
+        push_found(self.chunks.slots(), Sought::Any(sought), looks, found)
     }
 
     /// An equal view. It shares its records with this view.

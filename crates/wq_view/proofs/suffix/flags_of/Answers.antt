@@ -2,7 +2,7 @@
 use Rattle.std.proofs.Common.{◌<◌, set, refl, ap, ◌∙◌, arith}
 use Rattle.std.proofs.lemmas.List.{length-map, length-set}
 use Rattle.wq_view.specs.declared.suffix.First.{First}
-use Rattle.wq_view.specs.Sought.{texts_of}
+use Rattle.wq_view.specs.Sought.{sought_texts}
 use Rattle.wq_view.specs.Suffix.{is_one_of, max_numbered}
 use Rattle.wq_view.proofs.SuffixFlags.{last_kept, one_more_set}
 use Rattle.wq_view.proofs.SuffixNumbers.{place_in}
@@ -13,7 +13,7 @@ bounds-records-first c = place_in _ c.args.firsts.now c.loop-number.number _ c.r
 
 pub loop-number-preserved : goal.loop-number-preserved
 loop-number-preserved c =
-    let texts = texts_of c.args.sought in
+    let texts = sought_texts c.args.sought in
     let rs = c.args.records.now in
     let firsts = c.args.firsts.now in
     let k = c.loop-number.number in
