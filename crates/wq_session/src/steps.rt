@@ -1,11 +1,10 @@
 //! The steps of an answer at a shelf that the caller has alone: it is taken there, finished without the shelf, and
 //! settled. A server and a script go through a desk, which does the same steps.
-ghost use Rattle.std.specs.Prelude.{◌≡◌, IfErr, IfOk, List, Some, false, option_map};
+ghost use Rattle.std.specs.Prelude.{◌≡◌, IfErr, IfOk, Some, false, option_map};
 ghost use Rattle.serde_json.specs.Written.{compact_text};
 ghost use Rattle.wq_base.specs.Limit.{AreFew};
 ghost use Rattle.wq_clock.specs.Instance.{instance_data};
 ghost use Rattle.wq_crawl.specs.At.{at_data};
-ghost use Rattle.wq_follow.specs.Subscription.{SubscriptionData};
 ghost use Rattle.wq_reply.specs.Answer.{text_in};
 ghost use Rattle.wq_reply.specs.Plan.{planned};
 ghost use Rattle.wq_reply.specs.Reply.{reply_of};
@@ -65,6 +64,26 @@ impl Session {
     {
         out.settle()
     }
+
+    /// The listing of the files of a plan, of a root with this view, which so many threads find. The subscriptions stay.
+    fn list_workers<R: Threads, G: Gate + Sync>(
+        &self,
+        rt: &R,
+        gate: &G,
+        workers: u32,
+        plan: &Plan,
+        cursor: Option<Cursor>,
+        instance: &Instance,
+        view: &View,
+    ) -> Out
+        requires { AreFew workers }
+        ensures { Finishes false (evaluates (planned plan.now) cursor)
+            (Some (record { instance = instance_data instance.now; view = Some view.now }))
+            (follows_of self.now) result (follows_of self.now) }
+    {
+        let text = text_workers(rt, self.alloc, gate, workers, plan, instance, view);
+        Out::of_answer(text, cursor)
+    }
 }
 
 impl Work {
@@ -102,41 +121,12 @@ impl Work {
                         instance,
                         view: Some(view),
                     },
-                ) => listed_workers(
-                    rt,
-                    session.alloc,
-                    gate,
-                    workers,
-                    &plan,
-                    cursor,
-                    &instance,
-                    view,
-                ),
+                ) => session.list_workers(rt, gate, workers, &plan, cursor, &instance, view),
                 _ => unreachable!(),
             },
             rest => session.finish_rest(&Alone {}, rest, at),
         }
     }
-}
-
-/// The listing of the files of a plan, of a root with this view, which so many threads find.
-fn listed_workers<R: Threads, G: Gate + Sync>(
-    rt: &R,
-    alloc: Global,
-    gate: &G,
-    workers: u32,
-    plan: &Plan,
-    cursor: Option<Cursor>,
-    instance: &Instance,
-    view: &View,
-) -> Out
-    requires { AreFew workers }
-    ensures { (follows : List SubscriptionData) → Finishes false (evaluates (planned plan.now) cursor)
-        (Some (record { instance = instance_data instance.now; view = Some view.now }))
-        follows result follows }
-{
-    let text = text_workers(rt, alloc, gate, workers, plan, instance, view);
-    Out::of_answer(text, cursor)
 }
 
 /// The text of the reply, whose files so many threads find.
