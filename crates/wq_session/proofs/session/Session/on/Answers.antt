@@ -4,7 +4,7 @@ use Rattle.wq_crawl.specs.At.{at_data}
 use Rattle.wq_session.specs.Followed.{follows_of}
 use Rattle.wq_session.specs.Shelved.{shelf_data}
 use Rattle.wq_session.proofs.Held.{shown_answer}
-use Rattle.wq_session.proofs.steps.Session.on.Goals as goal
+use Rattle.wq_session.proofs.session.Session.on.Goals as goal
 
 pub returns : goal.returns
 returns c =

@@ -5,7 +5,7 @@ use Rattle.wq_session.specs.Prepared.{asked, asked_at}
 use Rattle.wq_session.specs.Shelved.{shelf_data}
 use Rattle.wq_session.specs.Work.{work_data}
 use Rattle.wq_session.proofs.Held.{taken_as}
-use Rattle.wq_session.proofs.steps.Session.take.Goals as goal
+use Rattle.wq_session.proofs.session.Session.take.Goals as goal
 
 pub returns-clause-taken : goal.returns-clause-taken
 returns-clause-taken c =

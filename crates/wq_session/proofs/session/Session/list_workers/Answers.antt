@@ -4,7 +4,7 @@ use Rattle.wq_reply.specs.Answer.{text_in}
 use Rattle.wq_reply.specs.Plan.{planned}
 use Rattle.wq_session.specs.Followed.{follows_of}
 use Rattle.wq_session.proofs.Listing.{listed_finishes}
-use Rattle.wq_session.proofs.steps.Session.list_workers.Goals as goal
+use Rattle.wq_session.proofs.session.Session.list_workers.Goals as goal
 
 pub returns : goal.returns
 returns g c =
