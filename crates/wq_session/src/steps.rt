@@ -13,7 +13,7 @@ ghost use Rattle.wq_session.specs.Answer.{AnswersAsk, CanFinish, Finishes, Takes
 ghost use Rattle.wq_session.specs.Followed.{follows_of};
 ghost use Rattle.wq_session.specs.Out.{settled};
 ghost use Rattle.wq_session.specs.Shelved.{shelf_data};
-ghost use Rattle.wq_session.specs.Work.{evaluates, work_data};
+ghost use Rattle.wq_session.specs.Work.{evaluates, rest_data, work_data};
 
 use crate::cursor::Cursor;
 use crate::outcome::Out;
@@ -65,6 +65,34 @@ impl Session {
         out.settle()
     }
 
+    /// The end of the rest of the work, for which so many threads find the files.
+    fn finish_rest_workers<R: Threads, G: Gate + Sync>(
+        &mut self,
+        rt: &R,
+        gate: &G,
+        workers: u32,
+        rest: Rest,
+        at: Option<At<'_>>,
+    ) -> Out
+        requires workers { AreFew workers }
+        requires view { CanFinish (rest_data rest) (option_map at_data at) }
+        ensures { Finishes (rest_data rest) (option_map at_data at.entry) (follows_of self.old)
+            result (follows_of self.new) }
+    {
+        match rest {
+            Rest::Evaluates(plan, cursor) => match at {
+                Some(
+                    At {
+                        instance,
+                        view: Some(view),
+                    },
+                ) => self.list_workers(rt, gate, workers, &plan, cursor, &instance, view),
+                _ => unreachable!(),
+            },
+            rest => self.finish_rest(&Alone {}, rest, at),
+        }
+    }
+
     /// The listing of the files of a plan, of a root with this view, which so many threads find. The subscriptions stay.
     fn list_workers<R: Threads, G: Gate + Sync>(
         &self,
@@ -114,18 +142,7 @@ impl Work {
         ensures { Finishes false (work_data self.entry) (option_map at_data at.entry)
             (follows_of session.old) result (follows_of session.new) }
     {
-        match self.into_rest() {
-            Rest::Evaluates(plan, cursor) => match at {
-                Some(
-                    At {
-                        instance,
-                        view: Some(view),
-                    },
-                ) => session.list_workers(rt, gate, workers, &plan, cursor, &instance, view),
-                _ => unreachable!(),
-            },
-            rest => session.finish_rest(&Alone {}, rest, at),
-        }
+        session.finish_rest_workers(rt, gate, workers, self.into_rest(), at)
     }
 }
 
