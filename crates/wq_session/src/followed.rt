@@ -1,5 +1,5 @@
 //! The subscriptions of a session: the beginning and the end of each.
-ghost use Rattle.std.specs.Prelude.{◌≡◌, Bool, IfOk, OnErr, OnOk, Option, Some, map, position};
+ghost use Rattle.std.specs.Prelude.{◌≡◌, IfOk, OnErr, OnOk, Option, Some, false, map, position};
 ghost use Rattle.wq_clock.specs.Instance.{instance_data};
 ghost use Rattle.wq_follow.specs.Followed.{subscription_data};
 ghost use Rattle.wq_session.specs.Out.{replies};
@@ -31,7 +31,7 @@ impl Session {
         instance: &Instance,
         view: &View,
     ) -> Out
-        ensures { (may_go : Bool) → Finishes may_go (begins (subscription_data subscription))
+        ensures { Finishes false (begins (subscription_data subscription))
             (Some (record { instance = instance_data instance.now; view = Some view.now }))
             (follows_of self.old) result (follows_of self.new) }
     {
@@ -84,8 +84,8 @@ impl Session {
 
     /// Ends the subscription of the root of this number and of this name.
     pub(crate) fn drop_called(&mut self, alloc: Global, number: u64, name: &Text) -> Out
-        ensures { (may_go : Bool) (at : Option AtData)
-            → Finishes may_go (drops number name.now) at (follows_of self.old) result
+        ensures { (at : Option AtData)
+            → Finishes false (drops number name.now) at (follows_of self.old) result
             (follows_of self.new) }
     {
         let name = name.as_str();

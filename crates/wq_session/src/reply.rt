@@ -1,6 +1,6 @@
 //! The printing of a reply as the work of an answer. It is apart from [`Plain`], whose file may name no definition that
 //! leads back to it.
-ghost use Rattle.std.specs.Prelude.{Bool, List, Option};
+ghost use Rattle.std.specs.Prelude.{List, Option, false};
 ghost use Rattle.serde_json.specs.View.{view as data_of};
 ghost use Rattle.wq_follow.specs.Subscription.{SubscriptionData};
 ghost use Rattle.wq_session.specs.Answer.{Finishes};
@@ -13,8 +13,8 @@ use std::alloc::Global;
 
 /// The output of a reply that is printed when the shelf is no longer held.
 pub(crate) fn printed(alloc: Global, reply: &Plain) -> Out
-    ensures { (may_go : Bool) (at : Option AtData) (follows : List SubscriptionData)
-        → Finishes may_go (prints (data_of reply.now.value)) at follows result follows }
+    ensures { (at : Option AtData) (follows : List SubscriptionData)
+        → Finishes false (prints (data_of reply.now.value)) at follows result follows }
 {
     match print(alloc, &reply.value) {
         Ok(out) => out,

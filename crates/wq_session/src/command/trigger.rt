@@ -2,7 +2,7 @@
 //! of a root changed. The object of `trigger` is read, and its expression compiled, before the shelf is held. The shelf
 //! is held to look up a program by its name, and to put the trigger under its own.
 ghost use Rattle.std.specs.Prelude.{◌≡◌, ◌⊎◌, List, None, Ok, Option, Some, false, is_none, is_some, option_map, true};
-ghost use Rattle.std.specs.Prelude.{Bool, IfErr, IfOk, OnErr, OnOk};
+ghost use Rattle.std.specs.Prelude.{IfErr, IfOk, OnErr, OnOk};
 ghost use Rattle.serde_json.specs.Data.{Data};
 ghost use Rattle.serde_json.specs.View.{view as data_of};
 ghost use Rattle.wq_follow.specs.Defined.{definition_data};
@@ -221,8 +221,8 @@ fn objects_of(alloc: Global, root: &Root<Trigger>) -> Result<Vec<Arc<ObjectText>
 
 /// The reply that lists the triggers with these objects.
 pub(crate) fn listed_triggers(alloc: Global, objects: &[Arc<ObjectText>]) -> Out
-    ensures { (may_go : Bool) (at : Option AtData) (follows : List SubscriptionData)
-        → Finishes may_go (prints (triggers_reply (objects_in objects.now))) at follows result
+    ensures { (at : Option AtData) (follows : List SubscriptionData)
+        → Finishes false (prints (triggers_reply (objects_in objects.now))) at follows result
         follows }
 {
     match list_of(alloc, objects) {
