@@ -76,7 +76,7 @@ impl Session {
     ) -> Out
         requires workers { AreFew workers }
         requires view { CanFinish (rest_data rest) (option_map at_data at) }
-        ensures { Finishes (rest_data rest) (option_map at_data at.entry) (follows_of self.old)
+        ensures { Finishes false (rest_data rest) (option_map at_data at.entry) (follows_of self.old)
             result (follows_of self.new) }
     {
         match rest {
