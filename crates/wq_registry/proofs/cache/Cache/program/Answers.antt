@@ -19,4 +19,4 @@ pub returns-in-Some-clause-large : goal.returns-in-Some-clause-large
 returns-in-Some-clause-large c =
     let says : Says c.in-Ok.key (term_of c.args.expr.now) = search rules in
     let stood = stood_for c.in-Ok.key (term_of c.args.expr.now) c.in-Some.program.value says c.in-Some.ensures.meaning in
-    (λ is. absurd is, λ large. absurd (true≢false (sym large ∙ stood.1)))
+    (λ is. absurd (cc is), λ large. absurd (true≢false (sym large ∙ stood.1)))

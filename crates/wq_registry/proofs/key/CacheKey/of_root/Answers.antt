@@ -1,6 +1,5 @@
 -- The text of a value that says an expression reads back to it.
 use Rattle.serde_json.specs.View.{view}
-use Rattle.std.proofs.Common.{refl}
 use Rattle.wq_registry.proofs.ValueDepth.{shallow}
 use Rattle.wq_registry.proofs.key.CacheKey.of_root.Goals as goal
 
