@@ -30,7 +30,7 @@ use Rattle.wq_query.specs.Subscribed.{SubscriptionsArePlain, subscribes as subsc
 use Rattle.wq_crawl.specs.Meets.{MeetsAt, Meets, MeetsFor, at_root, ending, fault_for, looked, numbered}
 use Rattle.wq_replay.specs.Gets.{kept, with_follows}
 use Rattle.wq_replay.specs.Playing.{Happens, Runs, sent_list, sent_to}
-use Rattle.wq_replay.specs.Rounds.{RoundsAt}
+use Rattle.wq_replay.specs.Rounds.{RoundsFound}
 use Rattle.wq_crawl.specs.Meets.{RefusedData}
 use Rattle.wq_replay.specs.World.{Crawls, CrawlsAt, HappeningData, SentData, Starts, WatchesAt, WorldData, asked, crawl, ended, idle, new_world, round, watching}
 use Rattle.wq_session.specs.Answer.{AnswersAsk, DoneData, finished, following, giving, subscribing_at, subscribing_by}
@@ -325,7 +325,7 @@ module _ (run : RunData) (client : ℤ) where
           (λ lists were. subst (Sent (sent_list of) lists) (sym lines) were))))
   step world (round root answers) sent next said (table, found, goes) has = at (root_by_text root table) goes
     where
-      at : (shown : Option RootView) → RoundsAt shown answers world sent next → Has next (said ++ sent)
+      at : (shown : Option RootView) → RoundsFound shown answers world sent next → Has next (said ++ sent)
       at None (empty, is) = left_alone world next said sent (ap (λ w. w.follows) is) (ap (λ w. w.run) is) (begins_itself world.events next.events (ap (λ w. w.events) is)) has
       at (Some shown) had =
           left_alone world next said sent (ap (λ w. w.follows) had.is) (ap (λ w. w.run) had.is) (begins_itself world.events next.events (ap (λ w. w.events) had.is)) has

@@ -14,7 +14,7 @@ use Rattle.wq_live.specs.declared.event.RootEvent.{RootEvent}
 use Rattle.wq_live.specs.declared.event.RootEvent.TheVariants.{Ended, Passed}
 use Rattle.wq_crawl.specs.Meets.{Meets, MeetsAt, MeetsFor, ending, fault_for}
 use Rattle.wq_replay.specs.Playing.{Happens}
-use Rattle.wq_replay.specs.Rounds.{RoundsAt}
+use Rattle.wq_replay.specs.Rounds.{RoundsFound}
 use Rattle.wq_crawl.specs.Meets.{RefusedData}
 use Rattle.wq_replay.specs.World.{Crawls, CrawlsAt, HappeningData, SentData, Starts, WatchesAt, WorldData, asked, crawl, ended, idle, round, watching}
 use Rattle.wq_crawl.specs.Views.{ReadyData}
@@ -78,7 +78,7 @@ happens world (asked client ask) sent next (out, (ready, later, met, (shelf, lef
 happens world (idle client root) sent next (out, (table, left, found, idles, is), same) = begins_itself world.events next.events (ap (λ w. w.events) is)
 happens world (round root answers) sent next (table, found, goes) = at (root_by_text root table) goes
   where
-    at : (shown : Option RootView) → RoundsAt shown answers world sent next → IsPrefix world.events next.events
+    at : (shown : Option RootView) → RoundsFound shown answers world sent next → IsPrefix world.events next.events
     at None (none, is) = begins_itself world.events next.events (ap (λ w. w.events) is)
     at (Some shown) had = begins_itself world.events next.events (ap (λ w. w.events) had.is)
 happens world (ended run) sent next (none, is) = begins_itself world.events next.events (ap (λ w. w.events) is)

@@ -8,7 +8,7 @@ use Rattle.wq_live.specs.Event.{number_of}
 use Rattle.wq_live.specs.Table.{IsTableOf, RootView, TableData, has_text, root_by_text}
 use Rattle.wq_registry.specs.ByName.{ByName}
 use Rattle.wq_registry.specs.Shelf.{triggers_of}
-use Rattle.wq_replay.specs.Rounds.{HasRound, RoundsAt}
+use Rattle.wq_replay.specs.Rounds.{HasRound, RoundsFound}
 use Rattle.wq_replay.specs.Runs.{launcher_at}
 use Rattle.wq_replay.specs.World.{SentData, WorldData}
 use Rattle.wq_session.specs.Round.{HaveTurns, TriggerTurnData, after_turns}
@@ -62,7 +62,7 @@ round_of root answers world after sent table is shown found had = record {
 pub rounds_are_exact : RoundsAreExact
 rounds_are_exact world after root answers sent (table, is, goes) = by (root_by_text root table) refl goes
   where
-    by : (shown : Option RootView) → root_by_text root table ≡ shown → RoundsAt shown answers world sent after
+    by : (shown : Option RootView) → root_by_text root table ≡ shown → RoundsFound shown answers world sent after
         → ((number_of root world.events ≡ None) × (sent ≡ [])) ⊎ IsRoundOf root world sent after
     by None absent (empty, same) = inl (sym (number_by world.events table is root) ∙ ap (option_map (λ (r : RootView). r.number)) absent, empty)
     by (Some shown) found had = inr (round_of root answers world after sent table is shown found had)

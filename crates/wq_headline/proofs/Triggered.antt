@@ -40,7 +40,7 @@ use Rattle.wq_registry.specs.Root.{RootData, changed, is_newer, new_root, number
 use Rattle.wq_registry.specs.Shelf.{triggers_of}
 use Rattle.wq_crawl.specs.Meets.{Meets, MeetsAt, MeetsFor, at_end, at_root, ending, fault_for, looked}
 use Rattle.wq_replay.specs.Playing.{Happens, Runs}
-use Rattle.wq_replay.specs.Rounds.{HasRound, RoundsAt}
+use Rattle.wq_replay.specs.Rounds.{HasRound, RoundsFound}
 use Rattle.wq_replay.specs.Runs.{launcher_at}
 use Rattle.wq_crawl.specs.Meets.{RefusedData}
 use Rattle.wq_replay.specs.World.{HappeningData, SentData, WorldData, asked, crawl, ended, idle, new_world, round, watching}
@@ -369,7 +369,7 @@ module _ (run : RunData) where
         left_alone world next said sent (ap (λ w. w.shelf) is) (ap (λ w. w.run) is) (begins_itself world.events next.events (ap (λ w. w.events) is)) has
     step world (round text answers) sent next said (table, found, goes) has = at (root_by_text text table) refl goes
       where
-        at : (shown : Option RootView) → root_by_text text table ≡ shown → RoundsAt shown answers world sent next → Has next (said ++ sent)
+        at : (shown : Option RootView) → root_by_text text table ≡ shown → RoundsFound shown answers world sent next → Has next (said ++ sent)
         at None absent (empty, is) =
             left_alone world next said sent (ap (λ w. w.shelf) is) (ap (λ w. w.run) is) (begins_itself world.events next.events (ap (λ w. w.events) is)) has
         at (Some root) there had = (

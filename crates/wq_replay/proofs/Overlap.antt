@@ -24,7 +24,7 @@ use Rattle.wq_crawl.specs.Meets.{ending, fault_for}
 use Rattle.wq_replay.specs.Gets.{Gets}
 use Rattle.wq_replay.specs.Overlap.{Meanwhile, HasTrigger, RunsDoNotOverlap, StartsTrigger}
 use Rattle.wq_replay.specs.Playing.{Happens}
-use Rattle.wq_replay.specs.Rounds.{HasRound, RoundsAt}
+use Rattle.wq_replay.specs.Rounds.{HasRound, RoundsFound}
 use Rattle.wq_replay.specs.Runs.{other_runs}
 use Rattle.wq_replay.specs.World.{Crawls, CrawlsAt, HappeningData, crawl, watching, asked, idle, round, ended, SentData, Starts, WatchesAt, WorldData, root_text}
 use Rattle.wq_replay.proofs.Shelves.{after_both, does, round_calls, shelves_are_calls}
@@ -143,7 +143,7 @@ module _ (answers_are_calls : AnswersAreCalls) (rounds_are_calls : RoundsAreCall
       (ap (λ w. run_at root name w.shelf) same ∙ is.has, ap (λ w. list_any (λ x. nat_eq run x) w.runs) same ∙ is.goes)
   step_keeps world (round at answers) sent next is (table, found, goes) other there = by (root_by_text at table) goes
     where
-      by : (shown : Option RootView) → RoundsAt shown answers world sent next
+      by : (shown : Option RootView) → RoundsFound shown answers world sent next
           → (run_at root name next.shelf ≡ Some run) × (list_any (λ r. nat_eq run r) next.runs ≡ true)
       by None (none, same) = (ap (λ w. run_at root name w.shelf) same ∙ is.has, ap (λ w. list_any (λ x. nat_eq run x) w.runs) same ∙ is.goes)
       by (Some shown) had = round_keeps shown answers world sent next is had

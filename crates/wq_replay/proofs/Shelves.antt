@@ -31,7 +31,7 @@ use Rattle.wq_replay.specs.Accepted.{AcceptsAt, AcceptsOf, AcceptsRound, Accepts
 use Rattle.wq_crawl.specs.Meets.{MeetsAt, MeetsFor, at_end, ending, fault_for, looked}
 use Rattle.wq_replay.specs.Gets.{RepliesIn}
 use Rattle.wq_replay.specs.Playing.{Happens, Runs}
-use Rattle.wq_replay.specs.Rounds.{RoundsAt}
+use Rattle.wq_replay.specs.Rounds.{RoundsFound}
 use Rattle.wq_replay.specs.World.{Crawls, CrawlsAt, HappeningData, crawl, watching, asked, idle, round, ended, WatchesAt, SentData, Starts, WorldData, at_events, new_world, root_text}
 
 some_same : {X : Type 0} {x y : X} → Some x ≡ Some y → x ≡ y
@@ -118,7 +118,7 @@ module _ (answers_are_calls : AnswersAreCalls) (rounds_are_calls : RoundsAreCall
 
   -- a round
   rounds_at : (root : Option RootView) (answers : List (Option ℕ)) (world : WorldData) (sent : List SentData) (after : WorldData) (earlier : List CallNow) (sockname : List ℕ)
-      → world.shelf ≡ after_all earlier (blank sockname) → RoundsAt root answers world sent after
+      → world.shelf ≡ after_all earlier (blank sockname) → RoundsFound root answers world sent after
       → (calls : List CallNow) × AcceptsRound root answers world sent calls × (after.shelf ≡ after_all calls world.shelf)
   rounds_at None answers world sent after earlier sockname leads (none, is) = ([], refl, ap (λ w. w.shelf) is)
   rounds_at (Some root) answers world sent after earlier sockname leads had = (

@@ -21,7 +21,7 @@ use Rattle.wq_session.specs.Trigger.{run_in, trigger_called}
 use Rattle.wq_view.specs.View.{ViewData}
 use Rattle.wq_replay.specs.Launched.{all_tried, launcher_data, launcher_shown, runs_data, shown_unless}
 use Rattle.wq_replay.specs.Replay.{end_if, ends_of}
-use Rattle.wq_replay.specs.Rounds.{HasRound, RoundsAt, fired, trigger_run, sent_note}
+use Rattle.wq_replay.specs.Rounds.{HasRound, RoundsFound, fired, trigger_run, sent_note}
 use Rattle.wq_replay.specs.Runs.{launcher_at}
 use Rattle.wq_replay.specs.StartLine.{tried_text}
 use Rattle.wq_replay.specs.World.{SentData, WorldData, root_text, unrefused}
@@ -57,7 +57,7 @@ has_round before instance view answers shelf left mine launcher shown lines held
 pub rounds_found : (found : Option RootView) (number : ℕ) (view : ViewData) (instance : InstanceData) (answers : List (Option ℕ)) (before : WorldData)
     (sent : List SentData) (after : WorldData)
     → Some number ≡ option_map (λ (r : RootView). r.number) found → Some view ≡ option_map (λ (r : RootView). r.view) found
-    → instance ≡ instance_of before.run number → HasRound instance view answers before sent after → RoundsAt found answers before sent after
+    → instance ≡ instance_of before.run number → HasRound instance view answers before sent after → RoundsFound found answers before sent after
 rounds_found None number view instance answers before sent after numbered viewed is had = absurd cc
 rounds_found (Some r) number view instance answers before sent after numbered viewed is had =
     subst (λ (v : ViewData). HasRound (instance_of before.run r.number) v answers before sent after) (some_same viewed)
@@ -65,7 +65,7 @@ rounds_found (Some r) number view instance answers before sent after numbered vi
 
 -- no root is found
 pub rounds_none : (found : Option RootView) (answers : List (Option ℕ)) (before : WorldData) (lines : List (List ℕ)) → None ≡ option_map (λ (r : RootView). r.number) found
-    → lines ≡ [] → RoundsAt found answers before (map sent_note lines) (unrefused before)
+    → lines ≡ [] → RoundsFound found answers before (map sent_note lines) (unrefused before)
 rounds_none None answers before lines none empty = (ap (map sent_note) empty, refl)
 rounds_none (Some r) answers before lines none empty = absurd cc
 

@@ -35,16 +35,16 @@ pub record HasRound (instance : InstanceData) (view : ViewData) (answers : List 
   pub is : after ≡ fired shelf left.running world
 
 -- a round of a root, if it is shown
-abbrev pub RoundsAt : Option RootView → List (Option ℕ) → WorldData → List SentData → WorldData
+abbrev pub RoundsFound : Option RootView → List (Option ℕ) → WorldData → List SentData → WorldData
     → Type 0
-RoundsAt None answers world sent after = (sent ≡ []) × (after ≡ unrefused world)
-RoundsAt (Some root) answers world sent after =
+RoundsFound None answers world sent after = (sent ≡ []) × (after ≡ unrefused world)
+RoundsFound (Some root) answers world sent after =
     HasRound (instance_of world.run root.number) root.view answers world sent after
 
 -- a round of the triggers of a root
 abbrev pub Rounds : List ℕ → List (Option ℕ) → WorldData → List SentData → WorldData → Type 0
 Rounds root answers world sent after = (table : TableData) × IsTableOf world.events table
-    × RoundsAt (root_by_text root table) answers world sent after
+    × RoundsFound (root_by_text root table) answers world sent after
 
 -- the world after the runs of a number have ended
 abbrev pub without_running : ℕ → WorldData → WorldData

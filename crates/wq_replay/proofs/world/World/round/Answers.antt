@@ -5,7 +5,7 @@ use Rattle.wq_clock.specs.Run.{instance_of}
 use Rattle.wq_live.specs.Table.{root_by_text}
 use Rattle.wq_session.specs.Shelved.{shelf_data}
 use Rattle.wq_replay.specs.Launched.{all_tried, launcher_shown, runs_data}
-use Rattle.wq_replay.specs.Rounds.{RoundsAt, fired, sent_note}
+use Rattle.wq_replay.specs.Rounds.{RoundsFound, fired, sent_note}
 use Rattle.wq_replay.specs.StartLine.{tried_text}
 use Rattle.wq_replay.specs.World.{unrefused}
 use Rattle.wq_replay.proofs.WorldRounds.{has_round, rounds_found, rounds_none}
@@ -17,7 +17,7 @@ returns-in_default c = λ before stands. (
   (
     c.args.self.now.views.table,
     stands.roots,
-    subst (λ text. RoundsAt (root_by_text text c.args.self.now.views.table) c.args.answers.items before (map sent_note c.new.result) (unrefused before)) c.as_str.ensures
+    subst (λ text. RoundsFound (root_by_text text c.args.self.now.views.table) c.args.answers.items before (map sent_note c.new.result) (unrefused before)) c.as_str.ensures
         (rounds_none (root_by_text c.as_str.result.now c.args.self.now.views.table) c.args.answers.items before c.new.result c.in_default.ensures.number c.new.ensures),
   ),
   record { run = stands.run; roots = stands.roots; shelf = stands.shelf; follows = stands.follows; runs = stands.runs; refused = refl; whole = stands.whole },
@@ -37,7 +37,7 @@ returns c = λ before stands.
       (
         c.args.self.now.views.table,
         stands.roots,
-        subst (λ text. RoundsAt (root_by_text text c.args.self.now.views.table) c.args.answers.items before (map sent_note c.in_ok-lines.lines) after) c.as_str.ensures
+        subst (λ text. RoundsFound (root_by_text text c.args.self.now.views.table) c.args.answers.items before (map sent_note c.in_ok-lines.lines) after) c.as_str.ensures
             (rounds_found (root_by_text c.as_str.result.now c.args.self.now.views.table) c.in-Some.number c.in-Some.view.now (instance_data c.instance-instance.result) c.args.answers.items before
             (map sent_note c.in_ok-lines.lines) after c.in-Some.ensures.number c.in-Some.ensures.view
             (c.instance-instance.ensures ∙ ap (λ run. instance_of run c.in-Some.number) (sym stands.run)) had),
