@@ -269,6 +269,13 @@ class ServingTold(Beside):
             self.same("another server", scene.names("watch", deep), [src])
             self.same("unwatch", scene.names("unwatch", "src"), [src])
             self.same("a part of the project again", scene.names("watch", "src/deep"), [str(scene.tree)])
+            scene.wq("watch", "--root", "src")
+            self.same("unwatch of a part", scene.names("unwatch", "src/deep"), [src])
+            self.same("ends it too", scene.names("watch", "src/deep"), [str(scene.tree)])
+            scene.wq("watch", "--root", "src")
+            scene.wq("stop")
+            self.same("unwatch without a server", scene.wq("unwatch", "src").status, 1)
+            self.same("a part once more", scene.names("find", "src/deep", "--json")[0].count(f'"root":"{src}"'), 0)
 
     def test_places_of_a_server(self) -> None:
         """The socket, the log, and whether wqd is right for a place."""
