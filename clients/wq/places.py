@@ -78,10 +78,9 @@ class Places:
         waits for no reply."""
         for ignored in self.ignored:
             ignored.close()
-        is_hurried = error is not None and not isinstance(error, Exception)
         for root in self.added if self.purpose == MOMENT else []:
-            self.server.give_back(root, is_hurried)
-        self.open.close(self.server)
+            self.server.give_back(root, is_hurried(error))
+        self.open.close(self.server, self.added, is_hurried(error))
 
     def roots(self) -> List[str]:
         return list(dict.fromkeys(place.root for place in self.places))
@@ -181,6 +180,11 @@ class Places:
             if self.ask(place, {"since": 0, "expression": expression, "fields": ["name"]})["files"]:
                 return True
         return False
+
+
+def is_hurried(error: Optional[BaseException]) -> bool:
+    """Whether a person ends the command, and not an error."""
+    return error is not None and not isinstance(error, Exception)
 
 
 def directories_and_globs(words: List[str]) -> Tuple[List[str], List[str]]:

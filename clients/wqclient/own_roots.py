@@ -17,7 +17,7 @@ def own_root_of(path: str) -> Optional[str]:
     """The nearest one at or above a directory, whose path is absolute and has no links."""
     if not os.path.isdir(os.path.join(directory(), OWN_ROOTS)):
         return None
-    return next(filter(is_own_root, at_and_above(path)), None)
+    return next((one for one in at_and_above(path) if is_own_root(one)), None)
 
 
 def at_and_above(path: str) -> Iterator[str]:

@@ -88,6 +88,11 @@ class Scene:
     def begin(self, *words: object, **settings: object) -> "Going":
         return Going(self, [str(word) for word in words], **settings)
 
+    def roots(self) -> List[str]:
+        """The roots that the server watches."""
+        with self.client() as client:
+            return [*client.ask("watch-list")["roots"]]
+
     def changes(self, root: Optional[Path] = None) -> int:
         """The tick of a root: how often its files changed."""
         with self.client() as client:

@@ -93,12 +93,12 @@ class ToldOnce(Beside):
                     write_until_end(scene, going, "src/a.c")
                     self.same(f"wait {words}", (going.ends(), going.output), (0, output))
             with scene.begin("wait", "./later") as going:
-                self.check("a file that may come", going.waits_for(lambda _: bool(roots_of(scene))))
+                self.check("a file that may come", going.waits_for(lambda _: bool(scene.roots())))
                 write_until_end(scene, going, "later")
                 self.same("has come", (going.ends(), going.output[1:]), (0, b" later\n"))
-            self.same("the root is given back", roots_of(scene), [])
+            self.same("the root is given back", scene.roots(), [])
             with scene.begin("wait") as going:
-                going.waits_for(lambda _: bool(roots_of(scene)))
+                going.waits_for(lambda _: bool(scene.roots()))
                 self.same("Ctrl-C", going.ends(signal.SIGINT), 130)
 
 
@@ -106,11 +106,6 @@ def write_until_end(scene: Scene, going: Going, name: str) -> None:
     """Writes a file until a command ends: what changed before it listens is not told."""
     turns = iter(range(10_000))
     going.waits_for(lambda one: one.process.poll() is not None or scene.write(name, "x" * (next(turns) % 50 + 1)))
-
-
-def roots_of(scene: Scene) -> List[str]:
-    with scene.client() as client:
-        return [*client.ask("watch-list")["roots"]]
 
 
 def began(scene: Scene) -> "subprocess.Popen[bytes]":
