@@ -8,9 +8,12 @@ from typing import Any, Callable, Dict, List, Optional, Set, Tuple
 from wqclient.root_notes import MOMENT, STAYS, WINDOW
 
 from .answering import require_answers
+from .became_links import Links
 from .braces import all_expanded, has_braces
 from .globs import (
+    LINK,
     any_of,
+    are_links_told,
     expression_of,
     glob_term,
     is_executable_meant,
@@ -57,6 +60,8 @@ class Places:
         self.scanned: Set[str] = set()
         self.added: List[str] = []
         self.open = OpenRoots(server, self.roots() if purpose == WINDOW else [])
+        # Those of each directory, if it is to be told that a file became one.
+        self.links = [Links() for _ in self.places] if are_links_told(options) else []
         self.ignored: List[Ignored] = []
         try:
             self.watch(watched)
@@ -129,6 +134,8 @@ class Places:
             ]
         if is_executable_meant(self.options):
             files = [file for file in files if is_executable(file, place.root)]
+        if self.links:
+            files = self.links[number].told(files, found["is_fresh_instance"])
         found["files"] = [renamed(file, place.shown(name_of(file))) for file in files]
         found.update(root=place.root, below=place.below)
         return found
@@ -146,6 +153,8 @@ class Places:
         later = self.ask(place, {**query, "since": since})["files"] if since else []
         new = {file["name"] for file in later if file["new"]}
         files = [file for file in files if file["exists"] or file["name"] not in new]
+        if self.links:
+            files = [file for file in files if file["type"] != LINK]
         return [renamed(file, place.shown(file["name"])) for file in files]
 
     def require_right(self) -> None:

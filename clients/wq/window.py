@@ -80,7 +80,7 @@ class Window:
         self.count, self.clocks = 0, []
         files: List[File] = []
         for number, place in enumerate(self.places.places):
-            has_names = self.takes_names or self.places.ignored[number].rules is not None
+            has_names = self.takes_names or bool(self.places.links) or self.places.ignored[number].rules is not None
             fields = self.fields if has_names else ["type"]
             found = self.places.ask(place, {"expression": self.places.expression(number), "fields": fields})
             self.clocks.append(found["clock"])

@@ -81,6 +81,33 @@ class ToldOnce(Beside):
                 self.same("it is told", (ended.status, ended.output), (3, b"+ new\n"))
                 self.same("and why again", ended.errors.endswith(b"; so the next call tells this again\n"), True)
 
+    def test_became_links(self) -> None:
+        """A file that became a link is gone for who asks for files, and comes back as a file. Links are not told."""
+        with Scene(self.room) as scene:
+            (scene.tree / "always").symlink_to("src")
+            question = ["since", "-n", "p", "-t", "f", "-H"]
+            names = ["Makefile", "src/a.c"]
+            self.same("files alone", [name in str(scene.names("find", "-t", "f")) for name in names], [True, True])
+            first = scene.wq(*question).output.decode().splitlines()
+            self.same("and first of all", [f"+ {name}" in first for name in (*names, "always")], [True, True, False])
+            with scene.begin("follow", "-t", "f") as going:
+                self.check("a window", going.says("following"))
+                for name in names:
+                    replaced(scene, name, "always")
+                replaced(scene, "always", "Makefile")
+                (scene.tree / "late").symlink_to("src")
+                self.same("since", scene.names(*question), [f"- {name}" for name in names])
+                self.check("a window tells it too", going.waits_for(lambda one: one.output.count(b"\n") == 2))
+                (scene.tree / "Makefile").unlink()
+                scene.write("Makefile", "again")
+                self.same("a file again", scene.names(*question), ["+ Makefile"])
+                self.check("in a window", going.prints("+ Makefile\n"))
+                replaced(scene, "late", "Makefile")
+                self.same("no link is told", scene.wq(*question), built.Ended(b"", b"", 1))
+                going.ends(signal.SIGINT)
+                lines = sorted(going.output.decode().splitlines())
+                self.same("all of the window", lines, ["+ Makefile", "- Makefile", "- src/a.c"])
+
     def test_wait(self) -> None:
         with Scene(self.room) as scene:
             self.same("nothing changes", scene.wq("wait", "--timeout", "0.2"), built.Ended(b"", b"", 1))
@@ -100,6 +127,13 @@ class ToldOnce(Beside):
             with scene.begin("wait") as going:
                 going.waits_for(lambda _: bool(scene.roots()))
                 self.same("Ctrl-C", going.ends(signal.SIGINT), 130)
+
+
+def replaced(scene: Scene, name: str, target: str) -> None:
+    """A link takes the place of a file, or of another link, in one step."""
+    aside = scene.tree / ".git" / "aside"
+    aside.symlink_to(target)
+    aside.rename(scene.tree / name)
 
 
 def write_until_end(scene: Scene, going: Going, name: str) -> None:
