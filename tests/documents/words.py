@@ -26,7 +26,7 @@ MOST = {
     "docs/SECURITY.md": 2240,
     "docs/SERVER.md": 4450,
     "docs/SPEED.md": 2150,
-    "docs/STABILITY.md": 770,
+    "docs/STABILITY.md": 920,
     "docs/TROUBLESHOOTING.md": 1650,
     "docs/TUTORIAL.md": 1450,
     "docs/WQ.md": 3500,
