@@ -457,6 +457,8 @@ class ServingTold(Beside):
         left = said(f"{scene.tree}: names that are not UTF-8 are left out: 1")
         self.check("find says so", scene.wq("find", "*.h").errors.startswith(left))
         self.check("since says so", left in scene.wq("since", "*.h").errors)
+        with scene.begin("follow", "*.h") as going:
+            self.check("follow says so", going.waits_for(lambda one: left in one.errors))
         found = facts(scene)
         closed = 0 if os.getuid() == 0 else 1
         self.same("what is left out", found["roots"][0]["left_out"], {"names": 1, "directories": closed})

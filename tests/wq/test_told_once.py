@@ -1,5 +1,6 @@
 """`wq since` tells each change once, and not before it was read; and `wq wait` ends at the first change."""
 
+import re
 import signal
 import subprocess
 from typing import List
@@ -80,6 +81,12 @@ class ToldOnce(Beside):
                 ended = scene.wq("since", "new")
                 self.same("it is told", (ended.status, ended.output), (3, b"+ new\n"))
                 self.same("and why again", ended.errors.endswith(b"; so the next call tells this again\n"), True)
+            # No file may grow, as if there were no space left.
+            clocks.unlink()
+            full = by_shell(scene, 'ulimit -f 0; "$0" since new')
+            self.same("no space is left", (full.status, full.output), (3, b"+ new\n"))
+            place = re.fullmatch(rb"wq: (/\S+): [^:]+; so the next call tells this again\n", full.errors)
+            self.check("it says where", place is not None and place[1].startswith(bytes(clocks)), [str(full.errors)])
 
     def test_became_links(self) -> None:
         """A file that became a link is gone for who asks for files, and comes back as a file. Links are not told."""
