@@ -40,6 +40,8 @@ VALUES = {
 # Options and commands that take names of the server, by `wq --names KIND`, and the commands that run another one.
 NAMES = {"--program": "programs"}
 NAMES_OF_COMMANDS = {"untrigger": "triggers", "unwatch": "roots"}
+HELP = Option(("-h", "--help"), {"help": "print what the command does, and its options"})
+VERSION = Option(("--version",), {"help": "print the version"})
 RUNNERS = [command for command in FORMS if command in NEEDS_DASHES]
 
 # What stays the same in each shell; the words of wq are put into it.
@@ -139,7 +141,7 @@ _wq "$@"
 
 
 def bash() -> str:
-    options = {command: " ".join([*options_of(command), "--help"]) for command in FORMS}
+    options = {command: " ".join([*options_of(command), *HELP.names]) for command in FORMS}
     cases = "\n".join(f'            {command}) choices="{words}" ;;' for command, words in options.items())
     values = "\n".join(f'        {option}) choices="{words}" ;;' for option, words in VALUES.items())
     values += "".join(f"\n        {option}) _wq_names {kind}; return ;;" for option, kind in NAMES.items())
@@ -149,7 +151,9 @@ def bash() -> str:
 
 
 def zsh() -> str:
-    commands = "\n".join(f"        {shlex.quote(f'{command}:{form.about}')}" for command, form in FORMS.items())
+    abouts = {command: form.about for command, form in FORMS.items()}
+    abouts.update({option.names[-1]: help_of(option) for option in (HELP, VERSION)})
+    commands = "\n".join(f"        {shlex.quote(f'{command}:{about}')}" for command, about in abouts.items())
     cases = "\n".join(
         f"        {command}) _arguments {' '.join(map(shlex.quote, zsh_options(command)))} {zsh_words(command)} ;;"
         for command in FORMS
@@ -184,6 +188,10 @@ complete -c wq -x -n 'contains -- -- (commandline -opc)' -a '(__wq_command)'
 
 def fish() -> str:
     lines = [FISH]
+    lines += [
+        f"complete -c wq -f -n __fish_use_subcommand -l {option.names[-1][2:]} -d {quoted(help_of(option))}"
+        for option in (HELP, VERSION)
+    ]
     for command, form in FORMS.items():
         lines.append(f"complete -c wq -f -n __fish_use_subcommand -a {command} -d {quoted(form.about)}")
         for option in named(command):
@@ -210,7 +218,7 @@ def quoted(text: str) -> str:
 
 
 def named(command: str) -> List[Option]:
-    return [option for option in FORMS[command].options if option.names[0].startswith("-")]
+    return [*(option for option in FORMS[command].options if option.names[0].startswith("-")), HELP]
 
 
 def is_flag(option: Option) -> bool:

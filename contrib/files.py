@@ -18,6 +18,7 @@ import publisher
 
 from wq import examples
 from wq.usage import USAGE as WQ_USAGE
+from wq.words import FORMS, Form, Option
 
 TOP = Path(__file__).resolve().parent.parent
 COMMAND = str(TOP / "wqd")
@@ -197,7 +198,29 @@ def without(page: str, heading: str) -> str:
 
 def wq_manual() -> str:
     summary = "asks wqd which files match and which changed, and runs commands on changes"
-    return manual.page(text("docs/WQ.md"), "wq", 1, summary, version(), WQ_USAGE, examples.markdown())
+    return manual.page(wq_page(), "wq", 1, summary, version(), WQ_USAGE, examples.markdown())
+
+
+def wq_page() -> str:
+    """The page of the command wq, with all options of each command before what follows those in pages of man."""
+    return text("docs/WQ.md").replace("\n## Exit status\n", f"\n{options_of_wq()}\n## Exit status\n", 1)
+
+
+def options_of_wq() -> str:
+    tables = [f"### wq {command}\n\n{form.about.capitalize()}.\n" + table_of(form) for command, form in FORMS.items()]
+    return "## Options\n\n" + "\n".join(tables)
+
+
+def table_of(form: Form) -> str:
+    """The options of a command with what they do, as a table of Markdown."""
+    options = [option for option in form.options if option.names[0].startswith("-")]
+    rows = [f"| {forms_of(option)} | {option.settings['help']} |\n" for option in options]
+    return "".join(["\n| option | does |\n|---|---|\n", *rows]) if rows else ""
+
+
+def forms_of(option: Option) -> str:
+    value = f" {option.settings['metavar']}" if "metavar" in option.settings else ""
+    return ", ".join(f"`{name}{value}`" for name in option.names)
 
 
 def wqasm_manual() -> str:

@@ -5,6 +5,7 @@ from typing import List, NamedTuple, Optional
 
 from bridge.faults import Refused
 from wqclient.files import is_of_own_user
+from wqclient.own_roots import own_root_of
 
 
 class Project(NamedTuple):
@@ -68,8 +69,8 @@ def in_utf8(path: str) -> str:
 
 
 def project_of(path: object, watched: List[str], root_files: List[str], enforces: bool) -> Project:
-    """The watched root that a directory lies in, or else the project above it, or else the directory itself, unless
-    only projects may be watched."""
+    """The watched root that a directory lies in, or else the project above it, unless `wq watch --root` made a nearer
+    one; or else the directory itself, unless only projects may be watched."""
     if not isinstance(path, str):
         raise Refused("second argument must be a string")
     try:
@@ -78,8 +79,9 @@ def project_of(path: object, watched: List[str], root_files: List[str], enforces
         directory = in_utf8(real_path(path))
     except NotThere as fault:
         raise Refused(f"resolve_projpath: path `{path}`: open: {path}: {fault}")
-    above = enclosing(directory, watched)
-    root = above or project_root(directory, root_files) or ("" if enforces else directory)
+    found = enclosing(directory, watched) or project_root(directory, root_files)
+    made = None if enforces else own_root_of(directory)
+    root = max(found or "", made or "", key=len) or ("" if enforces else directory)
     if not root:
         raise Refused(
             f"resolve_projpath: none of the files listed in global config root_files are present in path "

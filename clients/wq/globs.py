@@ -40,6 +40,7 @@ NAMES_OF_KINDS = {
 }
 # These are no kinds to the server: a file that this user may run, and one without a byte.
 EXECUTABLE, EMPTY = "x", "e"
+FILE, LINK = "f", "l"
 SIZE = re.compile(r"([+-]?)([0-9]+)([bkKmMgGtT]?)(i[bB]?|[bB])?")
 LETTERS = "f (file), d (directory), l (link), x (executable), e (empty), b, c, p, s or D"
 UNITS = {"": 0, "b": 0, "k": 1, "m": 2, "g": 3, "t": 4}
@@ -53,7 +54,7 @@ def expression_of(place: Place, globs: List[str], options: argparse.Namespace) -
     if globs:
         parts.append(any_of([glob_term(glob, place, options.ignore_case) for glob in all_expanded(globs)]))
     if options.type:
-        parts += kind_terms(kinds_of(options.type))
+        parts += kind_terms([*kinds_of(options.type), *([LINK] if are_links_told(options) else [])])
     if options.ext:
         parts.append(["suffix", suffixes_of(options.ext)])
     if getattr(options, "size", None):
@@ -157,6 +158,12 @@ def kind_terms(letters: List[str]) -> Iterator[Any]:
     yield any_of([["type", letter] for letter in kinds or ["f"]])
     if EMPTY in letters:
         yield ["empty"]
+
+
+def are_links_told(options: argparse.Namespace) -> bool:
+    """Whether changes of files are asked for, and those of links are not: a file that became a link is gone then."""
+    kinds = kinds_of(options.type) if options.type and hasattr(options, "dirs") else []
+    return FILE in kinds and not {LINK, EXECUTABLE, EMPTY} & set(kinds)
 
 
 def is_executable_meant(options: argparse.Namespace) -> bool:

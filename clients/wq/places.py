@@ -8,9 +8,12 @@ from typing import Any, Callable, Dict, List, Optional, Set, Tuple
 from wqclient.root_notes import MOMENT, STAYS, WINDOW
 
 from .answering import require_answers
+from .became_links import Links
 from .braces import all_expanded, has_braces
 from .globs import (
+    LINK,
     any_of,
+    are_links_told,
     expression_of,
     glob_term,
     is_executable_meant,
@@ -57,6 +60,8 @@ class Places:
         self.scanned: Set[str] = set()
         self.added: List[str] = []
         self.open = OpenRoots(server, self.roots() if purpose == WINDOW else [])
+        # Those of each directory, if it is to be told that a file became one.
+        self.links = [Links() for _ in self.places] if are_links_told(options) else []
         self.ignored: List[Ignored] = []
         try:
             self.watch(watched)
@@ -78,10 +83,9 @@ class Places:
         waits for no reply."""
         for ignored in self.ignored:
             ignored.close()
-        is_hurried = error is not None and not isinstance(error, Exception)
         for root in self.added if self.purpose == MOMENT else []:
-            self.server.give_back(root, is_hurried)
-        self.open.close(self.server)
+            self.server.give_back(root, is_hurried(error))
+        self.open.close(self.server, self.added, is_hurried(error))
 
     def roots(self) -> List[str]:
         return list(dict.fromkeys(place.root for place in self.places))
@@ -130,6 +134,8 @@ class Places:
             ]
         if is_executable_meant(self.options):
             files = [file for file in files if is_executable(file, place.root)]
+        if self.links:
+            files = self.links[number].told(files, found["is_fresh_instance"])
         found["files"] = [renamed(file, place.shown(name_of(file))) for file in files]
         found.update(root=place.root, below=place.below)
         return found
@@ -147,6 +153,8 @@ class Places:
         later = self.ask(place, {**query, "since": since})["files"] if since else []
         new = {file["name"] for file in later if file["new"]}
         files = [file for file in files if file["exists"] or file["name"] not in new]
+        if self.links:
+            files = [file for file in files if file["type"] != LINK]
         return [renamed(file, place.shown(file["name"])) for file in files]
 
     def require_right(self) -> None:
@@ -181,6 +189,11 @@ class Places:
             if self.ask(place, {"since": 0, "expression": expression, "fields": ["name"]})["files"]:
                 return True
         return False
+
+
+def is_hurried(error: Optional[BaseException]) -> bool:
+    """Whether a person ends the command, and not an error."""
+    return error is not None and not isinstance(error, Exception)
 
 
 def directories_and_globs(words: List[str]) -> Tuple[List[str], List[str]]:

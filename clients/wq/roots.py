@@ -4,14 +4,12 @@ import os
 from typing import List, NamedTuple, Optional
 
 from wqclient.files import is_of_own_user
-from wqclient.kept import keep, kept, path_of
+from wqclient.own_roots import at_and_above, is_own_root
 
-from .trouble import Trouble, WrongWords
+from .trouble import WrongWords
 
 PROJECT_FILES = (".git", ".hg", ".watchmanconfig")
 SPECIAL = "*?["
-# The notes of directories that `wq watch --root` made roots.
-OWN_ROOTS = "own-roots"
 
 
 class Place(NamedTuple):
@@ -40,9 +38,7 @@ def place_of(directory: str, watched: List[str]) -> Place:
     itself.
     """
     path = real_path(directory)
-    above = [path]
-    while above[-1] != "/":
-        above.append(os.path.dirname(above[-1]))
+    above = [*at_and_above(path)]
     nearest = (one for one in above if is_project(one) or is_own_root(one))
     root = next(nearest, next((one for one in above if one in watched), path))
     return Place(root, os.path.relpath(path, root) if path != root else "", front_of(directory))
@@ -58,18 +54,6 @@ def front_of(directory: str) -> str:
 
 def is_project(path: str) -> bool:
     return any(is_of_own_user(os.path.join(path, name)) for name in PROJECT_FILES)
-
-
-def is_own_root(path: str) -> bool:
-    """Whether a person made a directory a root of its own."""
-    return kept(OWN_ROOTS, path).get("root") is True
-
-
-def set_own_root(path: str, is_root: bool) -> None:
-    try:
-        keep({"root": True} if is_root else {}, OWN_ROOTS, path)
-    except OSError as error:
-        raise Trouble(f"{error.filename or path_of(OWN_ROOTS, path)}: {error.strerror}") from None
 
 
 def real_path(directory: str) -> str:

@@ -54,6 +54,8 @@ class Server:
         if client is None:
             raise Trouble(f"no server listens on {self.sockname}; `wq start` starts one", status=NOTHING)
         self.client: Client = client
+        # How many replies have not come yet: a person may end a command while it waits for one.
+        self.unanswered = 0
         self.peer = self.client.peer()
         self.notes = Notes(self.sockname, self.peer.process)
         if unproved.is_noted(self.sockname, self.peer.process):
@@ -75,6 +77,7 @@ class Server:
 
     def line(self, line: bytes, crawls: str = "") -> bytes:
         """The line that is replied to a line. Lists of subscriptions are kept."""
+        self.unanswered += 1
         # A server that ends the session at a line that is too long has answered it before.
         with contextlib.suppress(BrokenPipeError, ConnectionResetError):
             self.client.send_bytes(line + b"\n")
@@ -82,10 +85,9 @@ class Server:
         try:
             while True:
                 found = self.next_line(progress)
-                if b'"unilateral":true' not in found:
-                    return found
-                value = json.loads(found)
+                value = json.loads(found) if b'"unilateral":true' in found else {}
                 if "unilateral" not in value:
+                    self.unanswered -= 1
                     return found
                 self.client.lists.append(value)
         except Ended:
@@ -136,8 +138,10 @@ class Server:
         return found
 
     def ask_within(self, seconds: float, *command: Any) -> Value:
-        """A reply, which may be an error; nothing if it does not come within so many seconds."""
+        """A reply, which may be an error; nothing if it does not come within so many seconds. Replies to commands before
+        it, for which nobody waits any more, are left out."""
         end = time.monotonic() + seconds
+        self.unanswered += 1
         try:
             self.client.send(*command)
             while True:
@@ -147,8 +151,10 @@ class Server:
                         return {}
                     self.client.receive()
                 elif b'"unilateral":true' not in line:
-                    found: Value = json.loads(line)
-                    return found
+                    self.unanswered -= 1
+                    if not self.unanswered:
+                        found: Value = json.loads(line)
+                        return found
         except (Ended, OSError):
             return {}
 
@@ -168,11 +174,16 @@ class Server:
         watched, another one that need not stay is dropped for it."""
         is_new = root not in watched
         command, crawls = ["watch", root], root if is_new else ""
+        if is_new:
+            # Before the reply, which a person may not wait for.
+            self.notes.note(root, purpose, is_new)
         found = self.reply(command, crawls)
         while found.get("error", "").startswith(TOO_MANY_ROOTS) and self.drops_one():
             found = self.reply(command, crawls)
+        if is_new and "error" in found:
+            self.notes.forget(root)
         self.checked(command, found)
-        if is_new or purpose != MOMENT or len(watched) >= MANY_ROOTS:
+        if not is_new and (purpose != MOMENT or len(watched) >= MANY_ROOTS):
             self.notes.note(root, purpose, is_new)
         return {"sync_timeout": 0} if is_new else {}
 

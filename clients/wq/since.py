@@ -9,12 +9,13 @@ import json
 import shlex
 import time
 import zlib
-from typing import Any, Dict, Iterator, List, NamedTuple, Optional
+from typing import Any, Dict, Iterator, List, NamedTuple, Optional, Set
 
 from wqclient.kept import CLOCKS, keep, kept, path_of, room
 from wqclient.root_notes import SINCE
 from wqclient.starting import Unstarted, alone
 
+from .became_links import Links
 from .changes import FIELDS, counted, print_changes
 from .commands_run import Command, run_once
 from .globs import note, restrictions
@@ -92,12 +93,16 @@ def ask(places: Places, number: int) -> Asked:
     clock = found["clock"]
     if found["is_fresh_instance"]:
         note(f"{why_all(places.options.name, before, clock, place)}: listing everything")
+    if places.links and not found["is_fresh_instance"]:
+        places.links[number] = Links(links_kept(note_of))
     found = places.told(number, found)
     if not found["is_fresh_instance"]:
         by_rules = {file["name"]: file for file in places.told_by_rules(number, rules_kept(note_of), FIELDS, before)}
         found["files"] = [*(file for file in found["files"] if file["name"] not in by_rules), *by_rules.values()]
     found["files"] = counted(found["files"], places.options)
-    return Asked(place, key, {"clock": clock, **rules_to_keep(places.ignored[number].said)}, found)
+    rules = rules_to_keep(places.ignored[number].said)
+    links = links_to_keep(places.links[number], rules) if places.links else {}
+    return Asked(place, key, {"clock": clock, **rules, **links}, found)
 
 
 def key_of(place: Place, places: Places) -> str:
@@ -135,17 +140,43 @@ def clock_of(kept_before: Dict[str, Any]) -> Optional[str]:
     return clock if isinstance(clock, str) and clock.count(":") == 4 else None
 
 
+def packed(value: object) -> str:
+    return base64.b64encode(zlib.compress(json.dumps(value).encode())).decode()
+
+
+def unpacked(text: object) -> Any:
+    return json.loads(zlib.decompress(base64.b64decode(text if isinstance(text, str) else "")))
+
+
 def rules_to_keep(said: Optional[Said]) -> Dict[str, str]:
     """What the rules of git say, for the next call, unless that is too long."""
-    packed = base64.b64encode(zlib.compress(json.dumps(said).encode())).decode()
-    return {"rules": packed} if said is not None and len(packed) <= MOST_OF_RULES else {}
+    rules = packed(said)
+    return {"rules": rules} if said is not None and len(rules) <= MOST_OF_RULES else {}
 
 
 def rules_kept(kept_before: Dict[str, Any]) -> Optional[Said]:
     """What the rules of git said at the last call, if that was kept."""
     try:
-        return Said(*json.loads(zlib.decompress(base64.b64decode(kept_before["rules"]))))
-    except (KeyError, TypeError, ValueError, zlib.error):
+        return Said(*unpacked(kept_before.get("rules")))
+    except (TypeError, ValueError, zlib.error):
+        return None
+
+
+def links_to_keep(links: Links, rules: Dict[str, str]) -> Dict[str, str]:
+    """The names of links, for the next call, if there is room for them beside the rules."""
+    names = packed(sorted(links.names or ()))
+    return (
+        {"links": names}
+        if links.names is not None and len(names) + len(rules.get("rules", "")) <= MOST_OF_RULES
+        else {}
+    )
+
+
+def links_kept(kept_before: Dict[str, Any]) -> Optional[Set[str]]:
+    """The names of links that were kept at the last call, if they were."""
+    try:
+        return {str(name) for name in unpacked(kept_before.get("links"))}
+    except (TypeError, ValueError, zlib.error):
         return None
 
 

@@ -3,11 +3,14 @@
 import argparse
 import os
 
+from wqclient.kept import path_of
+from wqclient.own_roots import OWN_ROOTS, is_own_root, set_own_root
+
 from .home import Home
-from .roots import is_own_root, place_of, real_path, require_utf8, root_to_unwatch, set_own_root
+from .roots import place_of, real_path, require_utf8, root_to_unwatch
 from .server import reached
 from .terminal import name_shown, say, show
-from .trouble import FOUND, NOTHING, WrongWords
+from .trouble import FOUND, NOTHING, Trouble, WrongWords
 from .values_shown import json_shown
 
 
@@ -20,7 +23,7 @@ def watch(options: argparse.Namespace, home: Home) -> int:
         for word in options.words or ["."]:
             watched = server.roots()
             if options.root:
-                set_own_root(real_path(word), True)
+                note_own_root(real_path(word), True)
             root = place_of(word, watched).root
             server.watch(root, watched)
             show([name_shown(root, None)])
@@ -37,24 +40,36 @@ def require_no_command(word: str) -> None:
 
 
 def unwatch(options: argparse.Namespace, home: Home) -> int:
-    """Gives places of roots back, also of a directory that is gone."""
-    status = FOUND
-    for word in options.words:
+    """Gives places of roots back, also of a directory that is gone. One that was a root of its own is none from then
+    on, whether a server listens or not."""
+    words = options.words or ["."]
+    for word in words:
         require_utf8(word, "a word of the command line")
-    with reached(home, starts=False) as server:
-        for word in options.words or ["."]:
-            watched = server.roots()
-            root = root_to_unwatch(word, watched)
-            for path in {os.path.abspath(word), os.path.realpath(word)}:
-                if is_own_root(path):
-                    set_own_root(path, False)
-            if root is None:
-                say(f"{word} is not watched{'; watched are ' + ', '.join(watched) if watched else '; no root is'}")
-                status = NOTHING
-                continue
-            server.unwatch(root)
-            show([name_shown(root, None)])
+    ended = [path for word in words for path in (os.path.abspath(word), os.path.realpath(word))]
+    status = FOUND
+    try:
+        with reached(home, starts=False) as server:
+            for word in words:
+                watched = server.roots()
+                root = root_to_unwatch(word, watched)
+                if root is None:
+                    say(f"{word} is not watched{'; watched are ' + ', '.join(watched) if watched else '; no root is'}")
+                    status = NOTHING
+                    continue
+                server.unwatch(root)
+                ended.append(root)
+                show([name_shown(root, None)])
+    finally:
+        for path in filter(is_own_root, ended):
+            note_own_root(path, False)
     return status
+
+
+def note_own_root(path: str, is_root: bool) -> None:
+    try:
+        set_own_root(path, is_root)
+    except OSError as error:
+        raise Trouble(f"{error.filename or path_of(OWN_ROOTS, path)}: {error.strerror}") from None
 
 
 def roots(options: argparse.Namespace, home: Home) -> int:

@@ -3,6 +3,7 @@ watched for them."""
 
 import argparse
 import select
+import sys
 import time
 from typing import Callable, Dict, List, Optional, Sequence, Set
 
@@ -17,7 +18,7 @@ from .changes import FIELDS, File
 from .home import Home
 from .ignored import is_wanted
 from .pace import seconds_between_scans, seconds_shown
-from .places import Places
+from .places import Places, is_hurried
 from .processes import is_of_unit, own_processor_seconds, words_of
 from .server import Server, Value, Went
 from .shadow import GITIGNORE, IGNORE
@@ -60,12 +61,14 @@ class Window:
         self.ends_soon = 0
         self.has_told = False
         self.gone: Set[str] = set()
+        # Whether it does not go on yet by a server, so that nobody else can need a root which it had watched there.
+        self.is_new = True
         # The files that match, when another server was reached.
         self.fresh: Optional[List[File]] = None
         try:
             self.first = self.begin(self.server, used)
         except BaseException:
-            self.close()
+            self.close(sys.exc_info()[1])
             raise
 
     def begin(self, server: Server, used: float) -> List[File]:
@@ -77,7 +80,7 @@ class Window:
         self.count, self.clocks = 0, []
         files: List[File] = []
         for number, place in enumerate(self.places.places):
-            has_names = self.takes_names or self.places.ignored[number].rules is not None
+            has_names = self.takes_names or bool(self.places.links) or self.places.ignored[number].rules is not None
             fields = self.fields if has_names else ["type"]
             found = self.places.ask(place, {"expression": self.places.expression(number), "fields": fields})
             self.clocks.append(found["clock"])
@@ -89,7 +92,7 @@ class Window:
             files += told if self.takes_names else []
         self.scan = own_processor_seconds(process) - used
         self.began = time.monotonic()
-        self.has_told = False
+        self.has_told = self.is_new = False
         return files
 
     def subscribe(self, server: Server, number: int) -> None:
@@ -253,14 +256,15 @@ class Window:
                 )
             return
         try:
-            server = Server(self.home, tells=False)
+            server = self.server = Server(self.home, tells=False)
+            self.is_new = True
             used = own_processor_seconds(server.peer.process)
             self.places.again(server)
             files = self.begin(server, used)
         except Went:
+            self.server = None
             self.count_end()
             return
-        self.server = server
         start = "another one was started" if server.is_own else "another one listens"
         say(f"the server has ended, and {start}; {self.words()}; {self.gap}", "yellow")
         self.fresh = files
@@ -273,19 +277,19 @@ class Window:
 
     # The end of the window.
 
-    def close(self) -> None:
+    def close(self, error: Optional[BaseException] = None) -> None:
         """Gives the roots back that were watched for windows alone, if this is the last one."""
         for ignored in self.places.ignored:
             ignored.close()
-        self.places.open.close(self.server)
+        self.places.open.close(self.server, self.places.added if self.is_new else (), is_hurried(error))
         if self.server:
             self.server.close()
 
     def __enter__(self) -> "Window":
         return self
 
-    def __exit__(self, *_: object) -> None:
-        self.close()
+    def __exit__(self, kind: object, error: Optional[BaseException], _: object) -> None:
+        self.close(error)
 
 
 def keep_lists(server: Server, is_kept: Callable[[Value], bool]) -> None:

@@ -63,7 +63,7 @@ def whole(word: str) -> int:
 
 
 IGNORE_CASE = flag("--ignore-case", help="ignore the case of A to Z in globs")
-MAX_DEPTH = value("--max-depth", metavar="N", type=int, help="at most N levels deep; 1 is directly in DIR")
+MAX_DEPTH = value("--max-depth", metavar="N", type=int, help="list what is at most N levels deep; 1 is directly in DIR")
 HIDDEN = flag("-H", "--hidden", help="leave out no name: also .git, .hg and, outside of git, node_modules and target")
 OTHERS = [
     value(
@@ -72,11 +72,25 @@ OTHERS = [
         metavar="KINDS",
         dest="type",
         action="append",
-        help="kinds of files: f or file, d or dir, l or link, x (executable), e (empty), such as -t f,d",
+        help="list these kinds: f (file), d (dir), l (link), x (executable), e (empty), such as -t f,d",
     ),
-    value("-e", "--extension", metavar="EXT", dest="ext", action="append", help="suffixes, such as -e c,h"),
-    value("-E", "--exclude", metavar="GLOB", dest="exclude", action="append", help="leave out what fits, and below"),
-    value("--min-depth", metavar="N", type=int, help="at least N levels deep"),
+    value(
+        "-e",
+        "--extension",
+        metavar="EXT",
+        dest="ext",
+        action="append",
+        help="list files with these suffixes, such as -e c,h",
+    ),
+    value(
+        "-E",
+        "--exclude",
+        metavar="GLOB",
+        dest="exclude",
+        action="append",
+        help="leave out what matches, and all below it",
+    ),
+    value("--min-depth", metavar="N", type=int, help="list what is at least N levels deep"),
     HIDDEN,
 ]
 # To watchexec and entr, `-i` and `-d` are other things than to fd. So a command that runs another one has neither.
@@ -86,17 +100,17 @@ SEARCHING = [
     Option(("-d", *MAX_DEPTH.names), {**MAX_DEPTH.settings, "dest": "max_depth"}),
     *OTHERS,
 ]
-ABSOLUTE = flag("-a", "--absolute-path", dest="absolute", help="print names from / on")
+ABSOLUTE = flag("-a", "--absolute-path", dest="absolute", help="print absolute paths")
 IGNORING = [
     Option(("-I", "--no-ignore"), {"dest": "ignore", "action": "store_false", "help": "list what git ignores too"}),
     flag("-u", "--unrestricted", help="list everything: -H and -I together"),
     flag("--gitignore", help="follow .gitignore and .ignore outside of repositories too"),
 ]
-DIRS = flag("--dirs", help="tell of directories too, also of those in which files came or went")
-COLOR = value("--color", metavar="WHEN", help="colours: auto, always or never [default: auto]")
+DIRS = flag("--dirs", help="list directories too, also those in which files came or went")
+COLOR = value("--color", metavar="WHEN", help="use colours: auto, always or never [default: auto]")
 QUIET = flag("-q", "--quiet", help="print nothing: the status says whether something was found")
 ZEROS = flag("-0", dest="print0", help="end each name with a byte 0 in place of a newline")
-JSON = flag("--json", help="print the reply of the server")
+JSON = flag("--json", help="print the server's reply")
 JSONL = flag("--jsonl", help="print each file as a JSON object on a line of its own")
 PRINTING = [ABSOLUTE, ZEROS, JSON, JSONL, COLOR]
 NUMBERS = [
@@ -124,6 +138,26 @@ EXECUTE_ONCE = value(
 )
 
 
+# The options of a page of help that have a title of their own, each by its last name. Before them come those that say how
+# a command works.
+TITLES = {
+    "which files": [
+        *(option.names[-1] for option in (*SEARCHING, *IGNORING, DIRS)),
+        "--size",
+        "--changed-within",
+        "--changed-before",
+        "--expression",
+        "--program",
+    ],
+    "output": [
+        *(option.names[-1] for option in (*PRINTING, QUIET)),
+        "-l",
+        "--count",
+        "--max-results",
+    ],
+}
+
+
 class Form(NamedTuple):
     """The words of a command: a line of usage, what it does, and its options."""
 
@@ -139,17 +173,25 @@ FORMS: Dict[str, Form] = {
         [
             *SEARCHING,
             *IGNORING,
-            value("--size", metavar="SIZE", help="+10k: at least 10 KiB; -10k: at most; k is 1,024 bytes, kB 1,000"),
+            value(
+                "--size",
+                metavar="SIZE",
+                help="list files of at least (+10k) or at most (-10k) a size; k is 1,024 bytes, kB 1,000",
+            ),
             value(
                 "--newer",
                 "--changed-within",
                 metavar="WHEN",
                 dest="newer",
-                help="modified within this time, such as 30s, 10min, 2h, 3d, 1w, or since a date, such as 2026-11-28",
+                help="list files modified within a time, such as 30s, 10min, 2h, 3d, 1w, or since a date, as 2026-11-28",
             ),
-            value("--older", "--changed-before", metavar="WHEN", dest="older", help="modified before that"),
-            value("--expression", metavar="JSON", help="an expression of the protocol, beside the other words"),
-            value("--program", metavar="NAME", help="a stored program; globs or -e say which files it is asked about"),
+            value("--older", "--changed-before", metavar="WHEN", dest="older", help="list files modified before that"),
+            value("--expression", metavar="JSON", help="list files that an expression of the protocol matches"),
+            value(
+                "--program",
+                metavar="NAME",
+                help="list files for which a stored program says yes; globs or -e say which it is asked about",
+            ),
             *PRINTING,
             flag("-l", dest="long", help="print kind, size, time and name"),
             flag("--count", help="print how many there are"),
@@ -210,7 +252,7 @@ FORMS: Dict[str, Form] = {
                 help="wait until nothing has changed for MS ms [default: 100]",
             ),
             value("--delay", metavar="MS", type=milliseconds, default=0, help="wait MS ms longer [default: 0]"),
-            flag("--restart", help="a change ends a command that runs by SIGTERM, and after 5 seconds by SIGKILL"),
+            flag("--restart", help="end a running command at a change: by SIGTERM, after 5 seconds by SIGKILL"),
             value(
                 "--on-busy",
                 metavar="HOW",
@@ -220,15 +262,15 @@ FORMS: Dict[str, Form] = {
                 "--stop-signal",
                 metavar="SIG",
                 default="TERM",
-                help="the signal of restart and signal [default: TERM]",
+                help="the signal for restart and signal [default: TERM]",
             ),
-            flag("--no-self", help="leave out all that changes while the command runs"),
-            flag("--shell", help="the words are a text for sh, in which {} stands for the names"),
-            flag("--notify", help="the terminal shows a message or rings when a run ends"),
+            flag("--no-self", help="leave out what changes while the command runs"),
+            flag("--shell", help="run the words as a text for sh, in which {} stands for the names"),
+            flag("--notify", help="show a message on the desktop, or ring, when a run ends"),
             flag("--once", help="end after one run, with its status"),
             flag("--postpone", help="wait for the first change"),
             flag("--clear", help="clear the terminal before each run"),
-            flag("--stdin", help="the names are lines on standard input"),
+            flag("--stdin", help="write the names as lines to the standard input of COMMAND"),
             flag("-0", dest="print0", help="with --stdin, end each name with a byte 0"),
             flag("-q", "--quiet", help="print errors only"),
             COLOR,
@@ -240,7 +282,7 @@ FORMS: Dict[str, Form] = {
         "have the server run a command in the root after changes",
         [
             *NARROWING,
-            flag("--stdin", help="the names are lines on standard input; {} as the last word stands for the names"),
+            flag("--stdin", help="write the names as lines to the standard input of COMMAND"),
             WORDS,
         ],
     ),
@@ -282,8 +324,10 @@ def parser_of(command: str) -> Parser:
         allow_abbrev=False,
         formatter_class=lambda prog: argparse.RawDescriptionHelpFormatter(prog, width=COLUMNS),
     )
+    groups = {title: parser.add_argument_group(title) for title in TITLES}
     for option in form.options:
-        parser.add_argument(*option.names, **option.settings)
+        title = next((title for title, names in TITLES.items() if option.names[-1] in names), None)
+        (groups[title] if title else parser).add_argument(*option.names, **option.settings)
     return parser
 
 

@@ -77,11 +77,11 @@ class Notes:
                 return root
         return None
 
-    def give_back(self, root: str, ask: Ask) -> None:
+    def give_back(self, root: str, ask: Ask, is_new: bool = False) -> None:
         """Ends the watch of a root that was watched for windows alone, and that none has open, unless it has
-        triggers."""
+        triggers. One that is new has none, and perhaps no view for a reply."""
         if self.purpose(root) == WINDOW and not self.has_window(root):
-            if ask("trigger-list", root).get("triggers") == []:
+            if is_new or ask("trigger-list", root).get("triggers") == []:
                 self.end(root, ask)
 
     def end(self, root: str, ask: Ask) -> None:

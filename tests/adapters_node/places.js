@@ -1,10 +1,14 @@
 'use strict';
 // Without a place at the server the tool's process looks at the files itself, and says so once.
 
+const { execFileSync } = require('child_process');
 const fs = require('fs');
 const net = require('net');
 const path = require('path');
-const { Watched, ask, pause, put, room, same, scene, server, tree } = require('./scene');
+const { HOME, Watched, ask, pause, put, room, same, scene, server, tree } = require('./scene');
+const { Source } = require(path.join(HOME, 'lib', 'source'));
+
+const WQ = path.resolve(HOME, '..', '..', 'wq');
 
 const warnings = [];
 process.on('warning', (warning) => warnings.push(warning.message));
@@ -45,6 +49,26 @@ async function manyRoots() {
 async function isWatched(name) {
   const { roots } = await ask('watch-list');
   return roots.includes(path.join(room, name));
+}
+
+/** What `wq watch --root` made a root serves all that is below it, and `wq unwatch` ends that. */
+async function ownRoots() {
+  const root = tree('made', ['a/b/c', 'a/d']);
+  execFileSync(WQ, ['watch', '--root', root]);
+  const file = path.join(root, 'a', 'd');
+  const watched = new Watched([path.join(root, 'a', 'b'), file], {}, root);
+  await watched.ready;
+  await watched.sees('below a root of its own', ['addDir a/b', 'add a/b/c', 'add a/d']);
+  same('one root serves them', (await ask('watch-list')).roots, [root]);
+  put(path.join(root, 'a', 'b', 'e'));
+  put(file, 'longer');
+  await watched.sees('changes there', ['add a/b/e', 'change a/d']);
+  await watched.watcher.close();
+  await pause(300);
+  same('it stays watched', (await ask('watch-list')).roots, [root]);
+  same('a directory for webpack', new Source(root).rootOf(path.join(root, 'a', 'b')), root);
+  execFileSync(WQ, ['unwatch', path.join(root, 'a')], { stdio: 'pipe' });
+  same('after unwatch', new Source(root).rootOf(path.join(root, 'a', 'b')), path.join(root, 'a'));
 }
 
 /** A server with 32 clients takes no other one, until one goes. */
@@ -106,4 +130,4 @@ async function noServer() {
   process.env.WQD_SOCK = before;
 }
 
-scene(manyRoots, manyClients, noServer);
+scene(manyRoots, ownRoots, manyClients, noServer);

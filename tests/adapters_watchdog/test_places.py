@@ -19,6 +19,7 @@ needs_watchdog()
 from test_observers import TIMEOUT, Recorder
 from wqd_watchdog import WqdObserver, emitter, server
 from wqd_watchdog.wqclient.kept import STOPS, keep, run_of
+from wqd_watchdog.wqclient.own_roots import set_own_root
 
 RETRY = 0.3
 POLLS = "watchdog's own polling watches until the server can"
@@ -107,6 +108,23 @@ class Places(Case):
                 time.sleep(server.OTHERS)
                 self.same("after it was stopped", recorder.waits_for({"created gone"}), {"created gone"})
                 self.check_told("and later", recorder)
+
+    def test_own_roots(self) -> None:
+        """What `wq watch --root` made a root serves all watches below it, although the project is watched."""
+        own = self.room / "tree0" / "own"
+        parts = [own / "a" / "b", own / "c"]
+        for path in parts:
+            path.mkdir(parents=True)
+        with served(self.room) as running, running.client() as client, heard() as stream:
+            set_own_root(str(own), True)
+            client.ask("watch", str(own.parent))
+            with observed(*parts) as recorders:
+                for number, recorder in enumerate(recorders):
+                    self.check_told(f"watch {number}", recorder)
+                roots = client.ask("watch-list")["roots"]
+                self.same("the roots", roots, [str(own.parent), str(own)])
+            self.same("it is given back", client.ask("watch-list")["roots"], [str(own.parent)])
+            self.same("nothing is said", stream.getvalue(), "")
 
     def test_many_roots(self) -> None:
         """The roots of all observers of a process count: what their directories have in common is watched then."""

@@ -3,10 +3,12 @@
 import json
 import os
 from typing import Dict, List, Tuple
+from unittest.mock import patch
 
 from bridged import VERSION, Bridge, make_files
 from case import Case
 from client import PATIENCE
+from wqclient.own_roots import set_own_root
 
 HAS = (
     "cmd-watch-project",
@@ -185,6 +187,30 @@ class Words(Case):
             )
             self.same("watch-del-all", len(client.ask("watch-del-all")["roots"]), 5)
             self.same("no root is left", client.ask("watch-list")["roots"], [])
+
+    def test_own_roots(self) -> None:
+        """What `wq watch --root` made a root is the project of all below it, unless a nearer one is there."""
+        trees = self.room / "trees"
+        make_files(trees, ["git/.git/", "git/a/b/", "plain/near/.git/", "plain/d/"])
+        with patch.dict(os.environ, XDG_STATE_HOME=str(self.directory("state"))):
+            for name in ("git/a", "plain"):
+                set_own_root(str(trees / name), True)
+            with Bridge(self.room) as bridge, bridge.client() as client:
+                client.ask("watch", str(trees / "git"))
+                for path, root, below in (
+                    ("git/a/b", "git/a", "b"),
+                    ("git/a", "git/a", None),
+                    ("plain/near", "plain/near", None),
+                    ("git", "git", None),
+                    ("plain/d", "plain", "d"),
+                ):
+                    reply = client.ask("watch-project", str(trees / path))
+                    found = (reply["watch"], reply.get("relative_path"))
+                    self.same(f"the project of {path}", found, (str(trees / root), below))
+                client.ask("watch-del", str(trees / "git" / "a"))
+                set_own_root(str(trees / "git" / "a"), False)
+                again = client.ask("watch-project", str(trees / "git" / "a" / "b"))
+                self.same("after `wq unwatch`", again["watch"], str(trees / "git"))
 
     def test_an_end(self) -> None:
         """A client that ends the server ends the bridge."""

@@ -10,7 +10,7 @@ GENERATED = "<!-- docs/crates/generate writes what follows -->"
 MOST = {
     "README.md": 1590,
     "CONTRIBUTING.md": 1600,
-    "CHANGELOG.md": 1850,
+    "CHANGELOG.md": 1900,
     "docs/ARCHITECTURE.md": 1900,
     "docs/CLIENTS.md": 3620,
     "docs/DECISIONS.md": 2250,
@@ -26,7 +26,7 @@ MOST = {
     "docs/SECURITY.md": 2240,
     "docs/SERVER.md": 4450,
     "docs/SPEED.md": 2150,
-    "docs/STABILITY.md": 770,
+    "docs/STABILITY.md": 940,
     "docs/TROUBLESHOOTING.md": 1650,
     "docs/TUTORIAL.md": 1450,
     "docs/WQ.md": 3500,

@@ -1,6 +1,8 @@
-"""The completion of words in bash, if it is there."""
+"""The completion of words in bash, zsh and fish, each tried in the shell itself, if it is there."""
 
 import os
+import pty
+import select
 import shutil
 import subprocess
 from pathlib import Path
@@ -9,7 +11,7 @@ from typing import Dict, List, Optional
 import built
 import completion
 from case import Case
-from client import Server
+from client import PATIENCE, Server
 from wq.words import FORMS, options_of
 
 # A program file that says yes, as the protocol takes it.
@@ -54,7 +56,7 @@ class Completed(Case):
             (["run", "--stop-signal", "US"], ["USR1", "USR2"]),
             (["since", "a", "-t", ""], ["f", "d", "l", "x", "e"]),
             (["find", str(room) + "/a"], [str(room / "a file")]),
-            (["stop", "-"], ["--help"]),
+            (["stop", "-"], ["-h", "--help"]),
             (["run", "*.c", "--", "truncat"], ["truncate"]),
             (["run", "*.c", "--", "cat", str(room) + "/a"], [str(room / "a file")]),
         ):
@@ -73,6 +75,26 @@ class Completed(Case):
             if shutil.which(shell) is not None:
                 (room / "script").write_text(script)
                 self.same(f"how {shell} reads it", subprocess.run([*check, str(room / "script")]).returncode, 0)
+
+    def test_every_word(self) -> None:
+        """Each command, and each option of each command, is completed by each shell, and values of some."""
+        lines = {
+            "": [*FORMS],
+            "--": ["--help", "--version"],
+            "st": ["status", "start", "stop"],
+            "run --on-busy ": ["wait", "restart", "ignore", "signal"],
+            "find --color ": ["auto", "always", "never"],
+            **{f"{command} -": [*options_of(command), "-h", "--help"] for command in FORMS},
+        }
+        for shell, complete in (("bash", in_bash), ("zsh", in_zsh), ("fish", in_fish)):
+            if shutil.which(shell) is None:
+                print(f"left out: completion in {shell}, which is not installed")
+                continue
+            (self.room / shell).mkdir()
+            found = complete(list(lines), self.room / shell)
+            for line, expected in lines.items():
+                missing = [word for word in expected if word not in found.get(line, [])]
+                self.same(f"{shell} completes wq {line}", missing, [])
 
     def check_names_of_a_server(self, room: Path) -> None:
         """Programs, triggers and roots that a server has, of which one has a letter of the shell. No server is
@@ -119,6 +141,79 @@ def names(shell: str, script: str, command: str, option: str) -> bool:
         return any(f"*{option}[" in line for line in script.splitlines() if line.strip().startswith(f"{command}) "))
     word = f" -l {option[2:]} " if option.startswith("--") else f" -s {option[1:]} "
     return any(f"from {command}'" in line and word in line for line in script.splitlines())
+
+
+def in_bash(lines: List[str], room: Path) -> Dict[str, List[str]]:
+    (room / "wq.bash").write_text(completion.bash())
+    return {line: completed("wq", line.split(" "), room / "wq.bash", directory=room) for line in lines}
+
+
+def in_fish(lines: List[str], room: Path) -> Dict[str, List[str]]:
+    (room / "wq.fish").write_text(completion.fish())
+    script = f"source {room}/wq.fish\n" + "".join(f"echo '= {line}'; complete -C 'wq {line}'\n" for line in lines)
+    words = ["fish", "--no-config", "-c", script]
+    found: Dict[str, List[str]] = {}
+    streams = {"stdout": subprocess.PIPE, "stderr": subprocess.DEVNULL}
+    for line in subprocess.run(words, cwd=room, env=of_home(room), **streams).stdout.decode().splitlines():
+        if line.startswith("= "):
+            words = found[line[2:]] = []
+        else:
+            words.append(line.split("\t")[0])
+    return found
+
+
+# A zsh that prints what is completed, each word on a line after a mark, and a mark after the last.
+ZSH = """
+PROMPT= PROMPT2=
+# The completions of other commands take long to read.
+fpath=($PWD ${fpath:#*(Unix|Linux|X|BSD|Darwin|Solaris|Mandriva|Debian|openSUSE|Cygwin|AIX|Redhat)*})
+autoload -U compinit && compinit -u -d $PWD/dump
+bindkey '^I' complete-word
+unsetopt auto_list list_beep auto_menu
+# They are called once.
+ended() { print -r -- $'\\1end'; comppostfuncs=(ended) }
+comppostfuncs=(ended)
+compadd() {
+    if [[ ${@[1,(i)(-|--)]} == *-(O|A|D)\\ * ]]; then builtin compadd "$@"; return; fi
+    local -a hits
+    builtin compadd -A hits "$@"
+    print -rl -- $'\\1'${^hits}
+    builtin compadd "$@"
+}
+print -r -- $'\\1'ready
+"""
+
+
+def in_zsh(lines: List[str], room: Path) -> Dict[str, List[str]]:
+    (room / "_wq").write_text(completion.zsh())
+    (room / ".zshrc").write_text(ZSH)
+    number, terminal = pty.fork()
+    if number == 0:
+        os.chdir(room)
+        os.execvpe("zsh", ["zsh", "-i"], {**of_home(room), "TERM": "dumb", "COLUMNS": "200"})
+    found: Dict[str, List[str]] = {}
+    for line in lines if read_to(terminal, "ready") else []:
+        os.write(terminal, f"wq {line}\t".encode())
+        found[line] = read_to(terminal, "end")
+        # Control and U begin another line.
+        os.write(terminal, b"\x15")
+    os.close(terminal)
+    os.waitpid(number, 0)
+    return found
+
+
+def of_home(room: Path) -> Dict[str, str]:
+    return {**os.environ, "HOME": str(room), "ZDOTDIR": str(room), "XDG_CONFIG_HOME": str(room), "LC_ALL": "C.UTF-8"}
+
+
+def read_to(terminal: int, last: str) -> List[str]:
+    """The words that are marked, up to the last one."""
+    text = ""
+    while f"\1{last}\r\n" not in text:
+        if not select.select([terminal], [], [], PATIENCE)[0]:
+            return []
+        text += os.read(terminal, 65_536).decode("utf-8", "replace")
+    return [line.partition("\1")[2] for line in text.split("\r\n") if "\1" in line]
 
 
 def completed(

@@ -3,10 +3,12 @@
 import os
 from pathlib import Path
 from typing import Dict, List, Optional
+from unittest.mock import patch
 
 import built
 from case import Case
 from client import PATIENCE, Server
+from wqclient.own_roots import set_own_root
 
 HOOK = built.TOP / "contrib" / "git-fsmonitor-hook"
 # What git says of the changes of `test_git`.
@@ -37,6 +39,7 @@ class Repository:
             "LC_ALL": "C",
             "XDG_RUNTIME_DIR": str(room / "runtime"),
             "TMPDIR": str(room),
+            "XDG_STATE_HOME": str(room / "state"),
         }
         if sockname is not None:
             self.environment["WQD_SOCK"] = sockname
@@ -94,6 +97,7 @@ class Hook(Case):
             self.same("a change since", repository.status(), [" M kept"])
             self.check_modes(repository)
             self.check_hook(repository)
+            self.check_own_root(repository, server)
 
     def check_modes(self, repository: Repository) -> None:
         """The hook itself looks at executable bits, which the server does not keep."""
@@ -120,6 +124,18 @@ class Hook(Case):
         repository.write(".gitignore", "")
         names = repository.hook("2", fresh[0].decode()).output.split(b"\0")[1:]
         self.same("the files since a token", names, [b".gitignore", b"changed", b""])
+
+    def check_own_root(self, repository: Repository, server: Server) -> None:
+        """git asks about a whole repository, also if `wq watch --root` made a part of it a root."""
+        with patch.dict(os.environ, XDG_STATE_HOME=repository.environment["XDG_STATE_HOME"]), server.client() as client:
+            set_own_root(str(repository.path / "deep"), True)
+            client.ask("watch", str(repository.path / "deep"))
+            repository.git("add", "-A")
+            repository.git("commit", "-qm", "fourth")
+            self.same("nothing changed beside a root", repository.status(), [])
+            repository.write("kept", "beside")
+            repository.write("deep/in/changed", "below")
+            self.same("changes in both", sorted(repository.status()), [" M deep/in/changed", " M kept"])
 
     def test_hook_that_fails(self) -> None:
         """A hook that cannot ask says so in one line, and git looks at all files."""

@@ -128,6 +128,12 @@ class Installed(Case):
         self.same("its version", wq("--version").output, f"wq {version_of(room)}\n".encode())
         ended = f"wq: the server at {runtime}/wqd.sock has ended\n".encode()
         self.same("its end", wq("stop"), built.Ended(b"", ended, 0))
+        other = room / "another program"
+        other.write_text(f'#!/bin/sh\ntouch "$HOME/other"\nexec {program} "$@"\n')
+        other.chmod(0o755)
+        environment["WQD"] = str(other)
+        self.same("the program of WQD", (wq("start").status, (room / "other").exists()), (0, True))
+        self.same("its end too", wq("stop").status, 0)
         nobody = f"wq: no server listens on {runtime}/wqd.sock; `wq start` starts one\n".encode()
         self.same("another end", wq("stop"), built.Ended(b"", nobody, 1))
 

@@ -9,6 +9,7 @@ import files
 import manual
 from case import Case
 from test_installed import FILES
+from wq.words import FORMS, options_of
 
 MACROS = {".TH", ".SH", ".SS", ".PP", ".TP", ".IP", ".B", ".br", ".nf", ".fi", ".RS", ".RE", ".ad", ".nh"}
 LETTERS = {"\\e": "\\", "\\-": "-", "\\(aq": "'", "\\(ga": "`", "\\(ha": "^", "\\(ti": "~", "\\&": ""}
@@ -67,7 +68,7 @@ class Pages(Case):
         """The pages of man: only known macros, all of ASCII, each heading, and each block of code as it is in the
         page."""
         for name, text, made in (
-            ("WQ.md", files.text("docs/WQ.md"), files.wq_manual()),
+            ("WQ.md", files.wq_page(), files.wq_manual()),
             ("SERVER.md", files.without(files.text("docs/SERVER.md"), "Installing it"), files.server_manual()),
             ("WQASM.md", files.text("docs/WQASM.md"), files.wqasm_manual()),
             *(
@@ -98,6 +99,20 @@ class Pages(Case):
         self.same(
             "a small page", manual.page(SMALL, "n", 1, "s", "0").splitlines()[6 : -1 - len(manual.PAGES)], SMALL_MADE
         )
+
+    def test_sections(self) -> None:
+        """The page of wq has what people look for in one, in the usual order, and each option of each command."""
+        lines = files.wq_manual().splitlines()
+        sections = [line[4:] for line in lines if line.startswith(".SH ")]
+        usual = ["NAME", "SYNOPSIS", "DESCRIPTION", "OPTIONS", "EXIT STATUS", "ENVIRONMENT", "FILES", "EXAMPLES"]
+        self.same("sections", [name for name in sections if name in usual], usual)
+        shown = [shown_as(line) for line in lines]
+        for command, form in FORMS.items():
+            begin = shown.index(f".SS wq {command}")
+            end = next(place for place in range(begin + 1, len(shown)) if shown[place].startswith((".SS", ".SH")))
+            words = set(re.findall(r"--?[\w-]+", " ".join(shown[begin:end])))
+            missing = [name for name in options_of(command) if name not in words]
+            self.same(f"options of wq {command}", missing, [])
 
     def check_by_roff(self, name: str, made: str) -> None:
         if shutil.which("groff") is None:

@@ -269,6 +269,13 @@ class ServingTold(Beside):
             self.same("another server", scene.names("watch", deep), [src])
             self.same("unwatch", scene.names("unwatch", "src"), [src])
             self.same("a part of the project again", scene.names("watch", "src/deep"), [str(scene.tree)])
+            scene.wq("watch", "--root", "src")
+            self.same("unwatch of a part", scene.names("unwatch", "src/deep"), [src])
+            self.same("ends it too", scene.names("watch", "src/deep"), [str(scene.tree)])
+            scene.wq("watch", "--root", "src")
+            scene.wq("stop")
+            self.same("unwatch without a server", scene.wq("unwatch", "src").status, 1)
+            self.same("a part once more", scene.names("find", "src/deep", "--json")[0].count(f'"root":"{src}"'), 0)
 
     def test_places_of_a_server(self) -> None:
         """The socket, the log, and whether wqd is right for a place."""
@@ -450,6 +457,8 @@ class ServingTold(Beside):
         left = said(f"{scene.tree}: names that are not UTF-8 are left out: 1")
         self.check("find says so", scene.wq("find", "*.h").errors.startswith(left))
         self.check("since says so", left in scene.wq("since", "*.h").errors)
+        with scene.begin("follow", "*.h") as going:
+            self.check("follow says so", going.waits_for(lambda one: left in one.errors))
         found = facts(scene)
         closed = 0 if os.getuid() == 0 else 1
         self.same("what is left out", found["roots"][0]["left_out"], {"names": 1, "directories": closed})

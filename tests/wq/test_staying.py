@@ -14,7 +14,9 @@ import built
 from case import Beside
 from client import PATIENCE
 from scene import Going, Scene, said
+from stand_ins import Holding
 from test_serving_told import facts
+from waiting import wait_until
 
 FOLLOWING = r"following ([0-9,]+) files? below (\S+); changes show within about [0-9.]+ s, later under load"
 # Listen and answer nothing. The one hears no SIGTERM, the other is busy.
@@ -203,6 +205,26 @@ class Staying(Beside):
                 (scene.wq("run", names[0], "--once", "--", "true").status, scene.names("roots")),
                 (0, [str(scene.tree)]),
             )
+
+    def test_ended_at_its_begin(self) -> None:
+        """A command that a person ends while it begins gives its root back, whichever reply it waits for."""
+        with Scene(self.room) as scene:
+            for place, (words, word, number, status) in enumerate(
+                (
+                    (["follow", "src"], b'"watch"', signal.SIGINT, 130),
+                    (["follow", "src"], b'"watch"', signal.SIGTERM, 143),
+                    (["follow", "src"], b'"query"', signal.SIGINT, 130),
+                    (["follow", "src"], b'"subscribe"', signal.SIGTERM, 143),
+                    (["run", "src", "--", "true"], b'"query"', signal.SIGINT, 130),
+                    (["find", "src"], b'"watch"', signal.SIGINT, 130),
+                )
+            ):
+                held = Holding(str(self.room / f"held{place}"), scene.sockname, word)
+                with scene.begin(*words, WQD_SOCK=held.sockname) as going:
+                    self.check(f"{words} waits for {word!r}", held.is_reached.wait(PATIENCE))
+                    ended = going.ends(number)
+                    wait_until(lambda: not scene.roots(), PATIENCE / 12)
+                    self.same(f"{words} at {word!r}", (ended, scene.roots()), (status, []))
 
     def check_stays(self, scene: Scene, words: List[str], is_before: bool) -> None:
         """The root of a command that needs it for longer stays, whether that came before the window or in it."""

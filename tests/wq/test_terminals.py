@@ -143,6 +143,7 @@ class Terminals(Beside):
     def test_first_crawl(self) -> None:
         """A first crawl of over a second shows how long it goes on; it can be interrupted at once."""
         with Scene(self.room, starts=False) as scene:
+            scene.shows_crawls = True
             stand_in(scene.sockname, answering(slowly))
             looks = f"the server looks at all files below {scene.tree} for the first time"
             ended = scene.wq("find")

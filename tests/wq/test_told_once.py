@@ -1,5 +1,6 @@
 """`wq since` tells each change once, and not before it was read; and `wq wait` ends at the first change."""
 
+import re
 import signal
 import subprocess
 from typing import List
@@ -80,6 +81,39 @@ class ToldOnce(Beside):
                 ended = scene.wq("since", "new")
                 self.same("it is told", (ended.status, ended.output), (3, b"+ new\n"))
                 self.same("and why again", ended.errors.endswith(b"; so the next call tells this again\n"), True)
+            # No file may grow, as if there were no space left.
+            clocks.unlink()
+            full = by_shell(scene, 'ulimit -f 0; "$0" since new')
+            self.same("no space is left", (full.status, full.output), (3, b"+ new\n"))
+            place = re.fullmatch(rb"wq: (/\S+): [^:]+; so the next call tells this again\n", full.errors)
+            self.check("it says where", place is not None and place[1].startswith(bytes(clocks)), [str(full.errors)])
+
+    def test_became_links(self) -> None:
+        """A file that became a link is gone for who asks for files, and comes back as a file. Links are not told."""
+        with Scene(self.room) as scene:
+            (scene.tree / "always").symlink_to("src")
+            question = ["since", "-n", "p", "-t", "f", "-H"]
+            names = ["Makefile", "src/a.c"]
+            self.same("files alone", [name in str(scene.names("find", "-t", "f")) for name in names], [True, True])
+            first = scene.wq(*question).output.decode().splitlines()
+            self.same("and first of all", [f"+ {name}" in first for name in (*names, "always")], [True, True, False])
+            with scene.begin("follow", "-t", "f") as going:
+                self.check("a window", going.says("following"))
+                for name in names:
+                    replaced(scene, name, "always")
+                replaced(scene, "always", "Makefile")
+                (scene.tree / "late").symlink_to("src")
+                self.same("since", scene.names(*question), [f"- {name}" for name in names])
+                self.check("a window tells it too", going.waits_for(lambda one: one.output.count(b"\n") == 2))
+                (scene.tree / "Makefile").unlink()
+                scene.write("Makefile", "again")
+                self.same("a file again", scene.names(*question), ["+ Makefile"])
+                self.check("in a window", going.prints("+ Makefile\n"))
+                replaced(scene, "late", "Makefile")
+                self.same("no link is told", scene.wq(*question), built.Ended(b"", b"", 1))
+                going.ends(signal.SIGINT)
+                lines = sorted(going.output.decode().splitlines())
+                self.same("all of the window", lines, ["+ Makefile", "- Makefile", "- src/a.c"])
 
     def test_wait(self) -> None:
         with Scene(self.room) as scene:
@@ -93,24 +127,26 @@ class ToldOnce(Beside):
                     write_until_end(scene, going, "src/a.c")
                     self.same(f"wait {words}", (going.ends(), going.output), (0, output))
             with scene.begin("wait", "./later") as going:
-                self.check("a file that may come", going.waits_for(lambda _: bool(roots_of(scene))))
+                self.check("a file that may come", going.waits_for(lambda _: bool(scene.roots())))
                 write_until_end(scene, going, "later")
                 self.same("has come", (going.ends(), going.output[1:]), (0, b" later\n"))
-            self.same("the root is given back", roots_of(scene), [])
+            self.same("the root is given back", scene.roots(), [])
             with scene.begin("wait") as going:
-                going.waits_for(lambda _: bool(roots_of(scene)))
+                going.waits_for(lambda _: bool(scene.roots()))
                 self.same("Ctrl-C", going.ends(signal.SIGINT), 130)
+
+
+def replaced(scene: Scene, name: str, target: str) -> None:
+    """A link takes the place of a file, or of another link, in one step."""
+    aside = scene.tree / ".git" / "aside"
+    aside.symlink_to(target)
+    aside.rename(scene.tree / name)
 
 
 def write_until_end(scene: Scene, going: Going, name: str) -> None:
     """Writes a file until a command ends: what changed before it listens is not told."""
     turns = iter(range(10_000))
     going.waits_for(lambda one: one.process.poll() is not None or scene.write(name, "x" * (next(turns) % 50 + 1)))
-
-
-def roots_of(scene: Scene) -> List[str]:
-    with scene.client() as client:
-        return [*client.ask("watch-list")["roots"]]
 
 
 def began(scene: Scene) -> "subprocess.Popen[bytes]":

@@ -6,7 +6,7 @@ const { expressionOf } = require('./expression');
 const { Feed } = require('./feed');
 const hub = require('./hub');
 const { Place } = require('./place');
-const { directoryOfProject, rootAbove, rootFor } = require('./roots');
+const { directoryOfProject, nearestRoot, rootFor } = require('./roots');
 const { statsOf } = require('./stats');
 
 class Feeds {
@@ -29,13 +29,13 @@ class Feeds {
   }
 
   async feedOf(real, directory) {
-    const covering = rootAbove([...this.byRoot.keys()], real);
-    if (covering) return this.byRoot.get(covering);
+    const nearest = nearestRoot([...this.byRoot.keys()], real);
+    if (this.byRoot.has(nearest)) return this.byRoot.get(nearest);
     const keeps = this.watcher.options.persistent;
     const session = hub.acquire(keeps);
     await session.whenTried();
     const { roots = [] } = await session.ask('watch-list');
-    const root = rootFor(directory, [...this.byRoot.keys()], roots, this.project);
+    const root = nearest || rootFor(directory, [...this.byRoot.keys()], roots, this.project);
     if (!this.byRoot.has(root)) this.byRoot.set(root, this.feedAt(root));
     hub.release(session, keeps);
     if (this.watcher.closed) this.byRoot.get(root).close();
@@ -67,7 +67,7 @@ class Feeds {
 
   /** Whether a single file is told by one of the feeds, or by one that is made for its directory of the project. */
   covers(real) {
-    return Boolean(rootAbove([...this.byRoot.keys()], real) || directoryOfProject(real, this.project));
+    return Boolean(nearestRoot([...this.byRoot.keys()], real) || directoryOfProject(real, this.project));
   }
 
   /** After the watcher ignores something else. */

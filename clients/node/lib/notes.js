@@ -12,6 +12,7 @@ const { mayKeepNotes, notesDirectory } = require('./sockname');
 const WINDOW = 'window';
 const DROPPABLE = [WINDOW, 'kept'];
 const LONGEST = 65_536;
+const OWN_ROOTS = 'own-roots';
 
 class Notes {
   constructor(sockname) {
@@ -21,20 +22,13 @@ class Notes {
   }
 
   pathOf(kind, root) {
-    const name = crypto.createHash('sha256').update(`${this.sockname}\0${root}`).digest('hex').slice(0, 32);
-    return path.join(notesDirectory(), kind, name);
+    return pathOf(kind, this.sockname, root);
   }
 
   /** The note of a root in this run of the server; {} if there is none. */
   of(root) {
-    try {
-      const file = this.pathOf('roots', root);
-      if (!isOwnFile(file)) return {};
-      const note = JSON.parse(fs.readFileSync(file, 'utf8'));
-      return this.run && note && note.run === this.run ? note : {};
-    } catch {
-      return {};
-    }
+    const note = noteIn(this.pathOf('roots', root));
+    return this.run && note.run === this.run ? note : {};
   }
 
   /** Notes that this process had a root watched. */
@@ -83,6 +77,30 @@ class Notes {
   }
 }
 
+/** The nearest directory, at or above one without links, that `wq watch --root` made a root of its own. */
+function ownRootOf(directory) {
+  if (!fs.existsSync(path.join(notesDirectory(), OWN_ROOTS))) return undefined;
+  for (let at = directory; ; at = path.dirname(at)) {
+    if (noteIn(pathOf(OWN_ROOTS, at)).root === true) return at;
+    if (at === path.dirname(at)) return undefined;
+  }
+}
+
+function pathOf(kind, ...parts) {
+  const name = crypto.createHash('sha256').update(parts.join('\0')).digest('hex').slice(0, 32);
+  return path.join(notesDirectory(), kind, name);
+}
+
+/** The object that a file of this user holds; {} if it holds none. */
+function noteIn(file) {
+  try {
+    const note = isOwnFile(file) && JSON.parse(fs.readFileSync(file, 'utf8'));
+    return note || {};
+  } catch {
+    return {};
+  }
+}
+
 function isOwnFile(file) {
   const found = fs.lstatSync(file);
   return found.isFile() && found.uid === process.getuid() && found.size <= LONGEST;
@@ -92,4 +110,4 @@ function isAlive(run) {
   return typeof run === 'string' && runOf(run.split(':')[0]) === run;
 }
 
-module.exports = { Notes };
+module.exports = { Notes, ownRootOf };

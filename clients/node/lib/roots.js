@@ -4,6 +4,7 @@
 
 const path = require('path');
 const { nameBelow } = require('./names');
+const { ownRootOf } = require('./notes');
 
 // The server watches 16 roots. Of one watcher they are at most so many before it takes what lies above.
 const MOST = 16;
@@ -13,6 +14,12 @@ const MOST_OWN = 4;
 function rootAbove(roots, real) {
   const found = roots.filter((root) => nameBelow(root, real) !== undefined);
   return found.sort((one, other) => other.length - one.length)[0];
+}
+
+/** The nearest root that has a path: one of these, or one that `wq watch --root` made. */
+function nearestRoot(roots, real) {
+  const made = ownRootOf(real);
+  return rootAbove(made ? [...roots, made] : roots, real);
 }
 
 /**
@@ -38,4 +45,4 @@ function directoryOfProject(real, project) {
   return name && name.includes('/') ? path.join(project, name.split('/')[0]) : undefined;
 }
 
-module.exports = { directoryOfProject, rootAbove, rootFor };
+module.exports = { directoryOfProject, nearestRoot, rootFor };

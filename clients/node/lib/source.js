@@ -5,6 +5,7 @@ const fs = require('fs');
 const path = require('path');
 const { Feed } = require('./feed');
 const { nameBelow } = require('./names');
+const { ownRootOf } = require('./notes');
 const { directoryOfProject } = require('./roots');
 const { isOther } = require('./rows');
 
@@ -36,7 +37,8 @@ class Source {
   }
 
   rootOf(directory) {
-    return this.project === '/' ? undefined : directoryOfProject(path.join(directory, 'any'), this.project);
+    const root = this.project === '/' ? undefined : directoryOfProject(path.join(directory, 'any'), this.project);
+    return root && (ownRootOf(directory) || root);
   }
 
   /**

@@ -13,6 +13,7 @@ from .roots import in_common, lies_in, nearest, outermost, refusal
 from .starting import start_server
 from .trouble import Lost, Unserved, say
 from .wqclient.kept import STOPS, kept, run_of
+from .wqclient.own_roots import own_root_of
 from .wqclient.root_notes import WINDOW, Notes
 from .wqclient.sockets import default_sockname, is_listened_on
 
@@ -150,7 +151,8 @@ class Server:
     def root_of(self, directory: str) -> str:
         """The root that serves a directory. Its last scan began in this call or later."""
         with self.lock:
-            root = nearest(directory, self.roots(directory))
+            made = own_root_of(directory)
+            root = nearest(directory, [*self.roots(directory), *([made] if made else [])])
             if root is None or "error" in self.ask("clock", root, {"sync_timeout": 1}):
                 root = self.watched(directory)
             if root not in self.open and self.notes:
@@ -158,15 +160,16 @@ class Server:
             return root
 
     def watched(self, directory: str) -> str:
-        """Has a root watched for a directory: the one that it has in common with other roots of this process, if these
-        are many and it can be watched."""
+        """Has a root watched for a directory: the one that `wq watch --root` made, or the one that it has in common
+        with other roots of this process, if these are many and it can be watched."""
         own = {root for server in list(self.all) for root in list(server.open)}
-        common = in_common([*own, directory]) if len(own) >= MOST_OWN else None
+        made = own_root_of(directory)
+        common = in_common([*own, directory]) if len(own) >= MOST_OWN and not made else None
         if common:
             with contextlib.suppress(Unserved):
                 self.watch(common)
                 return common
-        root = outermost(directory, self.expected)
+        root = made or outermost(directory, self.expected)
         self.watch(root)
         return root
 
