@@ -1,5 +1,6 @@
 -- A session that is served alone is one run of the world.
 use Rattle.std.proofs.Common.{◌≡◌, ◌⊎◌, ℕ, ℤ, Bool, true, List, [], ◌∷◌, ◌++◌, map, codes, Option, Some, None, inl, inr, refl, ap, sym, subst, ◌∙◌, append-nil, append_assoc}
+use mathlib.Core.Bool.{false≢true}
 use Rattle.std.proofs.lemmas.List.{map-append}
 use Rattle.wq_clock.specs.Run.{run_data}
 use Rattle.wq_replay.proofs.Worlds.{runs_go_on}
@@ -60,7 +61,7 @@ module _ (basis : Basis) (client : ℤ) (before next after : PlaceData) (event :
   one_more : HasGone out ⊎ WasBlind basis before event out next ⊎ IsRunFor basis client world event out next
       → ((between : WorldData) → ShowsWorld basis.run client true next between → Blind ⊎ IsRunOf basis client between later rest true after)
       → (WasBlind basis before event out next ⊎ Blind) ⊎ IsRunOf basis client world (event ∷ later) written true after
-  one_more (inl left) others = absurd (cc (left, goes))
+  one_more (inl left) others = absurd (false≢true (sym (ap (λ (o : OutData). o.goes_on) left) ∙ goes))
   one_more (inr (inl blind)) others = inl (inl blind)
   one_more (inr (inr (happenings, between, happens, runs, shown))) others =
       joined between happenings happens runs (others between (subst (λ g. ShowsWorld basis.run client g next between) goes shown))
