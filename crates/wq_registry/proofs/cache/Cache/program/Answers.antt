@@ -1,5 +1,5 @@
 -- A program that is kept stands for the text of the key, which says the expression.
-use Rattle.std.proofs.Common.{rules, true≢false, absurd, sym, ◌∙◌}
+use Rattle.std.proofs.Common.{rules, true≢false, sym, ◌∙◌}
 use Rattle.wq_term.specs.Expr.{term_of}
 use Rattle.wq_registry.specs.CacheKey.{Says}
 use Rattle.wq_registry.proofs.Keeping.{stood_for}
