@@ -121,7 +121,7 @@ impl Work {
     /// If memory runs out, the output says so, and the subscriptions of the session stay.
     pub fn finish(self, session: &mut Session, at: Option<At<'_>>) -> Out
         requires { CanFinish (work_data self) (option_map at_data at) }
-        ensures { Finishes false (work_data self.entry) (option_map at_data at.entry)
+        ensures { Finishes false (work_data self) (option_map at_data at.entry)
             (follows_of session.old) result (follows_of session.new) }
     {
         session.finish(&Alone {}, self, at)
@@ -139,7 +139,7 @@ impl Work {
     ) -> Out
         requires workers { AreFew workers }
         requires view { CanFinish (work_data self) (option_map at_data at) }
-        ensures { Finishes false (work_data self.entry) (option_map at_data at.entry)
+        ensures { Finishes false (work_data self) (option_map at_data at.entry)
             (follows_of session.old) result (follows_of session.new) }
     {
         session.finish_rest_workers(rt, gate, workers, self.into_rest(), at)
