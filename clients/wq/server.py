@@ -88,6 +88,9 @@ class Server:
                 value = json.loads(found) if b'"unilateral":true' in found else {}
                 if "unilateral" not in value:
                     self.unanswered -= 1
+                    seconds = progress.end() if progress else None
+                    if seconds:
+                        self.notes.looked(crawls, seconds)
                     return found
                 self.client.lists.append(value)
         except Ended:
