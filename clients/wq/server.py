@@ -141,8 +141,8 @@ class Server:
         return found
 
     def ask_within(self, seconds: float, *command: Any) -> Value:
-        """A reply, which may be an error; nothing if it does not come within so many seconds. Replies to commands before
-        it, for which nobody waits any more, are left out."""
+        """A reply, which may be an error; nothing if it does not come within so many seconds. Replies to commands
+        before it, for which nobody waits any more, are left out."""
         end = time.monotonic() + seconds
         self.unanswered += 1
         try:

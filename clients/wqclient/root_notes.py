@@ -47,9 +47,9 @@ class Notes:
             keep({}, ROOTS, self.sockname, root)
 
     def look(self, root: str) -> str:
-        """What a person hears while the server looks at all files of a root that was not watched, and how long that took
-        last, if it was long. In the run of a server that is for the first time once; then the command is named that
-        keeps the root watched."""
+        """What a person hears while the server looks at all files of a root that was not watched, and how long that
+        took last, if it was long. In the run of a server that is for the first time once; then the command is named
+        that keeps the root watched."""
         run, note = run_of(self.process), kept(LOOKS, self.sockname, root)
         took = note.get("took")
         before = f", which took {took:.1f} s before" if isinstance(took, (int, float)) else ""

@@ -3,7 +3,6 @@
 import re
 import signal
 import subprocess
-from typing import List
 
 import built
 from case import Beside
