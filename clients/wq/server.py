@@ -88,6 +88,9 @@ class Server:
                 value = json.loads(found) if b'"unilateral":true' in found else {}
                 if "unilateral" not in value:
                     self.unanswered -= 1
+                    seconds = progress.end() if progress else None
+                    if seconds:
+                        self.notes.looked(crawls, seconds)
                     return found
                 self.client.lists.append(value)
         except Ended:
@@ -138,8 +141,8 @@ class Server:
         return found
 
     def ask_within(self, seconds: float, *command: Any) -> Value:
-        """A reply, which may be an error; nothing if it does not come within so many seconds. Replies to commands before
-        it, for which nobody waits any more, are left out."""
+        """A reply, which may be an error; nothing if it does not come within so many seconds. Replies to commands
+        before it, for which nobody waits any more, are left out."""
         end = time.monotonic() + seconds
         self.unanswered += 1
         try:

@@ -117,8 +117,12 @@ class Progress:
         if self.has_told and is_terminal(sys.stderr):
             print("\r\x1b[K", end="", file=sys.stderr, flush=True)
 
-    def end(self) -> None:
+    def end(self) -> Optional[float]:
+        """Says how long it took, in seconds, which are given too if that is long."""
         if not self.has_told:
-            return
+            return None
         self.clear()
-        say(f"that took {time.monotonic() - self.began:.1f} s")
+        self.has_told = False
+        seconds = time.monotonic() - self.began
+        say(f"that took {seconds:.1f} s")
+        return seconds

@@ -138,8 +138,8 @@ EXECUTE_ONCE = value(
 )
 
 
-# The options of a page of help that have a title of their own, each by its last name. Before them come those that say how
-# a command works.
+# The options of a page of help that have a title of their own, each by its last name. Before them come those that say
+# how a command works.
 TITLES = {
     "which files": [
         *(option.names[-1] for option in (*SEARCHING, *IGNORING, DIRS)),
@@ -183,7 +183,7 @@ FORMS: Dict[str, Form] = {
                 "--changed-within",
                 metavar="WHEN",
                 dest="newer",
-                help="list files modified within a time, such as 30s, 10min, 2h, 3d, 1w, or since a date, as 2026-11-28",
+                help="list files modified within a time, such as 30s, 10min, 2h, 3d, 1w, or since 2026-11-28",
             ),
             value("--older", "--changed-before", metavar="WHEN", dest="older", help="list files modified before that"),
             value("--expression", metavar="JSON", help="list files that an expression of the protocol matches"),

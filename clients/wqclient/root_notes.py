@@ -47,14 +47,22 @@ class Notes:
             keep({}, ROOTS, self.sockname, root)
 
     def look(self, root: str) -> str:
-        """What a person hears while the server looks at all files of a root that was not watched. In the run of a
-        server that is for the first time once; then the command is named that keeps the root watched."""
-        run = run_of(self.process)
-        if kept(LOOKS, self.sockname, root).get("run") == run:
-            return f"the server looks at all files below {root} again; `wq watch` would keep it watched"
+        """What a person hears while the server looks at all files of a root that was not watched, and how long that
+        took last, if it was long. In the run of a server that is for the first time once; then the command is named
+        that keeps the root watched."""
+        run, note = run_of(self.process), kept(LOOKS, self.sockname, root)
+        took = note.get("took")
+        before = f", which took {took:.1f} s before" if isinstance(took, (int, float)) else ""
+        if note.get("run") == run:
+            return f"the server looks at all files below {root} again{before}; `wq watch` would keep it watched"
         with contextlib.suppress(OSError):
-            keep({"run": run}, LOOKS, self.sockname, root)
-        return f"the server looks at all files below {root} for the first time"
+            keep({**note, "run": run}, LOOKS, self.sockname, root)
+        return f"the server looks at all files below {root} for the first time{before}"
+
+    def looked(self, root: str, seconds: float) -> None:
+        """Notes how long a look at all files took, for the next one."""
+        with contextlib.suppress(OSError):
+            keep({"run": run_of(self.process), "took": seconds}, LOOKS, self.sockname, root)
 
     def is_for_a_moment(self, root: str) -> bool:
         return self.purpose(root) in ("", MOMENT)

@@ -129,7 +129,7 @@ class Installed(Case):
         ended = f"wq: the server at {runtime}/wqd.sock has ended\n".encode()
         self.same("its end", wq("stop"), built.Ended(b"", ended, 0))
         other = room / "another program"
-        other.write_text(f'#!/bin/sh\ntouch "$HOME/other"\nexec {program} "$@"\n')
+        other.write_text(f'#!/bin/sh\ntouch "$HOME/other"\nexec "{program}" "$@"\n')
         other.chmod(0o755)
         environment["WQD"] = str(other)
         self.same("the program of WQD", (wq("start").status, (room / "other").exists()), (0, True))

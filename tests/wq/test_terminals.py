@@ -30,6 +30,18 @@ def slowly(line: bytes) -> bytes:
     return json.dumps({**replies.get(name, {}), "version": "wq-1"}).encode()
 
 
+# What help says in the words of usual tools.
+SENTENCES = (
+    ("find", "--max-depth N list what is at most N levels deep"),
+    ("find", "{} is the name, {/} the base name, {//} the directory"),
+    ("find", "--no-sync answer from the last scan"),
+    ("since", "--peek show what since would print, without marking it as seen"),
+    ("run", "--debounce MS wait until nothing has changed for MS ms [default: 100]"),
+    ("untrigger", "remove a trigger"),
+    ("unwatch", "stop watching"),
+)
+
+
 class Terminals(Beside):
     def test_terminal(self) -> None:
         """Colours, layout and escapes are for terminals, and NO_COLOR takes the colours away."""
@@ -111,6 +123,9 @@ class Terminals(Beside):
                 self.same(f"wq {command} --help", (text.status, text.errors, missing), (0, b"", []))
                 self.check_examples(command, text.output.decode())
                 self.same(f"{command} in the help", f" {command}" in USAGE, True)
+            for command, sentence in SENTENCES:
+                shown = " ".join(scene.wq(command, "--help").output.decode().split())
+                self.check(f"wq {command} --help says {sentence!r}", sentence in shown, [shown])
             full = scene.wq("--help")
             self.same(
                 "the help fits a terminal of 80 columns", max(map(len, full.output.decode().splitlines())) <= 80, True
@@ -151,7 +166,8 @@ class Terminals(Beside):
             self.same("a slow crawl, beside a pipe", (ended.status, lines[:1], len(lines)), (1, [f"wq: {looks}"], 2))
             took = lines[-1]
             self.check("how long it took", took.startswith("wq: that took 2.") and took.endswith(" s"), lines)
-            looks = f"the server looks at all files below {scene.tree} again; `wq watch` would keep it watched"
+            again = f"again, which took {took.split()[3]} s before; `wq watch` would keep it watched"
+            looks = f"the server looks at all files below {scene.tree} {again}"
             shown = at_terminal(scene, "find", NO_COLOR="1")
             self.check(
                 "a slow crawl at a terminal",
@@ -159,7 +175,7 @@ class Terminals(Beside):
                 [shown],
             )
             with scene.begin("find") as going:
-                self.check("a crawl that goes on", going.says(looks))
+                self.check("a crawl that goes on", going.says(looks.partition(",")[0]))
                 began = time.monotonic()
                 self.same("Ctrl-C in a first crawl", going.ends(2), 130)
                 self.same("ends at once", time.monotonic() - began < 1.5, True)

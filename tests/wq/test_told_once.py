@@ -3,7 +3,6 @@
 import re
 import signal
 import subprocess
-from typing import List
 
 import built
 from case import Beside
@@ -85,7 +84,7 @@ class ToldOnce(Beside):
             clocks.unlink()
             full = by_shell(scene, 'ulimit -f 0; "$0" since new')
             self.same("no space is left", (full.status, full.output), (3, b"+ new\n"))
-            place = re.fullmatch(rb"wq: (/\S+): [^:]+; so the next call tells this again\n", full.errors)
+            place = re.search(rb"^wq: (/\S+): [^:]+; so the next call tells this again$", full.errors, re.M)
             self.check("it says where", place is not None and place[1].startswith(bytes(clocks)), [str(full.errors)])
 
     def test_became_links(self) -> None:
