@@ -15,6 +15,7 @@ MOST = {
     "docs/CLIENTS.md": 3620,
     "docs/DECISIONS.md": 2250,
     "crates/*/DECISIONS.md": 7850,
+    "docs/EMBEDDING.md": 1600,
     "docs/LIBRARY.md": 1350,
     "docs/FILESYSTEMS.md": 860,
     "docs/PROGRAMS.md": 3250,
