@@ -8,7 +8,7 @@ from typing import Dict, Iterator, List
 GENERATED = "<!-- docs/crates/generate writes what follows -->"
 # The most words of each page, or of several together. Shorten before you raise one.
 MOST = {
-    "README.md": 1590,
+    "README.md": 1620,
     "CONTRIBUTING.md": 1600,
     "CHANGELOG.md": 1850,
     "docs/ARCHITECTURE.md": 1900,
@@ -18,10 +18,11 @@ MOST = {
     "docs/EMBEDDING.md": 1600,
     "docs/LIBRARY.md": 1350,
     "docs/FILESYSTEMS.md": 860,
+    "docs/PLACES.md": 1500,
     "docs/PROGRAMS.md": 3250,
     "docs/PROOFS.md": 2500,
     "docs/PROTOCOL.md": 5000,
-    "docs/REFERENCE.md": 2500,
+    "docs/REFERENCE.md": 2650,
     "docs/RECIPES.md": 1640,
     "docs/SCRIPTS.md": 1100,
     "docs/SECURITY.md": 2240,

@@ -1,4 +1,4 @@
-"""The commands of docs/TUTORIAL.md, docs/TROUBLESHOOTING.md, docs/EMBEDDING.md and of README's picture, which write what
+"""The commands of docs/TUTORIAL.md, TROUBLESHOOTING.md, EMBEDDING.md, PLACES.md and of README's picture, which write what
 the pages show. Each block has a mark, a comment that a reader does not see; reading.py says which there are."""
 
 import shutil
@@ -20,6 +20,9 @@ class Pages(Case):
     def test_embedding(self) -> None:
         """Without Node the part in JavaScript, which is the last with commands, is left out."""
         self.check_page("EMBEDDING.md", until="" if shutil.which("node") else "\n## In JavaScript\n")
+
+    def test_places(self) -> None:
+        self.check_page("PLACES.md")
 
     def test_picture(self) -> None:
         self.check_page("terminal/session.md")
