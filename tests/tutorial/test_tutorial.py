@@ -1,5 +1,5 @@
-"""The commands of docs/TUTORIAL.md, TROUBLESHOOTING.md, EMBEDDING.md, PLACES.md and of README's picture, which write what
-the pages show. Each block has a mark, a comment that a reader does not see; reading.py says which there are."""
+"""The commands of docs/TUTORIAL.md, TROUBLESHOOTING.md, EMBEDDING.md and PLACES.md and of README's picture, which write
+what the pages show. Each block has a mark, a comment that a reader does not see; reading.py says which there are."""
 
 import shutil
 import subprocess
