@@ -24,6 +24,8 @@ PAGES = {
     "PROGRAMS.md": "wqd-programs(7)",
     "SCRIPTS.md": "wqd-scripts(7)",
 }
+# Of the pages of docs/ that are no pages of man, which pages of man name too.
+ELSEWHERE = "Other names of pages, such as SECURITY, are those of pages below docs in the sources."
 # Lines are not stretched, and words are not cut: most are code.
 LAYOUT = [".ad l", ".nh"]
 # Code of so many letters may be too long for a line.
@@ -43,7 +45,7 @@ def page(text: str, name: str, section: int, summary: str, version: str, usage: 
         lines += [".SH SYNOPSIS", *block(synopsis(usage))]
     lines += [".SH DESCRIPTION", *body(COMMENT.sub("", text + more).split("\n"))]
     others = [other for other in PAGES.values() if other != f"{name}({section})"]
-    lines += [".SH SEE ALSO", *(f".B {other}" for other in others)]
+    lines += [".SH SEE ALSO", *(f".B {other}" for other in others), ".PP", ELSEWHERE]
     return "\n".join(lines) + "\n"
 
 

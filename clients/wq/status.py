@@ -66,7 +66,7 @@ def process_facts(found: Facts) -> Dict[str, Any]:
 
 
 def root_facts(server: Server, root: str, log: Log) -> Dict[str, Any]:
-    """The facts about a root: how long a crawl takes is measured by one."""
+    """The facts about a root: how long a scan takes is measured by one."""
     reply, took = scanned(server, root)
     if "error" in reply:
         return {"root": root, "error": reply["error"]}
@@ -154,7 +154,7 @@ def root_lines(root: Dict[str, Any]) -> Iterator[str]:
     yield row("root", root["root"])
     yield row(
         "",
-        f"{files} and {directories}, tick {root['tick']}, a crawl takes {root['crawl_seconds']:.3f} s, "
+        f"{files} and {directories}, tick {root['tick']}, a scan takes {root['crawl_seconds']:.3f} s, "
         f"last change {changed}",
     )
     for what, count in zip(("names that are not UTF-8", "directories that cannot be read"), root["left_out"].values()):

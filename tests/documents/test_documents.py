@@ -5,12 +5,13 @@ name rooms that are there, and no paragraph and no row of a table is on two page
 import re
 from collections import defaultdict
 from pathlib import Path
-from typing import Dict, Iterator, List, Set, Tuple
+from typing import Dict, List, Set
 
 import built
 from case import Case
 from limits import missing_limits
 from measures import wrong_measures
+from pages import anchors_of, links_of, prose_of
 from recipes import wrong_rooms
 from words import GENERATED, wordy
 
@@ -21,7 +22,6 @@ PAGES = [
     *sorted((built.TOP / "crates").glob("*/*.md")),
     *(built.TOP / name for name in ("tests/README.md", "bench/LOG.md")),
 ]
-LINK = re.compile(r"\]\(([^)\s]+)\)")
 # README: how many lines it may have, and how many characters a line that is no row of a table.
 MOST_LINES = 150
 MOST_COLUMNS = 120
@@ -31,7 +31,7 @@ FEWEST_WORDS = 12
 
 class Pages(Case):
     def test_links(self) -> None:
-        headings = {page: headings_of(page) for page in PAGES}
+        headings = {page: set(anchors_of(page)) for page in PAGES}
         for page in PAGES:
             for number, target in links_of(page):
                 where = f"{name_of(page)}, line {number}"
@@ -70,28 +70,6 @@ class Pages(Case):
 
 def name_of(page: Path) -> str:
     return str(page.relative_to(built.TOP))
-
-
-def prose_of(page: Path) -> Iterator[Tuple[int, str]]:
-    """The lines of a page with their numbers, without blocks of code and without code within a line."""
-    is_fenced = False
-    for number, line in enumerate(page.read_text(encoding="utf-8").split("\n"), 1):
-        if line.startswith("```"):
-            is_fenced = not is_fenced
-        elif not is_fenced and not line.startswith("    "):
-            yield number, re.sub(r"`[^`]*`", "`code`", line)
-
-
-def links_of(page: Path) -> Iterator[Tuple[int, str]]:
-    for number, line in prose_of(page):
-        yield from ((number, target) for target in LINK.findall(line) if "://" not in target)
-
-
-def headings_of(page: Path) -> Set[str]:
-    """The headings of a page, as links name them."""
-    lines = page.read_text(encoding="utf-8").split("\n")
-    words = [line.lstrip("#").strip() for line in lines if re.match(r"#+ ", line)]
-    return {re.sub(r"[^\w\- ]", "", word.lower()).replace(" ", "-") for word in words}
 
 
 def leads_somewhere(page: Path, target: str, headings: Dict[Path, Set[str]]) -> bool:

@@ -96,9 +96,9 @@ class Pages(Case):
             left = [line for line in shown if "](" in line or "<!--" in line]
             self.same(f"{name}: what is left of Markdown", left, [])
             self.check_by_roff(name, made)
-        self.same(
-            "a small page", manual.page(SMALL, "n", 1, "s", "0").splitlines()[6 : -1 - len(manual.PAGES)], SMALL_MADE
-        )
+        made = manual.page(SMALL, "n", 1, "s", "0").splitlines()
+        self.same("a small page", made[6 : made.index(".SH SEE ALSO")], SMALL_MADE)
+        self.same("its last line", made[-1], manual.ELSEWHERE)
 
     def test_sections(self) -> None:
         """The page of wq has what people look for in one, in the usual order, and each option of each command."""

@@ -19,6 +19,8 @@ PATIENCE = 60.0
 PAUSE = 0.05
 # So long a client gets to ask for what it wants to hear of, before others change something.
 BEGINNING = 1.0
+# What ends a command after Ctrl-C: a status, or the signal itself.
+INTERRUPTED = (130, -signal.SIGINT)
 
 
 class Done(NamedTuple):
@@ -76,7 +78,13 @@ class Terminal:
             "XDG_RUNTIME_DIR": str(self.room / "run"),
             "WQD": str(built.program_path()),
             "GIT_CONFIG_NOSYSTEM": "1",
+            # Where tools of one's own find the clients, as docs/EMBEDDING.md says.
+            "PYTHONPATH": str(built.TOP / "clients"),
+            "PYTHONDONTWRITEBYTECODE": "1",
+            "NODE_PATH": str(self.room / "modules"),
         }
+        (self.room / "modules").mkdir()
+        (self.room / "modules" / "wqd-chokidar").symlink_to(built.TOP / "clients" / "node")
         for name, words in (
             ("wq", [sys.executable, "-B", str(built.TOP / "wq")]),
             ("wqasm", [sys.executable, "-B", str(built.TOP / "clients" / "wqasm")]),
@@ -142,7 +150,7 @@ class Terminal:
 
     def interrupts(self, name: str, _: List[str]) -> Iterator[Done]:
         status = self.begun[name].interrupt()
-        yield Done(f"{name} is interrupted", status == 130, ["130"], str(status))
+        yield Done(f"{name} is interrupted", status in INTERRUPTED, ["130"], str(status))
 
     def file(self, name: str, lines: List[str]) -> Iterator[Done]:
         (Path(self.directory) / name).write_text("".join(f"{line}\n" for line in lines), encoding="utf-8")

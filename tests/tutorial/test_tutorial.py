@@ -1,6 +1,7 @@
-"""The commands of docs/TUTORIAL.md, docs/TROUBLESHOOTING.md and of README's picture, which write what the pages show.
-Each block has a mark, a comment that a reader does not see; reading.py says which there are."""
+"""The commands of docs/TUTORIAL.md, TROUBLESHOOTING.md, EMBEDDING.md and PLACES.md and of README's picture, which write
+what the pages show. Each block has a mark, a comment that a reader does not see; reading.py says which there are."""
 
+import shutil
 import subprocess
 
 import built
@@ -16,13 +17,22 @@ class Pages(Case):
     def test_troubleshooting(self) -> None:
         self.check_page("TROUBLESHOOTING.md")
 
+    def test_embedding(self) -> None:
+        """Without Node the part in JavaScript, which is the last with commands, is left out."""
+        self.check_page("EMBEDDING.md", until="" if shutil.which("node") else "\n## In JavaScript\n")
+
+    def test_places(self) -> None:
+        self.check_page("PLACES.md")
+
     def test_picture(self) -> None:
         self.check_page("terminal/session.md")
         drawn = subprocess.run([built.TOP / "docs" / "terminal" / "draw"], stdout=subprocess.PIPE, check=False)
         self.check("docs/terminal.svg", drawn.returncode == 0, drawn.stdout.decode().splitlines())
 
-    def check_page(self, name: str) -> None:
+    def check_page(self, name: str, until: str = "") -> None:
         text = (built.TOP / "docs" / name).read_text(encoding="utf-8")
+        if until:
+            text = text.partition(until)[0]
         with Terminal() as terminal:
             for block in blocks_of(text):
                 for done in terminal.run(block):

@@ -222,7 +222,7 @@ class ServingTold(Beside):
         for part in (
             f"socket    {scene.sockname}\n",
             "clients   1 beside this one",
-            "7 files and 6 directories, tick 1, a crawl takes",
+            "7 files and 6 directories, tick 1, a scan takes",
             "trigger build: make 'all targets'",
             "E11: root cannot be read",
             "program   large, budget 7 steps a file",
