@@ -59,7 +59,6 @@ def wrong_measures(top: Path) -> Iterator[str]:
         elif not agree(said, measured):
             yield f"{quote.page} has {said} in: {quote.text}; {SPEED} has {measured}"
     yield from wrong_rows(top, speed)
-    yield from wrong_counts(top)
 
 
 def wrong_rows(top: Path, speed: str) -> Iterator[str]:
@@ -73,25 +72,6 @@ def wrong_rows(top: Path, speed: str) -> Iterator[str]:
             said, measured = figure_in(speed, text), f"{measure[peer]} {measure['unit']}"
             if said is None or not agree(said, measured):
                 yield f"{SPEED} has {said} for {name} of {peer}; docs/figures.json has {measured}"
-
-
-def wrong_counts(top: Path) -> Iterator[str]:
-    """README has the lines of code, definitions and proof of the table of docs/PROOFS.md, in thousands."""
-    number = r"([0-9,]+)"
-    counted = re.search(
-        rf"(?m)^\| {number} \| {number} \| {number} \| {number} \| {number} \|", text_of(top, "docs/PROOFS.md")
-    )
-    if counted is None:
-        yield "docs/PROOFS.md lacks the table of counts"
-        return
-    _, code, _, definitions, proof = (f"{round(int(one.replace(',', '')), -3):,}" for one in counted.groups())
-    said = f"There are {code} lines of code, {definitions} of definitions and {proof} of proof."
-    if said not in text_of(top, "README.md"):
-        yield f"README.md lacks: {said}"
-
-
-def text_of(top: Path, name: str) -> str:
-    return (top / name).read_text(encoding="utf-8")
 
 
 def figure_in(page: str, text: str) -> Optional[str]:
