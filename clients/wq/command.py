@@ -48,6 +48,10 @@ def main(words: List[str], directory: str) -> int:
         write_no_more()
         say(f"{error.filename or 'output'}: {error.strerror or error}", "red")
         return FAILED
+    finally:
+        # From here on Python ends, and to an interrupt it would print where it was.
+        if signal.getsignal(signal.SIGINT) is signal.default_int_handler:
+            signal.signal(signal.SIGINT, signal.SIG_DFL)
 
 
 def write_no_more() -> None:

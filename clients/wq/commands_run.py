@@ -55,7 +55,7 @@ class Command:
 
     def reason_of(self, error: OSError) -> Tuple[str, int]:
         if isinstance(error, FileNotFoundError):
-            return f"{self.name}: there is no such command", NOT_FOUND
+            return f"{self.name}: {missing(self.words[0])}", NOT_FOUND
         if error.errno == errno.E2BIG:
             return f"{self.name}: its words are too long for a command", CANNOT_START
         return f"{self.name}: {error.strerror}", CANNOT_START
@@ -69,6 +69,12 @@ class Command:
         stream.write(b"".join(os.fsencode(path + self.ending) for path in paths))
         stream.seek(0)
         return stream
+
+
+def missing(command: str) -> str:
+    """Says that there is no such command. A space in it is from quotes around all words, as other tools take them."""
+    are_all_quoted = " " in command and not os.path.lexists(command)
+    return f"there is no such command{'; write its words without quotes around them all' if are_all_quoted else ''}"
 
 
 def shell_words(text: str) -> List[str]:

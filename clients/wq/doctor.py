@@ -15,7 +15,7 @@ from .pace import seconds_between_scans, seconds_shown
 from .processes import words_of
 from .roots import place_of
 from .server import Server, reached, sockname
-from .status import row
+from .status import of_size, row
 from .terminal import show
 from .trouble import FOUND
 
@@ -63,7 +63,7 @@ def of_scans(server: Server, root: str, watched: List[str]) -> Iterator[str]:
         server.ask("clock", root, {"sync_timeout": 1})
         scan = time.monotonic() - began
         kinds = server.ask("query", root, {"fields": ["type"], "sync_timeout": 0})["files"]
-        yield row("size", f"{len(kinds) - kinds.count('d'):,} files and {kinds.count('d'):,} directories")
+        yield row("size", of_size(len(kinds), kinds.count("d")))
         if len(kinds) > NEAR * MAX_ROWS:
             yield row("", f"at most {MAX_ROWS:,} may be; `wq watch --root DIR` takes a part of them", "yellow")
         between = seconds_between_scans(words_of(server.peer.process), scan)

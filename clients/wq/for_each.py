@@ -5,7 +5,7 @@ import subprocess
 from concurrent.futures import ThreadPoolExecutor
 from typing import Callable, Dict, Iterator, List, Optional
 
-from .commands_run import CANNOT_START, NOT_FOUND
+from .commands_run import CANNOT_START, NOT_FOUND, missing
 from .names_handed import as_argument
 from .terminal import write
 from .trouble import FOUND, NOTHING, Trouble
@@ -91,7 +91,7 @@ def started(words: List[str], output: Optional[int]) -> "subprocess.CompletedPro
         return subprocess.run(words, stdin=subprocess.DEVNULL if output else None, stdout=output)
     except OSError as error:
         is_missing = isinstance(error, FileNotFoundError)
-        reason = "there is no such command" if is_missing else error.strerror
+        reason = missing(words[0]) if is_missing else error.strerror
         raise Trouble(f"{words[0]}: {reason}", status=NOT_FOUND if is_missing else CANNOT_START) from None
 
 

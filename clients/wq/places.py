@@ -203,6 +203,8 @@ def directories_and_globs(words: List[str]) -> Tuple[List[str], List[str]]:
     require_answers([FIRST, *words])
     for word in words:
         require_utf8(word, "a word of the command line")
+        if not word:
+            raise WrongWords("a word is empty, as of a variable that is not set; write . for the current directory")
         if is_directory(word):
             directories.append(word)
             continue

@@ -116,7 +116,7 @@ def tell(asked: List[Asked], options: argparse.Namespace) -> int:
     """Prints what changed, until that was read; or runs a command for it, and gives its status."""
     lists = [one.found for one in asked]
     if options.each and any(found["files"] for found in lists):
-        return run_for(asked, options.each)
+        return run_for(asked, options.each, options.quiet)
     if not options.each and not options.quiet:
         print_changes(lists, options)
         if not options.peek:
@@ -124,14 +124,18 @@ def tell(asked: List[Asked], options: argparse.Namespace) -> int:
     return 0
 
 
-def run_for(asked: List[Asked], words: List[str]) -> int:
+def run_for(asked: List[Asked], words: List[str], is_quiet: bool) -> int:
     command = Command(words, on_input=False, with_zeros=False, is_alone=False, by_shell=False)
     files = [file for one in asked for file in one.found["files"]]
     names = [file["name"] for file in files if file["exists"]]
     if command.takes_names and not names:
         return 0
     added = variables(asked[0].place.root, asked[0].kept["clock"], [file["name"] for file in files])
-    return run_once(command, names, added)
+    status = run_once(command, names, added)
+    # Else status 1 could be that nothing changed.
+    if status and not is_quiet:
+        say(f"{command.name} ended with status {status}; so the next call tells this again")
+    return status
 
 
 def clock_of(kept_before: Dict[str, Any]) -> Optional[str]:

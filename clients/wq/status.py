@@ -147,15 +147,13 @@ def root_lines(root: Dict[str, Any]) -> Iterator[str]:
     if "error" in root:
         yield row("root", f"{root['root']}: {root['error']}", "red")
         return
-    files = counted(root["files"] - root["directories"], "file")
-    directories = f"{root['directories']:,} director{'y' if root['directories'] == 1 else 'ies'}"
     age = root["changed_within"]
     changed = f"within {duration(age)}" if age is not None else "over a week ago"
     yield row("root", root["root"])
     yield row(
         "",
-        f"{files} and {directories}, tick {root['tick']}, a scan takes {root['crawl_seconds']:.3f} s, "
-        f"last change {changed}",
+        f"{of_size(root['files'], root['directories'])}, tick {root['tick']}, "
+        f"a scan takes {root['crawl_seconds']:.3f} s, last change {changed}",
     )
     for what, count in zip(("names that are not UTF-8", "directories that cannot be read"), root["left_out"].values()):
         if count:
@@ -169,6 +167,12 @@ def root_lines(root: Dict[str, Any]) -> Iterator[str]:
 
 def row(head: str, text: str, colour: Optional[str] = None) -> str:
     return painted(f"{head:<10}", "cyan" if head else None, sys.stdout) + painted(harmless(text), colour, sys.stdout)
+
+
+def of_size(names: int, directories: int) -> str:
+    """How many files and directories so many names are."""
+    ending = "y" if directories == 1 else "ies"
+    return f"{counted(names - directories, 'file')} and {directories:,} director{ending}"
 
 
 def counted(count: int, noun: str) -> str:

@@ -56,14 +56,27 @@ def milliseconds(word: str) -> int:
     return int(number) * factor
 
 
-def whole(word: str) -> int:
+def seconds(word: str) -> float:
+    try:
+        return float(word)
+    except ValueError:
+        raise argparse.ArgumentTypeError(f"{word} is no number of seconds from 0 on") from None
+
+
+def whole(word: str, first: int = 0) -> int:
     if not (word.isascii() and word.isdigit()):
-        raise argparse.ArgumentTypeError(f"{word} is no whole number from 0 on")
+        raise argparse.ArgumentTypeError(f"{word} is no whole number from {first} on")
     return int(word)
 
 
+def level(word: str) -> int:
+    return whole(word, 1)
+
+
 IGNORE_CASE = flag("--ignore-case", help="ignore the case of A to Z in globs")
-MAX_DEPTH = value("--max-depth", metavar="N", type=int, help="list what is at most N levels deep; 1 is directly in DIR")
+MAX_DEPTH = value(
+    "--max-depth", metavar="N", type=level, help="list what is at most N levels deep; 1 is directly in DIR"
+)
 HIDDEN = flag("-H", "--hidden", help="leave out no name: also .git, .hg and, outside of git, node_modules and target")
 OTHERS = [
     value(
@@ -90,7 +103,7 @@ OTHERS = [
         action="append",
         help="leave out what matches, and all below it",
     ),
-    value("--min-depth", metavar="N", type=int, help="list what is at least N levels deep"),
+    value("--min-depth", metavar="N", type=level, help="list what is at least N levels deep"),
     HIDDEN,
 ]
 # To watchexec and entr, `-i` and `-d` are other things than to fd. So a command that runs another one has neither.
@@ -125,8 +138,8 @@ EXECUTE_EACH = value(
     "--exec",
     metavar="CMD",
     dest="each",
-    help="run CMD, up to the end of the line or to ;, for each name: {} is the name, {/} the base name, {//} the "
-    "directory, {.} and {/.} the name and the base name without suffix",
+    help="run CMD for each name; all words that follow are its own, up to ';' if options of wq come after it: {} is "
+    "the name, {/} the base name, {//} the directory, {.} and {/.} the name and the base name without suffix",
 )
 EXECUTE_ONCE = value(
     "-x",
@@ -233,13 +246,13 @@ FORMS: Dict[str, Form] = {
             DIRS,
             *PRINTING,
             QUIET,
-            value("--timeout", metavar="S", type=float, help="give up after S seconds, with status 1"),
+            value("--timeout", metavar="S", type=seconds, help="give up after S seconds, with status 1"),
             WORDS,
         ],
     ),
     "run": Form(
         "[DIR|GLOB]... -- COMMAND...",
-        "run a command now and after each change; {} stands for the names",
+        "run a command here, now and after each change; {} stands for the names",
         [
             *NARROWING,
             *IGNORING,

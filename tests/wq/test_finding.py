@@ -161,6 +161,9 @@ class Finding(Beside):
             self, scene, ["find", "src/b.c"], "src/b.c is no directory here; write './src/b.c' for a file of that name"
         )
         wrong(self, scene, ["find", "scr/"], "scr/ is no directory here")
+        empty = "a word is empty, as of a variable that is not set; write . for the current directory"
+        for words in (["find", ""], ["since", "", "*.c"], ["run", "", "--", "true"]):
+            wrong(self, scene, words, empty)
         wrong(
             self, scene, ["find", "../scr"], "../scr is no directory here, and no name below a directory has '..' in it"
         )

@@ -300,6 +300,10 @@ class ServingTold(Beside):
                 "scan      ",
             ):
                 self.check(f"doctor has {front!r}", any(line.startswith(front) for line in lines), lines)
+            (scene.tree / "alone").mkdir()
+            (scene.tree / "alone" / ".watchmanconfig").write_text("{}")
+            size = next(line for line in scene.names("doctor", "alone") if line.startswith("size"))
+            self.same("one file is no files", size, "size      1 file and 0 directories")
             self.same("it leaves no root", scene.wq("roots").status, 1)
 
     def test_file_systems(self) -> None:

@@ -34,8 +34,10 @@ def slowly(line: bytes) -> bytes:
 SENTENCES = (
     ("find", "--max-depth N list what is at most N levels deep"),
     ("find", "{} is the name, {/} the base name, {//} the directory"),
+    ("find", "-x CMD, --exec CMD run CMD for each name; all words that follow are its own"),
     ("find", "--no-sync answer from the last scan"),
     ("since", "--peek show what since would print, without marking it as seen"),
+    ("run", "run a command here, now and after each change"),
     ("run", "--debounce MS wait until nothing has changed for MS ms [default: 100]"),
     ("untrigger", "remove a trigger"),
     ("unwatch", "stop watching"),

@@ -3,11 +3,12 @@
 import re
 import signal
 import subprocess
+import sys
 
 import built
 from case import Beside
 from client import PATIENCE
-from scene import COMMAND, Going, Scene, said
+from scene import COMMAND, Going, Scene, hear, said, wrong
 
 # Their names fit into a pipe, and not into what a reader takes at once.
 MANY = 500
@@ -41,8 +42,13 @@ class ToldOnce(Beside):
         self.same("no command without a change", scene.wq(*question, "-x", "echo", "ran"), built.Ended(b"", b"", 1))
         scene.write("src/a.c", "changed")
         scene.write("src/new.c", "new")
+        again_told = "; so the next call tells this again"
         failed = scene.wq(*question, "-x", "sh", "-c", "echo failed; exit 7")
-        self.same("a command that fails", failed, built.Ended(b"failed\n", b"", 7))
+        self.same(
+            "a command that fails", failed, built.Ended(b"failed\n", said(f"sh ended with status 7{again_told}"), 7)
+        )
+        quiet = scene.wq(*question, "-q", "-x", "false")
+        self.same("says nothing with -q", quiet, built.Ended(b"", b"", 1))
         again = scene.wq(*question, "-x", "echo", "{}")
         self.same("hears of it again", again, built.Ended(b"./src/a.c ./src/new.c\n", b"", 0))
         self.same("and once", scene.wq(*question, "-x", "echo", "{}"), built.Ended(b"", b"", 1))
@@ -52,8 +58,8 @@ class ToldOnce(Beside):
         self.same("its variables", counted.output, b"1 ./src/new.c\n")
         scene.write("src/a.c", "once more")
         missing = scene.wq(*question, "-x", "not-there")
-        wrong = built.Ended(b"", said("not-there: there is no such command"), 127)
-        self.same("a command that is not there", missing, wrong)
+        not_there = built.Ended(b"", said("not-there: there is no such command"), 127)
+        self.same("a command that is not there", missing, not_there)
         self.same("leaves it to the next", scene.names(*question), ["~ src/a.c"])
 
     def test_at_once(self) -> None:
@@ -117,6 +123,8 @@ class ToldOnce(Beside):
     def test_wait(self) -> None:
         with Scene(self.room) as scene:
             self.same("nothing changes", scene.wq("wait", "--timeout", "0.2"), built.Ended(b"", b"", 1))
+            no_number = "argument --timeout: x is no number of seconds from 0 on; see `wq wait --help`"
+            wrong(self, scene, ["wait", "--timeout", "x"], no_number)
             for words, output in (
                 (["src", "*.c"], b"~ src/a.c\n"),
                 (["-q", "src"], b""),
@@ -133,6 +141,16 @@ class ToldOnce(Beside):
             with scene.begin("wait") as going:
                 going.waits_for(lambda _: bool(scene.roots()))
                 self.same("Ctrl-C", going.ends(signal.SIGINT), 130)
+
+    def test_interrupted_at_its_end(self) -> None:
+        """Ctrl-C while Python ends, after the command has, shows no traceback."""
+        text = (
+            "import os, signal, sys; sys.path.insert(0, sys.argv[1]); from wq.command import main; "
+            "main(['--help'], ''); os.kill(os.getpid(), signal.SIGINT)"
+        )
+        words = [sys.executable, "-IBc", text, str(built.TOP / "clients")]
+        ended = subprocess.run(words, stdout=subprocess.DEVNULL, stderr=subprocess.PIPE, preexec_fn=lambda: hear(None))
+        self.same("a late Ctrl-C", (ended.returncode, ended.stderr), (-signal.SIGINT, b""))
 
 
 def replaced(scene: Scene, name: str, target: str) -> None:

@@ -57,7 +57,7 @@ class Typed(Beside):
             (scene.tree / name).unlink()
         for words, reason in (
             (["-d", "0"], "--max-depth takes a number from 1 on, which is what lies directly in the directory"),
-            (["-d", "x"], "argument -d/--max-depth: invalid int value: 'x'; see `wq find --help`"),
+            (["-d", "x"], "argument -d/--max-depth: x is no whole number from 1 on; see `wq find --help`"),
             (["{" + "1,2},{" * 9 + "1,2}"], "the braces are short for 1,024 globs, and at most 1,000 may be"),
         ):
             wrong(self, scene, ["find", *words], reason)
@@ -131,6 +131,9 @@ class Typed(Beside):
         ):
             self.same(f"the status of find {words}", scene.wq("find", *words), built.Ended(b"", b"", status))
         wrong(self, scene, ["find", "*.c", "-x", "not-there"], "not-there: there is no such command", status=127)
+        quoted = "echo hi: there is no such command; write its words without quotes around them all"
+        for words in (["find", "*.h", "-x", "echo hi"], ["run", "--once", "--", "echo hi"]):
+            wrong(self, scene, words, quoted, status=127)
         wrong(self, scene, ["find", "-x"], "argument -x/--exec: expected one argument; see `wq find --help`")
 
     def check_dashes(self, scene: Scene) -> None:
