@@ -12,7 +12,7 @@ use Rattle.wq_crawl.specs.Basis.{Basis}
 use Rattle.wq_session.specs.Idling.{IsIdled}
 use Rattle.wq_session.specs.Serving.{IsAnswered, PlaceData, stand_at}
 use Rattle.wq_session.specs.Need.{need_of}
-use Rattle.wq_session.specs.Out.{OutData, gone}
+use Rattle.wq_session.specs.Out.{OutData}
 use Rattle.wq_ask.specs.Reading.{Asks}
 use Rattle.wq_ask.specs.declared.ask.Ask.{Ask}
 use Rattle.wq_session.specs.Answer.{answer, giving}
@@ -25,7 +25,7 @@ use Rattle.wq_stream.specs.declared.event.Event.{Event}
 use Rattle.wq_stream.specs.declared.event.Event.TheVariants.{Line, Long, Binary, Idle, End, Fault}
 use Rattle.wq_headline.specs.Alone.{EventsAreRuns, HasGone, HappensFirst, HappensFor, IsCurrent, IsRunFor, ShowsWorld, WasBlind}
 use Rattle.wq_headline.proofs.Asked.{asks_well, exact_or_short, short_of_watch}
-use Rattle.wq_headline.proofs.Gone.{stayed_reply}
+use Rattle.wq_headline.proofs.Gone.{LeftList, stayed_reply}
 use Rattle.wq_headline.proofs.Idled.{own_follows}
 use Rattle.wq_headline.proofs.Lists.{some_same}
 use Rattle.wq_headline.proofs.Looks.{numbers_find_roots}
@@ -119,12 +119,12 @@ module _ (one_view : HasOneView) (basis : Basis) (client : ℤ) (before after : 
       by (inr short) = run_for other there (short other may)
 
   ask_run : IsAnswered basis ask before.known (stand_at before) out after.known (stand_at after)
-      → HasGone out ⊎ WasBlind basis before event out after ⊎ IsRunFor basis client world event out after
+      → HasGone event out ⊎ WasBlind basis before event out after ⊎ IsRunFor basis client world event out after
   ask_run (ready, readies, replies) = by (stayed_reply ready ask (stand_at before) out (stand_at after) replies)
     where
-      by : (out ≡ gone None) ⊎ Replies false ready ask (stand_at before) out (stand_at after)
-          → HasGone out ⊎ WasBlind basis before event out after ⊎ IsRunFor basis client world event out after
-      by (inl goes) = inl goes
+      by : LeftList ask out ⊎ Replies false ready ask (stand_at before) out (stand_at after)
+          → HasGone event out ⊎ WasBlind basis before event out after ⊎ IsRunFor basis client world event out after
+      by (inl (at, shelf, goes)) = inl (ask, at, shelf, asks, goes)
       by (inr stays) =
           let it = readies_well one_view basis before.known after.known world roots current (need_of ask) ready readies in
           inr (replied it.0 ready it.1 it.2

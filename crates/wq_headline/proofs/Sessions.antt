@@ -58,10 +58,10 @@ module _ (basis : Basis) (client : ℤ) (before next after : PlaceData) (event :
     shown,
   )
 
-  one_more : HasGone out ⊎ WasBlind basis before event out next ⊎ IsRunFor basis client world event out next
+  one_more : HasGone event out ⊎ WasBlind basis before event out next ⊎ IsRunFor basis client world event out next
       → ((between : WorldData) → ShowsWorld basis.run client true next between → Blind ⊎ IsRunOf basis client between later rest true after)
       → (WasBlind basis before event out next ⊎ Blind) ⊎ IsRunOf basis client world (event ∷ later) written true after
-  one_more (inl left) others = absurd (false≢true (sym (ap (λ (o : OutData). o.goes_on) left) ∙ goes))
+  one_more (inl (ask, at, shelf, asks, (plan, cursor, work, left))) others = absurd (false≢true (sym (ap (λ (o : OutData). o.goes_on) left) ∙ goes))
   one_more (inr (inl blind)) others = inl (inl blind)
   one_more (inr (inr (happenings, between, happens, runs, shown))) others =
       joined between happenings happens runs (others between (subst (λ g. ShowsWorld basis.run client g next between) goes shown))
@@ -87,8 +87,8 @@ module _ (basis : Basis) (client : ℤ) (between after : PlaceData) (events : Li
     (world mid : WorldData) (happenings : List HappeningData) (sent : List SentData) (in_turn : HappensInTurn basis client events happenings)
     (runs : Runs world happenings sent mid) (wrote : lines ≡ written_of sent) where
   -- the runs of all are one
-  joined_last : HasGone out ⊎ WasBlind basis between last out after ⊎ IsRunFor basis client mid last out after
-      → HasGone out ⊎ WasBlind basis between last out after ⊎ IsRunOf basis client world (events ++ last ∷ []) (lines ++ written_for out) out.goes_on after
+  joined_last : HasGone last out ⊎ WasBlind basis between last out after ⊎ IsRunFor basis client mid last out after
+      → HasGone last out ⊎ WasBlind basis between last out after ⊎ IsRunOf basis client world (events ++ last ∷ []) (lines ++ written_for out) out.goes_on after
   joined_last (inl left) = inl left
   joined_last (inr (inl blind)) = inr (inl blind)
   joined_last (inr (inr (more, next, happens, runs_on, shown))) = inr (inr (
@@ -107,7 +107,7 @@ served_alone_is_a_run one_view basis client before between after events lines la
     by (going_on_is_a_run one_view basis client before between events lines world shows alone)
   where
     by : WasBlindOnce basis before events lines between alone ⊎ IsRunOf basis client world events lines true between
-        → WasBlindOnce basis before events lines between alone ⊎ HasGone out ⊎ WasBlind basis between last out after
+        → WasBlindOnce basis before events lines between alone ⊎ HasGone last out ⊎ WasBlind basis between last out after
         ⊎ IsRunOf basis client world (events ++ last ∷ []) (lines ++ written_for out) out.goes_on after
     by (inl once) = inl once
     by (inr (happenings, sent, mid, in_turn, runs, wrote, shown)) =

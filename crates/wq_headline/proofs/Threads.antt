@@ -5,7 +5,7 @@ use Rattle.serde_json.specs.View.{view as data_of}
 use Rattle.serde_json.specs.declared.value.Value.{Value}
 use Rattle.wq_ask.specs.HandedIn.{AsksHandInValid, HandsInValid}
 use Rattle.wq_session.specs.Need.{need_of}
-use Rattle.wq_session.specs.Out.{OutData, gone}
+use Rattle.wq_session.specs.Out.{OutData}
 use Rattle.wq_ask.specs.Reading.{Asks}
 use Rattle.wq_ask.specs.declared.ask.Ask.{Ask}
 use Rattle.wq_ask.specs.declared.ask.Ask.TheVariants.{Alone, OfRoot}
@@ -39,6 +39,7 @@ use Rattle.wq_stream.specs.declared.event.Event.{Event}
 use Rattle.wq_stream.specs.declared.event.Event.TheVariants.{Line, Long, Binary, Idle, End, Fault}
 use Rattle.wq_view.specs.View.{ViewData}
 use Rattle.wq_headline.specs.Exact.{AreExact, HearsBefore, IsExact, IsReplyAt, IsReplyOf, SeesAt, ServedRepliesAreExact, Shows}
+use Rattle.wq_headline.specs.Gone.{LeavesList}
 use Rattle.wq_headline.proofs.Gone.{stayed}
 use Rattle.wq_headline.proofs.Moments.{lists_exact}
 use Rattle.wq_headline.proofs.Queries.{query_reply}
@@ -128,9 +129,10 @@ module _ (programs : ReachedProgramsAreValid) (basis : Basis) (before after : Pl
       by it.0 it.1 it.2 it.3 (stayed (OfRoot root crawl (AsksQuery q)) at it.0 before.follows out it.1 after.follows it.4)
     where
       by : (shelf next : ShelfNow) → IfSome before.shelf (λ s. shelf ≡ s) → IsReached shelf
-          → (out ≡ gone None) ⊎ AnswersAsk false (OfRoot root crawl (AsksQuery q)) at shelf before.follows out next after.follows
+          → LeavesList (OfRoot root crawl (AsksQuery q)) at shelf out ⊎ AnswersAsk false (OfRoot root crawl (AsksQuery q)) at shelf before.follows out next after.follows
           → IsReplyOf basis before root crawl d out after
-      by shelf next shown there (inl goes) = inr (inr (inr goes))
+      by shelf next shown there (inl goes) =
+          inr (inl (heard, at, shelf, hears, sees_of_look basis root heard after.known at looks, shown, there, inr (q, same, goes)))
       by shelf next shown there (inr answers) = inr (inl (
         heard,
         at,
@@ -139,8 +141,8 @@ module _ (programs : ReachedProgramsAreValid) (basis : Basis) (before after : Pl
         sees_of_look basis root heard after.known at looks,
         shown,
         there,
-        subst (λ e. IsReplyAt root e at shelf out) same
-            (query_reply shelf (λ name raw. programs shelf name raw there) root crawl q at before.follows after.follows out next answers),
+        inl (subst (λ e. IsReplyAt root e at shelf out) same
+            (query_reply shelf (λ name raw. programs shelf name raw there) root crawl q at before.follows after.follows out next answers)),
       ))
 
   crawled : (q : Value) (told : Result (Option (List RootEvent)) CrawlFault) (heard : KnownData) (ready : ReadyData) → data_of q ≡ d
@@ -165,10 +167,10 @@ module _ (programs : ReachedProgramsAreValid) (basis : Basis) (before after : Pl
       (subst (λ r. Reply r (Alone (Refused NoMemory))) met.0 (subst (Reply ready) is replies)) in
       by it.0 it.1 (stayed (Alone (Refused NoMemory)) None it.0 before.follows out it.1 after.follows it.4)
     where
-      by : (shelf next : ShelfNow) → (out ≡ gone None) ⊎ AnswersAsk false (Alone (Refused NoMemory)) None shelf before.follows out next after.follows
+      by : (shelf next : ShelfNow) → LeavesList (Alone (Refused NoMemory)) None shelf out ⊎ AnswersAsk false (Alone (Refused NoMemory)) None shelf before.follows out next after.follows
           → IsReplyOf basis before root crawl d out after
-      by shelf next (inl goes) = inr (inr (inr goes))
-      by shelf next (inr answers) = inr (inr (inl (short_reply None shelf next before.follows after.follows out answers)))
+      by shelf next (inl (plan, cursor, work, goes)) = absurd (cc work)
+      by shelf next (inr answers) = inr (inr (short_reply None shelf next before.follows after.follows out answers))
 
 module _ (programs : ReachedProgramsAreValid) (hand_in_valid : AsksHandInValid) (basis : Basis) where
   -- of one event

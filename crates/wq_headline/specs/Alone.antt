@@ -4,6 +4,7 @@ use Rattle.std.specs.Prelude.{◌≡◌, ◌⊎◌, ℕ, ℤ, Bool, true, List, 
 use Rattle.std.specs.Prelude.{Option, Some, None, Result}
 use Rattle.wq_clock.specs.Run.{run_data}
 use Rattle.wq_clock.specs.declared.run.Run.{Run}
+use Rattle.wq_crawl.specs.At.{AtData}
 use Rattle.wq_crawl.specs.Crawl.{CrawlerData}
 use Rattle.wq_crawl.specs.declared.fault.CrawlFault.{CrawlFault}
 use Rattle.wq_live.specs.Event.{number_of}
@@ -17,7 +18,7 @@ use Rattle.wq_crawl.specs.Ready.{KnownData}
 use Rattle.wq_session.specs.Serving.{GoesOn, PlaceData, Serves, lines_for, written_for}
 use Rattle.wq_crawl.specs.Need.{NeedData, none, look, crawl as crawl_of, watch as watch_of, unwatch}
 use Rattle.wq_session.specs.Need.{need_of}
-use Rattle.wq_session.specs.Out.{OutData, gone}
+use Rattle.wq_session.specs.Out.{OutData}
 use Rattle.wq_ask.specs.Reading.{Asks}
 use Rattle.wq_ask.specs.declared.ask.Ask.{Ask}
 use Rattle.wq_session.specs.Answer.{answer, giving}
@@ -25,6 +26,7 @@ use Rattle.wq_session.specs.At.{ShelfNow}
 use Rattle.wq_stream.specs.declared.event.Event.{Event}
 use Rattle.wq_stream.specs.declared.event.Event.TheVariants.{Idle}
 use Rattle.wq_view.specs.Listing.{PassData}
+use Rattle.wq_headline.specs.Gone.{LeavesList}
 
 -- the roots show their crawler, and the session's last list is the one that is published, with its
 -- table
@@ -104,10 +106,11 @@ WasBlind basis before event out after = (ask : Ask) × (root : List ℕ) × (num
     × (number_of root (after.known).seen ≡ Some number) × IsUnwatched ask before out after
     × basis.refused (after.known).seen
 
--- the client had gone when the files of its query were listed: there is no output, and its session
--- ends
-abbrev pub HasGone : OutData → Type 0
-HasGone out = out ≡ gone None
+-- the client had gone when files were listed for the event, which is an ask whose work that is at a
+-- root and a shelf
+abbrev pub HasGone : Event → OutData → Type 0
+HasGone event out = (ask : Ask) × (at : Option AtData) × (shelf : ShelfNow) × Asks event ask
+    × LeavesList ask at shelf out
 
 -- an event that a session took is a run of the world. The happenings for the event send the output
 -- of the session, and lead to the world that the ends show then
@@ -117,8 +120,8 @@ IsRunFor basis client world event out after = (happenings : List HappeningData)
     × Runs world happenings (sent_to client out) next
     × ShowsWorld basis.run client out.goes_on after next
 
--- an event of a session that is served alone is a run of the world, unless its look was refused or
--- the client has gone. There are two premises. The ends show a world before the event: those do
+-- an event of a session that is served alone is a run of the world, unless its look was refused, or
+-- the client had gone when files were listed for it. There are two premises. The ends show a world before the event: those do
 -- that show a crawler and a shelf. The session's last list after the event is the one that is
 -- published, with its table. A look finds it if nobody else publishes, and each lawful list has a
 -- table, but no clause says so
@@ -126,7 +129,7 @@ abbrev pub EventsAreRuns : Basis → Type 0
 EventsAreRuns basis = (client : ℤ) (before after : PlaceData) (event : Event) (out : OutData)
     (world : WorldData) → ShowsWorld basis.run client true before world
     → Serves basis before event out after → IsCurrent after.known
-    → HasGone out ⊎ WasBlind basis before event out after
+    → HasGone event out ⊎ WasBlind basis before event out after
     ⊎ IsRunFor basis client world event out after
 
 -- a session takes events alone, one after the other, and goes on after each. After each, its last
@@ -167,7 +170,7 @@ GoingOnIsARun basis = (client : ℤ) (before after : PlaceData) (events : List E
     ⊎ IsRunOf basis client world events written true after
 
 -- the same with the last event of a session, after which it may end, unless the client had gone
--- then
+-- when files were listed for it
 abbrev pub ServedAloneIsARun : Basis → Type 0
 ServedAloneIsARun basis = (client : ℤ) (before between after : PlaceData)
     (events : List Event) (lines : List ℕ) (last : Event) (out : OutData) (world : WorldData)
@@ -175,7 +178,7 @@ ServedAloneIsARun basis = (client : ℤ) (before between after : PlaceData)
     → (alone : GoesOnAlone basis before events lines between)
     → Serves basis between last out after → IsCurrent after.known
     → WasBlindOnce basis before events lines between alone
-    ⊎ HasGone out ⊎ WasBlind basis between last out after
+    ⊎ HasGone last out ⊎ WasBlind basis between last out after
     ⊎ IsRunOf basis client world (events ++ last ∷ []) (lines ++ written_for out) out.goes_on after
 
 -- a session that goes on alone goes on as each session does

@@ -6,10 +6,14 @@ use Rattle.std.specs.Prelude.{Option, Some, None, Ok, Err, IfSome}
 use mathlib.Core.List.{IsPrefix}
 use mathlib.Core.Logic.{inl, inr}
 use Rattle.serde_json.specs.Data.{Data}
+use Rattle.serde_json.specs.View.{view as data_of}
+use Rattle.serde_json.specs.declared.value.Value.{Value}
 use Rattle.wq_ask.specs.Argument.{queries}
-use Rattle.wq_session.specs.Out.{MayRefuse, OutData, gone, refuses, replies, runs_out, silence}
+use Rattle.wq_session.specs.Out.{MayRefuse, OutData, refuses, replies, runs_out, silence}
 use Rattle.wq_ask.specs.Reading.{Asks, requested}
 use Rattle.wq_ask.specs.declared.ask.Ask.{Ask}
+use Rattle.wq_ask.specs.declared.ask.Ask.TheVariants.{OfRoot}
+use Rattle.wq_ask.specs.declared.ask.RootAsk.TheVariants.{Query as AsksQuery}
 use Rattle.wq_ask.specs.declared.refusal.Refusal.{Refusal}
 use Rattle.wq_ask.specs.declared.refusal.Refusal.TheVariants.{NotWatched}
 use Rattle.wq_base.specs.Fault.{or_fault}
@@ -38,6 +42,7 @@ use Rattle.wq_stream.specs.declared.event.Event.{Event}
 use Rattle.wq_stream.specs.declared.event.Event.TheVariants.{Line, Idle}
 use Rattle.wq_verify.specs.Typing.{IsValid}
 use Rattle.wq_view.specs.View.{IsViewOf, ViewData}
+use Rattle.wq_headline.specs.Gone.{LeavesList}
 use Rattle.wq_headline.specs.Moments.{TellsAll}
 
 -- a list of events shows this at the text of a root: nothing; or a root of this number, and the
@@ -119,8 +124,8 @@ IsNotCrawled crawl root before fault after =
     (crawl ≡ true) × Hears before (passing root) (Err fault) after
 
 -- the reply of a session to a query of a root: at what it sees there, and at a shelf that the acts
--- of sessions and rounds lead to. If a shelf is shown, that is it. There is none if the client has
--- gone
+-- of sessions and rounds lead to. If a shelf is shown, that is it. There is none if the client had
+-- gone when the files of the query were listed there
 abbrev pub IsReplyOf : Basis → PlaceData → List ℕ → Bool → Data → OutData → PlaceData → Type 0
 IsReplyOf basis before root crawl d out after =
     ((fault : CrawlFault) × IsNotCrawled crawl root before.known fault after.known
@@ -128,9 +133,9 @@ IsReplyOf basis before root crawl d out after =
     ⊎ ((heard : KnownData) × (at : Option AtData) × (shelf : ShelfNow)
     × HearsBefore crawl root before.known heard × SeesAt basis root heard at after.known
     × IfSome before.shelf (λ shown. shelf ≡ shown) × IsReached shelf
-    × IsReplyAt root d at shelf out)
+    × (IsReplyAt root d at shelf out
+    ⊎ ((q : Value) × (data_of q ≡ d) × LeavesList (OfRoot root crawl (AsksQuery q)) at shelf out)))
     ⊎ (out ≡ runs_out None)
-    ⊎ (out ≡ gone None)
 
 -- the lists of an idle moment of the root of this number: the first subscriptions get theirs, none
 -- of which is left out, and the others wait. If the look was refused there are none, and all stay

@@ -2,6 +2,7 @@ pub mod Headline
 pub mod TextBytes
 pub mod LineCost
 pub mod Lists
+pub mod Gone
 pub mod Alone
 pub mod Moments
 pub mod Exact

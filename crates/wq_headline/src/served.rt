@@ -28,7 +28,8 @@ pub fn ends_show_a_world()
     ensures { EndsShowAWorld }
 {}
 
-/// An event of a session that is served alone is a run of the world, unless its look was refused or the client has gone.
+/// An event of a session that is served alone is a run of the world, unless its look was refused, or the client had gone
+/// when files were listed for it.
 pub fn events_are_runs<N: Named>()
     ensures { (run : Run) → EventsAreRuns
         (basis_of run (N.published N.book) (N.refused N.book)) }
@@ -46,7 +47,7 @@ pub fn going_on_is_a_run<N: Named>()
 }
 
 /// A session that is served alone is a run of the world to its last event, unless one of its looks
-/// was refused, or the client had gone at the last event.
+/// was refused, or the client had gone when files were listed for the last one.
 pub fn served_alone_is_a_run<N: Named>()
     ensures { (run : Run) → ServedAloneIsARun
         (basis_of run (N.published N.book) (N.refused N.book)) }

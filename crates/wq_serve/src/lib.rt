@@ -4,8 +4,8 @@
 //! It hands on what smaller crates have, so that these are proved side by side. Each has its own page.
 #![tactic(auto)]
 
-pub use wq_ask::{Ask, LoneAsk};
-pub use wq_crawl::{At, Crawl, CrawlFault, FoundRoot, Need, Roots, SeatViews};
+pub use wq_ask::{Ask, LoneAsk, Refusal, RootAsk, RootText, ShelfAsk};
+pub use wq_crawl::{At, Crawl, CrawlFault, Crawler, FoundRoot, Need, Roots, SeatViews};
 pub use wq_replay::{Happening, ReplayFault, Sent, SentLines, World, replay};
 pub use wq_session::{
     Cursor, Desk, Ended, Line, LockDesk, Out, Prepared, ReplyLine, Session, SharedShelf, Unset,
