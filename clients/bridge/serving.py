@@ -90,6 +90,7 @@ class Serving:
         listener.close()
         if is_same(shared.sockname, own):
             os.unlink(shared.sockname)
+        shared.first_runs.end()
         self.lock.close()
         os._exit(0)  # a session may wait for its client
 

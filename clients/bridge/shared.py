@@ -4,6 +4,7 @@ import os
 from typing import Callable
 
 from bridge.configuration import Configurations
+from bridge.first_runs import FirstRuns
 from bridge.held import Held
 from bridge.keeper import Keeper
 from bridge.notices import Mailboxes
@@ -23,6 +24,7 @@ class Shared:
         self.states = States()
         self.mailboxes = Mailboxes()
         self.messages = Held()
+        self.first_runs = FirstRuns(self.server, say)
         self.keeper = Keeper(self.server, grace, say, self.forget)
         self.follower = Follower(self.server, self.configurations, self.keeper, say)
         # A byte in this pipe ends the bridge.

@@ -19,6 +19,8 @@ BEGIN = ("-I", "-S", STARTED)
 # The system takes no longer word of a command.
 LONGEST = 120_000
 STYLES = ("/dev/null", "NAME_PER_LINE")
+# How the expression of a trigger begins that is held back: it fits no file.
+HELD_BACK: List[Term] = ["allof", "false", "false"]
 
 
 def definition_of(command: List[object]) -> Definition:
@@ -84,15 +86,28 @@ def expression_of(given: Definition, place: Place) -> List[Term]:
     return [said_at(given["expression"], place)]
 
 
+def held_back(found: Definition) -> Definition:
+    """The trigger as the server has it until its first run: it never starts."""
+    return {**found, "expression": [*HELD_BACK, found.get("expression", "true")]}
+
+
+def is_held_back(found: Definition) -> bool:
+    expression = found.get("expression")
+    return isinstance(expression, list) and expression[: len(HELD_BACK)] == HELD_BACK
+
+
 def given_of(found: Definition) -> Definition:
     """The definition of a client, for a trigger of the server. One that was registered without the bridge is its
     own."""
-    command = found.get("command")
-    text = text_in(command) if isinstance(command, list) else None
+    text = text_of(found)
     return found if text is None else dict(json.loads(text))
 
 
-def text_in(command: List[object]) -> Optional[str]:
+def text_of(found: Definition) -> Optional[str]:
+    """The definition of a client as the server's trigger has it, if it was registered by the bridge."""
+    command = found.get("command")
+    if not isinstance(command, list):
+        return None
     words = [str(word) for word in command[1:5]]
     if len(words) < 4 or words[:2] != list(BEGIN[:2]) or os.path.basename(words[2]) != os.path.basename(STARTED):
         return None

@@ -34,7 +34,7 @@ class Bridge:
     ) -> None:
         self.sockname = str(room / "bridge")
         self.server = Server(room, interval)
-        command = [
+        self.command = [
             sys.executable,
             str(PROGRAM),
             "--server",
@@ -45,19 +45,31 @@ class Bridge:
             str(grace),
             *(words or []),
         ]
-        self.process = subprocess.Popen(command, stderr=subprocess.PIPE)
-        wait_for_socket(self.sockname, self.process)
+        self.process = self.started()
+
+    def started(self) -> subprocess.Popen:
+        process = subprocess.Popen(self.command, stderr=subprocess.PIPE)
+        wait_for_socket(self.sockname, process)
+        return process
+
+    def replace(self) -> None:
+        """Kills the bridge, and starts another one beside the server."""
+        self.end()
+        self.process = self.started()
 
     def __enter__(self) -> "Bridge":
         return self
 
     def __exit__(self, *_: object) -> None:
+        self.end()
+        self.server.kill()
+        self.server.said.close()
+
+    def end(self) -> None:
         self.process.kill()
         self.process.wait()
         if self.process.stderr is not None:
             self.process.stderr.close()
-        self.server.kill()
-        self.server.said.close()
 
     def client(self, watched: Optional[Path] = None) -> Client:
         return client_of(self.sockname, watched)

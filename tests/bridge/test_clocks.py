@@ -1,13 +1,16 @@
 """Clock specs through the bridge: seconds, whose boundaries are those of Watchman, objects, and a cursor without a
 name."""
 
+import json
 import os
 import signal
 from pathlib import Path
 
 from bridged import Bridge, make_files
 from case import Case
+from client import Client
 from test_lists import names_of
+from test_starts import run
 from waiting import wait_until
 
 SECOND = 1_700_000_000
@@ -80,6 +83,27 @@ class Clocks(Case):
                 given = {"expression": ["type", "f"], "sync_timeout": 1000, **query}
                 self.same(f"{query}".replace(clock, "CLOCK"), names_of(client, root, given), expected)
             self.check_the_second_of_a_change(root, client)
+
+    def test_clocks_of_the_run_before(self) -> None:
+        """After a restart of server and bridge, what is asked since an old clock is fresh: it lists every file."""
+        root = self.room / "root"
+        make_files(root, ["a", "gone"])
+        try:
+            run(self.room, "watch", str(root))
+            clock = json.loads(run(self.room, "clock", str(root)).stdout)["clock"]
+            run(self.room, "--no-spawn", "shutdown-server")
+            (root / "gone").unlink()
+            make_files(root, ["new"])
+            run(self.room, "watch", str(root))
+            with Client(str(self.room / "sock")) as client:
+                query = {"since": clock, "fields": ["name"]}
+                found = client.ask("query", str(root), query)
+                self.same("a query", (found["is_fresh_instance"], found["files"]), (True, ["a", "new"]))
+                client.ask("subscribe", str(root), "s", query)
+                found = client.reply()
+                self.same("a subscription", (found["is_fresh_instance"], found["files"]), (True, ["a", "new"]))
+        finally:
+            run(self.room, "--no-spawn", "shutdown-server")
 
     def check_the_second_of_a_change(self, root: Path, client) -> None:
         """A file that came in a second is told by the term of that second, and not by that of the next one."""

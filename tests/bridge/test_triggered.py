@@ -1,15 +1,20 @@
 """Triggers through the bridge: their directory, their output, what they are given, and how they are listed; and the
 log."""
 
+import contextlib
 import json
+import time
 from pathlib import Path
 from typing import Callable, Dict
 
 from bridged import VERSION, Bridge, make_files
 from case import Case
+from test_configured import set_for
 from test_lists import move_in
 from waiting import look_until
 
+# So many clients the server takes.
+PLACES = 32
 VARIABLES = "$WATCHMAN_RELATIVE_ROOT|$WATCHMAN_ROOT|$WATCHMAN_TRIGGER|$WATCHMAN_SOCK"
 SHOWN = f'cat; pwd; for word; do echo "$word"; done; echo "{VARIABLES}"'
 
@@ -66,6 +71,76 @@ class Triggered(Case):
                 text = text_of(out, lambda text: text.endswith(f"|{bridge.sockname}\n"))
                 self.same(f"{keys}", text.splitlines(), expected)
                 client.ask("trigger-del", str(root), "t")
+
+    def test_a_first_run_in_a_root_that_changes(self) -> None:
+        """A trigger first runs when nothing changed in its root for its `settle` time, once, with all files."""
+        root, out, aside = self.room / "root", self.room / "out", self.room / "aside"
+        set_for(root, {"settle": 2500})
+        make_files(root, ["a.c"])
+        with Bridge(self.room) as bridge, bridge.client(root) as client:
+            definition = {
+                "name": "t",
+                "command": ["sh", "-c", 'echo "$*"', "sh"],
+                "expression": ["suffix", "c"],
+                "append_files": True,
+                "stdout": f">>{out}",
+            }
+            reply = client.ask("trigger", str(root), definition)
+            self.same("the reply", (reply.get("triggerid"), reply.get("disposition")), ("t", "created"))
+            listed = client.ask("trigger-list", str(root))["triggers"]
+            self.same("it is listed while it is held back", listed, [definition])
+            disposition = client.ask("trigger", str(root), definition)["disposition"]
+            self.same("and defined already", disposition, "already_defined")
+            time.sleep(0.5)
+            move_in(aside, root, ["b.c"])
+            self.same("the first run", text_of(out, lambda text: "b.c" in text), "a.c b.c\n")
+            move_in(aside, root, ["c.c"])
+            self.same("the next one", text_of(out, lambda text: "c.c" in text), "a.c b.c\nc.c\n")
+
+    def test_triggers_that_never_run(self) -> None:
+        """A trigger that is deleted while its first run is held back does not run, and one in its place does."""
+        root, out = self.room / "root", self.room / "out"
+        set_for(root, {"settle": 500})
+        make_files(root, ["a.c"])
+        with Bridge(self.room) as bridge, bridge.client(root) as client:
+            for name, word in (("gone", "gone"), ("t", "before"), ("t", "after")):
+                client.ask("trigger", str(root), name, "*.c", "--", "sh", "-c", f"echo {word} >> {out}")
+            client.ask("trigger-del", str(root), "gone")
+            self.same("what ran", text_of(out, lambda text: "after" in text), "after\n")
+            time.sleep(1)
+            self.same("nothing else did", out.read_text(), "after\n")
+
+    def test_a_bridge_that_ends(self) -> None:
+        """A first run that is held back is let go when the bridge ends. One of a bridge that was killed is lost until
+        the trigger is registered again."""
+        root, out = self.room / "root", self.room / "out"
+        set_for(root, {"settle": 30_000})
+        make_files(root, ["a.c"])
+        words = ["t", "*.c", "--", "sh", "-c", f"echo run >> {out}"]
+        with Bridge(self.room) as bridge:
+            with bridge.client(root) as client:
+                client.ask("trigger", str(root), *words)
+            bridge.replace()
+            with bridge.client(root) as client:
+                disposition = client.ask("trigger", str(root), *words)["disposition"]
+                self.same("registered again with another bridge", disposition, "replaced")
+            self.same("nothing ran", out.exists(), False)
+            bridge.process.terminate()
+            bridge.process.wait()
+            self.same("after the end", text_of(out, lambda text: text), "run\n")
+
+    def test_triggers_without_a_place(self) -> None:
+        """If the server has no place for one more client, a trigger is registered all the same, and runs."""
+        root, out = self.room / "root", self.room / "out"
+        make_files(root, ["a.c"])
+        with Bridge(self.room) as bridge, bridge.client(root) as client, contextlib.ExitStack() as others:
+            for _ in range(PLACES - 1):
+                others.enter_context(bridge.server.client()).ask("version")
+            reply = client.ask("trigger", str(root), "t", "*.c", "--", "sh", "-c", f"echo run >> {out}")
+            self.same("the reply", reply.get("disposition"), "created")
+            self.same("it runs", text_of(out, lambda text: text), "run\n")
+            refused = client.ask("trigger", str(root), "u", {"frob": 1}, "--", "true")
+            self.same("one that is no trigger", "error" in refused, True)
 
     def test_outputs(self) -> None:
         root = self.room / "root"
