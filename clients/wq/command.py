@@ -90,8 +90,15 @@ def run(words: List[str], home: Home) -> int:
     if command not in FORMS:
         return run([own_command(command), *words[1:]], home)
     options = read(command, words[1:])
+    require_names(options)
     set_colours(getattr(options, "color", None))
     return function_of(command)(options, home)
+
+
+def require_names(options: object) -> None:
+    """A byte 0 ends names alone."""
+    if getattr(options, "print0", False) and (getattr(options, "json", False) or getattr(options, "jsonl", False)):
+        raise WrongWords("-0 is for names, and --json and --jsonl print a line for each object: take one out")
 
 
 def own_command(command: str) -> str:
