@@ -98,7 +98,7 @@ def run(words: List[str], home: Home) -> int:
 def require_names(options: object) -> None:
     """A byte 0 ends names alone."""
     if getattr(options, "print0", False) and (getattr(options, "json", False) or getattr(options, "jsonl", False)):
-        raise WrongWords("-0 is for names, and --json and --jsonl print a line for each object: take one out")
+        raise WrongWords("-0 is for names, and --json and --jsonl print lines: take one out")
 
 
 def own_command(command: str) -> str:

@@ -85,8 +85,8 @@ OTHERS = [
         metavar="KINDS",
         dest="type",
         action="append",
-        help="list these kinds: f (file), d (dir), l (link), x (executable), e (empty), such as -t f,d; b, c, p and s are "
-        "devices, pipes and sockets",
+        help="list these kinds: f (file), d (dir), l (link), x (executable), e (empty), such as -t f,d; b, c, p and s "
+        "are devices, pipes and sockets",
     ),
     value(
         "-e",

@@ -56,7 +56,6 @@ class Typed(Beside):
         for name in ("src/new", "odd{a,b}"):
             (scene.tree / name).unlink()
         for words, reason in (
-            (["--jsonl", "-0"], "-0 is for names, and --json and --jsonl print a line for each object: take one out"),
             (["-d", "0"], "--max-depth takes a number from 1 on, which is what lies directly in the directory"),
             (["-d", "x"], "argument -d/--max-depth: x is no whole number from 1 on; see `wq find --help`"),
             (["{" + "1,2},{" * 9 + "1,2}"], "the braces are short for 1,024 globs, and at most 1,000 may be"),
@@ -181,6 +180,7 @@ class Typed(Beside):
         for name in ("tool", "empty"):
             (scene.tree / "src" / name).unlink()
         for words, reason in (
+            (["find", "--jsonl", "-0"], "-0 is for names, and --json and --jsonl print lines: take one out"),
             (["run", "-d", "500", "--", "true"], "there is no option -d; see `wq run --help`"),
             (["follow", "-x", "echo"], "there is no option -x; see `wq follow --help`"),
             (["find", "--all"], "there is no option --all; write -u; see `wq find --help`"),
