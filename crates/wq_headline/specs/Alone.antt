@@ -121,10 +121,10 @@ IsRunFor basis client world event out after = (happenings : List HappeningData)
     × ShowsWorld basis.run client out.goes_on after next
 
 -- an event of a session that is served alone is a run of the world, unless its look was refused, or
--- the client had gone when files were listed for it. There are two premises. The ends show a world before the event: those do
--- that show a crawler and a shelf. The session's last list after the event is the one that is
--- published, with its table. A look finds it if nobody else publishes, and each lawful list has a
--- table, but no clause says so
+-- the client had gone when files were listed for it. There are two premises. The ends show a world
+-- before the event: those do that show a crawler and a shelf. The session's last list after the
+-- event is the one that is published, with its table. A look finds it if nobody else publishes, and
+-- each lawful list has a table, but no clause says so
 abbrev pub EventsAreRuns : Basis → Type 0
 EventsAreRuns basis = (client : ℤ) (before after : PlaceData) (event : Event) (out : OutData)
     (world : WorldData) → ShowsWorld basis.run client true before world
