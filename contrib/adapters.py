@@ -1,6 +1,6 @@
-"""The packages for npm and pip: the adapters for tools that poll by other libraries, wqd-chokidar and wqd_watchdog, and the
-clients for tools of one's own, wqd-client and wqclient. As files below a prefix for `./install`, and as archives, which are
-the same on every machine."""
+"""The packages for npm and pip: the adapters for tools that poll by other libraries, wqd-chokidar and wqd_watchdog, and
+the clients for tools of one's own, wqd-client and wqclient. As files below a prefix for `./install`, and as archives,
+which are the same on every machine."""
 
 import base64
 

@@ -1,5 +1,5 @@
-"""Looks whether docs/PROOFS.md says of each trait of the crates, and of each of its calls with a clause, what that says at
-the server."""
+"""Looks whether docs/PROOFS.md says of each trait of the crates, and of each of its calls with a clause, what that says
+at the server."""
 
 import re
 from pathlib import Path

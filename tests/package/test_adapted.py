@@ -1,5 +1,5 @@
-"""The adapters and the clients for tools: what ./install --adapters puts below a prefix, and the packages for npm and pip
-that ./package --adapters makes."""
+"""The adapters and the clients for tools: what ./install --adapters puts below a prefix, and the packages for npm and
+pip that ./package --adapters makes."""
 
 import base64
 import hashlib

@@ -1,5 +1,5 @@
-"""The pages as HTML: each link leads to a page and a heading that are there, the list beside the pages has each page, and
-the search knows each."""
+"""The pages as HTML: each page of the sources is there, each link leads to a page and a heading that are there, and the
+search knows each page."""
 
 import json
 import re
