@@ -16,7 +16,7 @@ import manual
 import notices
 import publisher
 
-from wq import examples
+from wq import examples, statuses
 from wq.usage import USAGE as WQ_USAGE
 from wq.words import FORMS, Form, Option
 
@@ -207,8 +207,17 @@ def wq_page() -> str:
 
 
 def options_of_wq() -> str:
-    tables = [f"### wq {command}\n\n{form.about.capitalize()}.\n" + table_of(form) for command, form in FORMS.items()]
+    tables = [
+        f"### wq {command}\n\n{form.about.capitalize()}.\n" + table_of(form) + statuses_of(command)
+        for command, form in FORMS.items()
+    ]
     return "## Options\n\n" + "\n".join(tables)
+
+
+def statuses_of(command: str) -> str:
+    """The exit statuses of a command, as a table of Markdown."""
+    rows = [f"| {status} | {says} |\n" for status, says in statuses.statuses_of(command).items()]
+    return "".join(["\nExit status:\n\n| status | says |\n|---|---|\n", *rows])
 
 
 def table_of(form: Form) -> str:

@@ -4,11 +4,14 @@ import os
 import signal
 import sys
 from importlib import import_module
-from typing import Callable, Dict, List
+from typing import TYPE_CHECKING, Callable, Dict, List
 
 from .home import Home
 from .terminal import say, set_colours
 from .trouble import BROKEN_PIPE, FAILED, FOUND, INTERRUPTED, Trouble, WrongWords
+
+if TYPE_CHECKING:
+    import argparse
 
 # The module of each command that is not named after it.
 MODULES: Dict[str, str] = {
@@ -21,6 +24,8 @@ MODULES: Dict[str, str] = {
     "stop": "serving",
     "restart": "serving",
 }
+# If their server ends before it answered, they ask the next one: nothing was printed or run then.
+ASK_AGAIN = ("find", "since", "follow", "wait", "run")
 
 
 def main(words: List[str], directory: str) -> int:
@@ -92,7 +97,21 @@ def run(words: List[str], home: Home) -> int:
     options = read(command, words[1:])
     require_names(options)
     set_colours(getattr(options, "color", None))
-    return function_of(command)(options, home)
+    return ended(function_of(command), options, home) if command in ASK_AGAIN else function_of(command)(options, home)
+
+
+def ended(function: Callable[..., int], options: "argparse.Namespace", home: Home) -> int:
+    """The status of a command. If the server ends once before it answered, and nobody stopped it, the next one is
+    asked."""
+    from .server import Went
+
+    try:
+        return function(options, home)
+    except Went as went:
+        if went.was_stopped:
+            raise
+    say("the server has ended before it answered, and another one is asked", "yellow")
+    return function(options, home)
 
 
 def require_names(options: object) -> None:

@@ -3,13 +3,11 @@
 import argparse
 import json
 import sys
-from typing import Any
 
 from wqclient.harmless import harmless
 from wqprogram.command import program_of
 from wqprogram.errors import Refused
 from wqprogram.explainer import explained
-from wqprogram.terms import read_term
 
 from .errors import culprits
 from .faults import OF_TERMS, of_expression
@@ -32,7 +30,7 @@ def explain(options: argparse.Namespace, home: Home) -> int:
     try:
         program = program_of(text.encode("utf-8"))
     except Refused as refused:
-        of_terms = [of_expression(refused.error, value, error_of)] if refused.error[:3] in OF_TERMS else []
+        of_terms = [of_expression(refused, value)] if refused.error[:3] in OF_TERMS else []
         raise Trouble(refused.error, *of_terms or culprits(refused.error, None, lambda *_: {})) from None
     for sentence in of_term(value, "expression"):
         say(sentence, "yellow")
@@ -40,15 +38,6 @@ def explain(options: argparse.Namespace, home: Home) -> int:
     show([*words, "Its program, whose cost is for a name of 4,096 bytes:"])
     write(explained(program).encode("utf-8"))
     return FOUND
-
-
-def error_of(term: Any) -> str:
-    """The error of an expression, by the reader that makes its program. No server is needed here."""
-    try:
-        read_term(term)
-    except Refused as refused:
-        return refused.error
-    return ""
 
 
 def text_of(word: str) -> str:

@@ -1,15 +1,16 @@
 """The line after an error of the object of a query, a subscription or a trigger: where the fault is, what that part
-takes, and what was perhaps meant. The server is asked where it is."""
+takes, and what was perhaps meant. Of keys the server is asked which is at fault; an expression is read here."""
 
 from itertools import islice
-from typing import Any, Callable, Dict, Iterator, List
+from typing import Any, Callable, Dict, Iterator, List, Optional
 
+from wqprogram.errors import Refused
 from wqprogram.limits import MAX_PATTERN, MAX_TERM_DEPTH
+from wqprogram.terms import read_term
 
 from .mending import mended_term, mended_value
 from .questions import ErrorOf, Look, NoAnswer, Object, Questions, first_of
 from .sentences import TERMS
-from .term_order import wrong_term
 from .vocabulary import (
     LEFT_OUT_KEYS,
     LEFT_OUT_OF_SUBSCRIPTIONS,
@@ -45,8 +46,10 @@ def sentences(error: str, command: List[Any], look: Look) -> List[str]:
 
 def faults_of(error: str, asked: Object, questions: Questions) -> Iterator[str]:
     """The fault of the expression, or of each key that is refused if it is asked about alone."""
-    if error[:3] in OF_TERMS and "expression" in asked and questions.of_term(asked["expression"]) == error:
-        yield of_expression(error, asked["expression"], questions.of_term)
+    if error[:3] in OF_TERMS and "expression" in asked:
+        refused = refusal(asked["expression"])
+        if refused is not None and refused.error == error:
+            yield of_expression(refused, asked["expression"])
     noun, keys, left_out = OBJECTS[questions.command[0]]
     for key, value in asked.items():
         error_of = questions.of_key(key, error[:3] == OF_VALUES)
@@ -96,12 +99,30 @@ def told(place: str, takes: str, part: Any) -> str:
 # Terms.
 
 
-def of_expression(error: str, expression: Any, error_of: ErrorOf) -> str:
-    term = wrong_term(expression, error_of)
-    place = "expression" + "".join(f"[{number}]" for number in term.place)
+def refusal(expression: Any) -> Optional[Refused]:
+    """The refusal of an expression, which has the place of its first fault; none if it is right."""
+    try:
+        read_term(expression)
+    except Refused as refused:
+        return refused
+    return None
+
+
+def term_error(term: Any) -> str:
+    """The error of a term; nothing if it is right."""
+    found = refusal(term)
+    return found.error if found else ""
+
+
+def of_expression(refused: Refused, expression: Any) -> str:
+    """The sentence on the fault for which an expression is refused."""
+    term = expression
+    for number in refused.place:
+        term = term[number]
+    place = "expression" + "".join(f"[{number}]" for number in refused.place)
     if len(place) > LONGEST_PLACE:
         place = f"{place[:LONGEST_PLACE // 2]}..{place[-LONGEST_PLACE // 2:]}"
-    return f"at {place}: {OF_TERMS[error[:3]](term.value, error_of)}"
+    return f"at {place}: {OF_TERMS[refused.error[:3]](term)}"
 
 
 def head_of(term: Any) -> Any:
@@ -110,37 +131,37 @@ def head_of(term: Any) -> Any:
     return head if isinstance(head, str) else None
 
 
-def unknown(term: Any, error_of: ErrorOf) -> str:
+def unknown(term: Any) -> str:
     head = head_of(term)
     if head in TERMS_OF_WATCHMAN:
         return f'the term "{head}" of Watchman is not built; take "{TERMS_OF_WATCHMAN[head]}" with a glob'
     return f"{quoted(head)} is no term{meant(head, TERMS) or '; wq explain --terms lists them'}"
 
 
-def wrong_arguments(term: Any, error_of: ErrorOf) -> str:
+def wrong_arguments(term: Any) -> str:
     head = head_of(term)
     if head not in TERMS:
         return f'a term is a list that begins with its name, such as ["suffix","c"], and this is {quoted(term)}'
-    return f"{taken(head, TERMS[head])}, and this is {quoted(term)}{mended_term(term, error_of)}"
+    return f"{taken(head, TERMS[head])}, and this is {quoted(term)}{mended_term(term, term_error)}"
 
 
-def too_deep(term: Any, error_of: ErrorOf) -> str:
+def too_deep(term: Any) -> str:
     return f"{MAX_TERM_DEPTH} terms may be inside one another, and this one is the {MAX_TERM_DEPTH + 1}th"
 
 
-def cursor(term: Any, error_of: ErrorOf) -> str:
+def cursor(term: Any) -> str:
     return (
         f'{quoted(term)} names a cursor, which the key "since" of a query takes, and no term; take a clock id, '
         "or a second as a whole number"
     )
 
 
-def too_long(value: Any, error_of: object = None) -> str:
+def too_long(value: Any) -> str:
     pattern = value[1] if isinstance(value, list) else value
     return f"the pattern has {len(pattern.encode()):,} bytes, and at most {MAX_PATTERN} may be: {quoted(pattern)}"
 
 
-OF_TERMS: Dict[str, Callable[[Any, ErrorOf], str]] = {
+OF_TERMS: Dict[str, Callable[[Any], str]] = {
     "E23": wrong_arguments,
     "E24": unknown,
     "E25": wrong_arguments,

@@ -8,7 +8,7 @@ from typing import Callable, Dict, Iterator, List, Optional
 from .commands_run import CANNOT_START, NOT_FOUND, missing
 from .names_handed import as_argument
 from .terminal import write
-from .trouble import FOUND, NOTHING, Trouble
+from .trouble import COMMAND_FAILED, FOUND, NOTHING, Trouble
 
 # What takes the place of each: the name; its last part; its directory; both without what follows the last dot.
 PLACES: Dict[str, Callable[[str], str]] = {
@@ -28,26 +28,28 @@ def run_for_each(command: List[str], names: List[str]) -> int:
         return NOTHING
     commands = [[argument(word, name) for word in with_place(command)] for name in names]
     if len(commands) == 1:
-        return status_of(started(commands[0], None).returncode)
-    status = FOUND
+        return status_of([started(commands[0], None).returncode])
+    codes = []
     with ThreadPoolExecutor(os.cpu_count() or 1) as pool:
         for ended in pool.map(lambda words: started(words, subprocess.PIPE), commands):
             write(ended.stdout)
-            status = status_of(ended.returncode) or status
-    return status
+            codes.append(ended.returncode)
+    return status_of(codes)
 
 
 def run_for_all(command: List[str], names: List[str]) -> int:
     """Runs the command with all names, or several times if they are too long for one."""
-    status = FOUND if names else NOTHING
+    if not names:
+        return NOTHING
+    codes = []
     for some in pieces(names):
         words = [
             one
             for word in with_place(command)
             for one in ([argument(word, name) for name in some] if has_place(word) else [word])
         ]
-        status = status_of(started(words, None).returncode) or status
-    return status
+        codes.append(started(words, None).returncode)
+    return status_of(codes)
 
 
 def with_place(command: List[str]) -> List[str]:
@@ -95,5 +97,6 @@ def started(words: List[str], output: Optional[int]) -> "subprocess.CompletedPro
         raise Trouble(f"{words[0]}: {reason}", status=NOT_FOUND if is_missing else CANNOT_START) from None
 
 
-def status_of(code: int) -> int:
-    return 128 - code if code < 0 else code
+def status_of(codes: List[int]) -> int:
+    """The status after commands that ended so. Their own could be those of wq, which mean other things."""
+    return COMMAND_FAILED if any(codes) else FOUND

@@ -1,5 +1,4 @@
-"""Asks the server about parts of a request that it refused. Its reply is the error alone, and it alone knows what is
-wrong: so nothing here reads an expression.
+"""Asks the server about the keys of a request that it refused, since its reply is the error alone.
 
 Each question is refused, if not for its part, then for a value that the server looks at later. So a question scans
 nothing, lists nothing and leaves nothing behind."""
@@ -46,10 +45,6 @@ class Questions:
         self.command = command
         self.look = look
         self.left = MOST
-
-    def of_term(self, term: Any) -> str:
-        """The error of an expression alone."""
-        return self.error(["query", self.command[1]], WRONG_FLAG, "expression", term)
 
     def of_key(self, key: str, is_value: bool = False) -> ErrorOf:
         """Gives the error of a key alone; `is_value` says that it is one which the server looks at last."""

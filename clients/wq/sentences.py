@@ -129,8 +129,6 @@ GROUPS: Dict[str, Group] = {
     "allof": Group("any number of terms", "all of these are so:"),
     "anyof": Group("any number of terms", "one of these is so:"),
 }
-# The names of terms that have terms in them. A head that is no text may be looked for in it.
-GROUP_NAMES = tuple(GROUPS)
 # Each term, with the words for its arguments.
 TERMS: Dict[str, str] = {
     **{name: term.takes for name, term in PLAIN.items()},

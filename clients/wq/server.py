@@ -8,6 +8,7 @@ from typing import Any, Dict, Iterator, List, Optional
 
 from wqclient.client import Client, json_of
 from wqclient.files import is_gone
+from wqclient.kept import STOPS, kept
 from wqclient.lines import Ended
 from wqclient.root_notes import MOMENT, STAYS, Notes
 from wqclient.sockets import default_sockname
@@ -27,10 +28,15 @@ MANY_ROOTS = 8
 
 
 class Went(Trouble):
-    """The server has ended the connection."""
+    """The server has ended the connection. It may have been stopped on purpose."""
 
-    def __init__(self) -> None:
-        super().__init__("the server has ended")
+    def __init__(self, was_stopped: bool) -> None:
+        super().__init__(
+            "the server was stopped before it answered; `wq start` starts another one"
+            if was_stopped
+            else "the server has ended before it answered; `wq log` shows what it said"
+        )
+        self.was_stopped = was_stopped
 
 
 def sockname() -> str:
@@ -94,7 +100,7 @@ class Server:
                     return found
                 self.client.lists.append(value)
         except Ended:
-            raise Went from None
+            raise self.went() from None
         finally:
             if progress:
                 progress.end()
@@ -126,7 +132,12 @@ class Server:
         try:
             return json_of(self.client.next_list())
         except Ended:
-            raise Went from None
+            raise self.went() from None
+
+    def went(self) -> Went:
+        """Its process may have gone, so the run that was stopped is known by its number alone."""
+        stopped = str(kept(STOPS, self.sockname).get("run", ""))
+        return Went(stopped.startswith(f"{self.peer.process}:"))
 
     def ask(self, *command: Any, crawls: str = "") -> Value:
         """The reply to a command. An error is raised, with the line that names the culprit."""

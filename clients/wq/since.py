@@ -27,7 +27,7 @@ from .roots import Place, real_path, require_utf8
 from .server import Value, reached
 from .server_log import tell_left_out
 from .terminal import require_read, say
-from .trouble import FOUND, NOTHING, Trouble, WrongWords
+from .trouble import COMMAND_FAILED, FOUND, NOTHING, Trouble, WrongWords
 
 LONGEST_NAME = 255
 # So many letters of rules are kept beside a clock.
@@ -113,7 +113,7 @@ def key_of(place: Place, places: Places) -> str:
 
 
 def tell(asked: List[Asked], options: argparse.Namespace) -> int:
-    """Prints what changed, until that was read; or runs a command for it, and gives its status."""
+    """Prints what changed, until that was read; or runs a command for it. The status is 0 if that was told."""
     lists = [one.found for one in asked]
     if options.each and any(found["files"] for found in lists):
         return run_for(asked, options.each, options.quiet)
@@ -125,6 +125,7 @@ def tell(asked: List[Asked], options: argparse.Namespace) -> int:
 
 
 def run_for(asked: List[Asked], words: List[str], is_quiet: bool) -> int:
+    """Runs a command for what changed. Its status is not that of wq, which would mean other things."""
     command = Command(words, on_input=False, with_zeros=False, is_alone=False, by_shell=False)
     files = [file for one in asked for file in one.found["files"]]
     names = [file["name"] for file in files if file["exists"]]
@@ -132,10 +133,9 @@ def run_for(asked: List[Asked], words: List[str], is_quiet: bool) -> int:
         return 0
     added = variables(asked[0].place.root, asked[0].kept["clock"], [file["name"] for file in files])
     status = run_once(command, names, added)
-    # Else status 1 could be that nothing changed.
     if status and not is_quiet:
         say(f"{command.name} ended with status {status}; so the next call tells this again")
-    return status
+    return COMMAND_FAILED if status else 0
 
 
 def clock_of(kept_before: Dict[str, Any]) -> Optional[str]:

@@ -3,6 +3,8 @@
 # The exit statuses.
 FOUND, NOTHING, WRONG_WORDS, FAILED = 0, 1, 2, 3
 INTERRUPTED = 130
+# As xargs ends if a command failed that it ran: what `-x` and `-X` run has other statuses than wq.
+COMMAND_FAILED = 123
 # As a shell says that SIGPIPE ended a command.
 BROKEN_PIPE = 141
 

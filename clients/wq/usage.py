@@ -37,8 +37,17 @@ is for the last part of a name, as '*.c'; one with a slash is for the whole
 name below DIR, as 'src/**/*.c'. What git ignores is left out, and outside of
 git node_modules and target; .git and .hg always. -u lists everything.
 
-The status is 0, or 1 if nothing is found, 2 for wrong options or words, 3 for
-an error, 130 if you stop it. `wq COMMAND --help` has examples:
+Exit status: 0, or 1 if nothing is found; 2 for wrong options or words, 3 for
+an error, 123 if a command of -x failed, 130 if you stop it.
+
+Environment:
+  WQD_SOCK                          the socket; `wq sockname` prints its path
+  WQD                               the program of a server that wq starts
+  XDG_RUNTIME_DIR, TMPDIR           the directory of the socket without WQD_SOCK
+  XDG_STATE_HOME, XDG_CACHE_HOME    where notes and logs, and programs, are kept
+  NO_COLOR, CLICOLOR_FORCE          no colours; or colours in a pipe too
+
+`wq COMMAND --help` has the statuses of a command, and examples:
 
   wq find '*.c' '*.h'               the sources below here
   wq since                          what changed here since the last call

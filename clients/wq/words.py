@@ -21,15 +21,16 @@ COLUMNS = 78
 
 
 class Parser(argparse.ArgumentParser):
-    """Refuses wrong words in one line. Its page of help ends with examples."""
+    """Refuses wrong words in one line. Its page of help ends with exit statuses and examples."""
 
     def error(self, message: str) -> NoReturn:
         raise WrongWords(f"{message}; see `{self.prog} --help`")
 
     def format_help(self) -> str:
-        from .examples import lines_of
+        from . import examples, statuses
 
-        self.epilog = lines_of(self.prog.split()[1])
+        command = self.prog.split()[1]
+        self.epilog = f"{statuses.lines_of(command)}\n{examples.lines_of(command)}"
         return super().format_help()
 
 

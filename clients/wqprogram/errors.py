@@ -1,5 +1,7 @@
 """The errors that a reply names."""
 
+from typing import Tuple
+
 LINE_TOO_LONG = "E1: line too long"
 NOT_JSON = "E2: not JSON"
 NOT_A_COMMAND = "E3: not a command array"
@@ -64,8 +66,10 @@ ALL = [
 
 
 class Refused(Exception):
-    """A client's line is refused with this error."""
+    """A client's line is refused with this error. The place of a term that is wrong in an expression is the numbers of
+    the terms that lead to it."""
 
-    def __init__(self, error: str) -> None:
+    def __init__(self, error: str, place: Tuple[int, ...] = ()) -> None:
         super().__init__(error)
         self.error = error
+        self.place = place

@@ -58,18 +58,29 @@ def require(is_right: bool) -> None:
 
 def read_not(arguments: List[Any], instance: Optional[Instance], depth: int) -> Test:
     require(len(arguments) == 1)
-    inner = read_term(arguments[0], instance, depth + 1)
+    (inner,) = read_inner(arguments, instance, depth)
     return lambda record: not inner(record)
 
 
 def read_allof(arguments: List[Any], instance: Optional[Instance], depth: int) -> Test:
-    inner = [read_term(argument, instance, depth + 1) for argument in arguments]
+    inner = read_inner(arguments, instance, depth)
     return lambda record: all(test(record) for test in inner)
 
 
 def read_anyof(arguments: List[Any], instance: Optional[Instance], depth: int) -> Test:
-    inner = [read_term(argument, instance, depth + 1) for argument in arguments]
+    inner = read_inner(arguments, instance, depth)
     return lambda record: any(test(record) for test in inner)
+
+
+def read_inner(arguments: List[Any], instance: Optional[Instance], depth: int) -> List[Test]:
+    """The tests of the terms in a term, from left to right. The place of a fault begins with the number of its term."""
+    tests = []
+    for number, argument in enumerate(arguments, 1):
+        try:
+            tests.append(read_term(argument, instance, depth + 1))
+        except Refused as refused:
+            raise Refused(refused.error, (number, *refused.place)) from None
+    return tests
 
 
 # Terms without arguments, and terms on kinds and sizes.

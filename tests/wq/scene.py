@@ -23,6 +23,7 @@ INTERVAL = "40"
 # So long, in seconds, a scene waits for its server to be gone.
 MOST_AT_END = 5.0
 SLOW_CRAWL = re.compile(rb"wq: the server looks at all files below .*\n(wq: that took [0-9.]+ s\n)?")
+LATE_REPLY = re.compile(rb"wq: the server, process [0-9]+, has not answered for [0-9]+ s: it (is busy|waits), .*\n")
 FILES = ["Makefile", "src/a.c", "src/b b.c", "src/deep/c.h", ".git/HEAD", "node_modules/x/y.c", "target/z.c"]
 
 
@@ -31,8 +32,9 @@ class Scene:
 
     def __init__(self, room: Path, starts: bool = True) -> None:
         self.room = room
-        # Whether calls show that a first crawl took over a second, as on a machine with other work.
-        self.shows_crawls = False
+        # Whether calls show that a first crawl took over a second, and a reply over five, as on a machine with other
+        # work.
+        self.shows_delays = False
         self.tree = room / "tree"
         self.runtime = room / "run"
         self.runtime.mkdir(mode=0o700)
@@ -79,7 +81,7 @@ class Scene:
         ended = built.call(
             [COMMAND, *words], input=enters, cwd=self.tree, env={**self.environment, **environment}, timeout=PATIENCE
         )
-        return ended if self.shows_crawls else ended._replace(errors=SLOW_CRAWL.sub(b"", ended.errors))
+        return ended if self.shows_delays else ended._replace(errors=without_delays(ended.errors))
 
     def wq(self, *words: object, **environment: str) -> built.Ended:
         return self.call(list(words), **environment)
@@ -101,6 +103,10 @@ class Scene:
         """The tick of a root: how often its files changed."""
         with self.client() as client:
             return int(client.ask("clock", str(root or self.tree), {"sync_timeout": 1})["clock"].rsplit(":", 1)[1])
+
+
+def without_delays(errors: bytes) -> bytes:
+    return LATE_REPLY.sub(b"", SLOW_CRAWL.sub(b"", errors))
 
 
 def is_of_socket(name: str) -> bool:
@@ -242,7 +248,7 @@ FOLLOWING = re.compile(
 
 def following(going: Going) -> bytes:
     """What a window says after its first line, which says what it follows."""
-    errors = SLOW_CRAWL.sub(b"", going.errors)
+    errors = without_delays(going.errors)
     found = FOLLOWING.match(errors)
     return errors[found.end() :] if found else b"no first line: " + errors
 

@@ -182,7 +182,11 @@ class Asking(Beside):
             self.check_many_clients(scene)
             wrong(self, scene, ["ask"], "ask takes lines, such as '[\"watch-list\"]', or - for those of standard input")
             ended = scene.wq("ask", '["shutdown-server"]', '["version"]')
-            self.same("the end of the server", (ended.status, ended.errors), (3, said("the server has ended")))
+            self.same(
+                "the end of the server",
+                (ended.status, ended.errors),
+                (3, said("the server has ended before it answered; `wq log` shows what it said")),
+            )
 
     def check_many_clients(self, scene: Scene) -> None:
         with ExitStack() as stack:

@@ -143,15 +143,13 @@ class Placing(Beside):
         with Scene(self.room) as scene, scene.client() as client:
             root = str(scene.tree)
             client.ask("watch", root)
-            line = f'["query","{root}",{{"expression":["allof",["type","f"],["not",["type","dir"]]]}}]'
-            reply = b'{"error":"E25: wrong term arguments","version":"wq-1"}\n'
+            line = f'["query","{root}",{{"fields":["name"],"suffix":["c","h",7]}}]'
+            reply = b'{"error":"E22: bad generator","version":"wq-1"}\n'
             whole, answers = relayed(scene, line)
             lines = len(answers)
-            sentence = (
-                'at expression[2][1]: "type" takes one letter (f file, d directory, l link, b c p s D), such '
-                'as ["type","f"], and this is ["type","dir"]; did you mean ["type","d"]?'
-            )
+            sentence = 'at suffix[2]: "suffix" takes a text or a list of texts, such as ["c","h"], and this is 7'
             self.same("a place through a relay", whole, built.Ended(reply, said(sentence), 3))
+            self.check("some questions", lines > 3, [str(lines)])
             for last in range(1, lines):
                 found, _ = relayed(scene, line, lambda count: count < last)
                 self.same(f"a server that ends after {last} of {lines} lines", found, built.Ended(reply, b"", 3))
@@ -164,14 +162,15 @@ class Placing(Beside):
 
     def check_longest(self, scene: Scene, root: str) -> None:
         """A question may not be longer than a line, since the session would end."""
-        start, end = f'["query","{root}",{{"expression":["allof"', ',["sufix"]]}]'
-        terms = ',"true"' * ((MAX_LINE - len(start) - len(end)) // 7)
-        found = scene.call(["ask", "-"], f'{start}{terms}{end}\n["version"]\n'.encode())
-        replies = b'{"error":"E24: unknown term","version":"wq-1"}\n{"version":"wq-1"}\n'
+        start, end = f'["query","{root}",{{"suffix":["c"', ",7]}]"
+        texts = ',"true"' * ((MAX_LINE - len(start) - len(end)) // 7)
+        found = scene.call(["ask", "-"], f'{start}{texts}{end}\n["version"]\n'.encode())
+        replies = b'{"error":"E22: bad generator","version":"wq-1"}\n{"version":"wq-1"}\n'
         self.same("the longest line", found, built.Ended(replies, b"", 3))
 
     def test_few_questions(self) -> None:
-        """A wrong term among many is found with few questions, which neither scan the root nor list its files."""
+        """A wrong entry among many is found with few questions, which neither scan the root nor list its files; a wrong
+        term with none."""
         with Scene(self.room, starts=False) as scene:
             scene.wq("start", "--interval", "3600000")
             with scene.client() as client:
@@ -183,6 +182,11 @@ class Placing(Beside):
                 ended, answers = relayed(scene, line)
                 sentence = said(f"at expression[9001]: {SUFIX}")
                 self.same("one wrong term of 18,001", (ended.errors, ended.status), (sentence, 3))
+                self.same("no question", len(answers), 1)
+                texts = ',"c"' * 9_000
+                line = f'["query","{root}",{{"sync_timeout":0,"suffix":["c"{texts},7{texts}]}}]'
+                ended, answers = relayed(scene, line)
+                self.check("one wrong text of 18,002", ended.errors.startswith(b"wq: at suffix[9001]: "), [str(ended)])
                 self.check("it takes few questions", len(answers) <= 20, [str(len(answers))])
                 files = client.ask("query", root, {"sync_timeout": 0, "fields": ["name"], "suffix": "c"})["files"]
                 self.same("the root was not scanned", "new.c" in files, False)

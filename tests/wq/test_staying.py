@@ -32,6 +32,11 @@ DEAF = f"{SILENT}time.sleep(1000)"
 BUSY = f"{SILENT}while True: sum(range(100_000)); time.sleep(0.001)"
 
 
+# So long, in seconds, a command that says nothing needs to begin.
+BEGUN = 2.0
+ENDED = "the server has ended before it answered, and another one is asked"
+
+
 class Staying(Beside):
     def is_said(self, name: str, errors: bytes, *patterns: str) -> None:
         """The lines of standard error, as patterns that say no more than they must."""
@@ -172,9 +177,56 @@ class Staying(Beside):
                 words = f"wq: the server, process {busy.pid}, has not answered for 5 s: it is busy, and took "
                 self.check("a busy server", going.says(words))
                 busy.kill()
+                started = said(ENDED, f"started a server at {busy_at}")
+                self.same("one that is killed", (going.ends(), going.errors.endswith(started)), (0, True))
+                scene.wq("stop", WQD_SOCK=busy_at)
+
+    def test_killed(self) -> None:
+        """A server that is killed before it answered: the next one is asked. If it was stopped, a person hears that."""
+        with Scene(self.room) as scene:
+            process = facts(scene)["process"]
+            os.kill(process, signal.SIGSTOP)
+            with scene.begin("find", "*.h") as going:
+                time.sleep(0.5)
+                os.kill(process, signal.SIGKILL)
+                self.same("the answer of another one", (going.ends(), going.output), (0, b"src/deep/c.h\n"))
+                self.same("what is said", going.errors, said(ENDED, f"started a server at {scene.sockname}"))
+            process = facts(scene)["process"]
+            os.kill(process, signal.SIGSTOP)
+            with scene.begin("since", "*.h") as going:
+                time.sleep(0.5)
+                scene.wq("stop")
+                self.same("a server that is stopped", going.ends(), 3)
+                last = said("the server was stopped before it answered; `wq start` starts another one")
+                self.check("what is said of that", going.errors.endswith(last), [str(going.errors)])
+            self.same("none is started", scene.wq("status").status, 1)
+
+    def test_waiting(self) -> None:
+        """A wait goes on over the end of a server, and ends at what changed between."""
+        with Scene(self.room) as scene:
+            with scene.begin("wait", "./never") as going:
+                self.kill_beside(scene, going)
+                self.check("another server", going.says("was started"))
+                time.sleep(0.5)
+                self.same("it goes on", (going.process.poll(), going.output), (None, b""))
+                scene.write("never")
+                self.same("up to a change", (going.ends(), going.output), (0, b"+ never\n"))
+            with scene.begin("wait", "src") as going:
+                self.kill_beside(scene, going, "src/a.c", "src/new")
                 self.same(
-                    "one that is killed", (going.ends(), going.errors.endswith(said("the server has ended"))), (3, True)
+                    "what changed between", (going.ends(), going.output), (0, b"~ src/a.c\n+ src/new\n- src/b b.c\n")
                 )
+
+    def kill_beside(self, scene: Scene, going: Going, *names: str) -> None:
+        """Kills the server of a command that waits. If names are given, these files are written when it is stopped, and
+        another one is gone."""
+        process = facts(scene)["process"]
+        going.read(BEGUN)
+        os.kill(process, signal.SIGSTOP)
+        for name in names:
+            scene.write(name, "changed between")
+            (scene.tree / "src" / "b b.c").unlink(missing_ok=True)
+        os.kill(process, signal.SIGKILL)
 
     def test_given_back(self) -> None:
         """A window gives a root back that was watched for windows alone, when the last one ends."""

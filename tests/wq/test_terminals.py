@@ -2,14 +2,16 @@
 
 import json
 import os
+import re
 import shlex
 import time
 
 import built
 from case import Beside
-from scene import Scene, at_terminal, called_at_terminal, said, wrong
+from scene import INTERVAL, Scene, at_terminal, called_at_terminal, said, wrong
 from stand_ins import answering, stand_in
 from wq.examples import EXAMPLES
+from wq.statuses import HANDED, statuses_of
 from wq.trouble import WrongWords
 from wq.usage import USAGE
 from wq.words import FORMS, options_of, read
@@ -119,19 +121,6 @@ class Terminals(Beside):
                 "there is no command finde; did you mean find?; `wq --help` says which there are",
             )
             wrong(self, scene, ["stop", "now"], "stop takes no further words: now; see `wq stop --help`")
-            for command in FORMS:
-                text = scene.wq(command, "--help")
-                missing = [option for option in options_of(command) if option not in text.output.decode()]
-                self.same(f"wq {command} --help", (text.status, text.errors, missing), (0, b"", []))
-                self.check_examples(command, text.output.decode())
-                self.same(f"{command} in the help", f" {command}" in USAGE, True)
-            for command, sentence in SENTENCES:
-                shown = " ".join(scene.wq(command, "--help").output.decode().split())
-                self.check(f"wq {command} --help says {sentence!r}", sentence in shown, [shown])
-            full = scene.wq("--help")
-            self.same(
-                "the help fits a terminal of 80 columns", max(map(len, full.output.decode().splitlines())) <= 80, True
-            )
             with open("/dev/full", "wb") as device, scene.begin("--help", output=device.fileno()) as going:
                 self.same(
                     "a device that is full", (going.ends(), going.errors), (3, said("output: No space left on device"))
@@ -142,6 +131,45 @@ class Terminals(Beside):
                     (going.ends(), going.errors),
                     (0, said(f"started a server at {scene.sockname}")),
                 )
+
+    def test_pages(self) -> None:
+        """The pages of help: options, examples, statuses and variables."""
+        with Scene(self.room, starts=False) as scene:
+            for command in FORMS:
+                text = scene.wq(command, "--help")
+                missing = [option for option in options_of(command) if option not in text.output.decode()]
+                self.same(f"wq {command} --help", (text.status, text.errors, missing), (0, b"", []))
+                self.check_examples(command, text.output.decode())
+                rows = re.findall(r"^  (N|\d+) +\w", text.output.decode().partition("\nexit status:\n")[2], re.M)
+                self.same(f"the statuses of {command}", rows, list(statuses_of(command)))
+                self.same(f"{command} in the help", f" {command}" in USAGE, True)
+            for command, sentence in SENTENCES:
+                shown = " ".join(scene.wq(command, "--help").output.decode().split())
+                self.check(f"wq {command} --help says {sentence!r}", sentence in shown, [shown])
+            self.check_variables()
+            full = scene.wq("--help").output.decode().splitlines()
+            self.same("the help fits a terminal of 80 columns", max(map(len, full)) <= 80, True)
+
+    def check_variables(self) -> None:
+        """Help has each variable that WQ.md has, but TERM, which is a terminal's own."""
+        page = (built.TOP / "docs" / "WQ.md").read_text(encoding="utf-8")
+        rows = re.findall(r"^\| (`.+?) \|", page.partition("\n## Environment\n")[2].partition("\n## ")[0], re.M)
+        names = {name for row in rows for name in re.findall(r"`(\w+)`", row)}
+        self.same("variables in the help", {name for name in names if name in USAGE}, names - {"TERM"})
+        handed = {name for name in re.findall(r"`(WQ_\w+)`", page)}
+        self.same("variables of a command", set(HANDED), handed)
+
+    def test_statuses(self) -> None:
+        """What pages of help say of status 1 is so."""
+        with Scene(self.room, starts=False) as scene:
+            for words in ("status", "roots", "triggers", "untrigger t", "unwatch", "stop", "sockname"):
+                self.same(f"wq {words} without a server", scene.wq(*words.split()).status, 1)
+            scene.wq("start", "--interval", INTERVAL, "--share", "100")
+            for words in ("roots", "unwatch", "find no*", "wait --timeout 0"):
+                self.same(f"wq {words} of no root", scene.wq(*words.split()).status, 1)
+            scene.wq("since")
+            for words in ("triggers", "untrigger t", "since"):
+                self.same(f"wq {words} with nothing to tell", scene.wq(*words.split()).status, 1)
 
     def check_examples(self, command: str, text: str) -> None:
         """The page of help ends with examples, whose words the command takes."""
@@ -160,7 +188,7 @@ class Terminals(Beside):
     def test_first_crawl(self) -> None:
         """A first crawl of over a second shows how long it goes on; it can be interrupted at once."""
         with Scene(self.room, starts=False) as scene:
-            scene.shows_crawls = True
+            scene.shows_delays = True
             stand_in(scene.sockname, answering(slowly))
             looks = f"the server looks at all files below {scene.tree} for the first time"
             ended = scene.wq("find")

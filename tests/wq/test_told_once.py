@@ -45,10 +45,10 @@ class ToldOnce(Beside):
         again_told = "; so the next call tells this again"
         failed = scene.wq(*question, "-x", "sh", "-c", "echo failed; exit 7")
         self.same(
-            "a command that fails", failed, built.Ended(b"failed\n", said(f"sh ended with status 7{again_told}"), 7)
+            "a command that fails", failed, built.Ended(b"failed\n", said(f"sh ended with status 7{again_told}"), 123)
         )
         quiet = scene.wq(*question, "-q", "-x", "false")
-        self.same("says nothing with -q", quiet, built.Ended(b"", b"", 1))
+        self.same("has a status of its own", quiet, built.Ended(b"", b"", 123))
         again = scene.wq(*question, "-x", "echo", "{}")
         self.same("hears of it again", again, built.Ended(b"./src/a.c ./src/new.c\n", b"", 0))
         self.same("and once", scene.wq(*question, "-x", "echo", "{}"), built.Ended(b"", b"", 1))

@@ -123,9 +123,10 @@ class Typed(Beside):
         ):
             self.same(f"find {words}", scene.wq("find", *words), built.Ended(expected.encode(), b"", 0))
         for words, status in (
-            (["*.c", "-x", "sh", "-c", "exit 7"], 7),
-            (["*.h", "-x", "sh", "-c", "kill $$"], 143),
-            (["*.h", "-X", "false"], 1),
+            (["*.c", "-x", "sh", "-c", "exit 7"], 123),
+            (["*.c", "-x", "sh", "-c", 'test "$0" = ./src/a.c', "{}"], 123),
+            (["*.h", "-x", "sh", "-c", "kill $$"], 123),
+            (["*.h", "-X", "false"], 123),
             (["*.nothing", "-x", "echo"], 1),
             (["*.nothing", "-X", "echo"], 1),
         ):
