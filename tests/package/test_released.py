@@ -15,7 +15,7 @@ from typing import List
 import built
 import files
 import notices
-from case import Case
+from case import Case, needs
 from test_command import bare
 from test_installed import FILES, LIST, call, version_of
 
@@ -87,6 +87,15 @@ class Released(Case):
             self.check_refused(place, refusal)
         note.write_text(f"program {digest}\nsources {sources}\ncommit abc\nkit none\n")
         self.check_made(place, note)
+
+    @needs("dpkg-deb")
+    def test_in_the_place_of_watchman(self) -> None:
+        """What depends on Debian's watchman, such as python3-pywatchman, stays beside the package of the command."""
+        ended = call(self.directory("home"), "package", "--debian", str(self.room / "made"))
+        package = next(line for line in ended.output.decode().splitlines() if "wqd-watchman" in line)
+        for field in ("Provides", "Conflicts", "Replaces"):
+            said = built.call(["dpkg-deb", "--field", package, field]).output
+            self.same(field, said, b"watchman\n")
 
     def check_refused(self, place: Path, reason: str) -> None:
         refused = release(place, self.room / "refused")
