@@ -38,7 +38,7 @@ MOST = {
     "crates/*/DECISIONS.md": 8050,
     "docs/RECIPES.md": 1660,
     "docs/crates": 3600,
-    "tests/README.md": 1880,
+    "tests/README.md": 1950,
 }
 # A sentence of more words is long.
 LONG = 30
