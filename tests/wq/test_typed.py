@@ -6,7 +6,7 @@ import time
 
 import built
 from case import Beside
-from scene import Scene, wrong
+from scene import Scene, said, wrong
 
 C_FILES = ["src/a.c", "src/b b.c"]
 
@@ -178,11 +178,29 @@ class Typed(Beside):
         self.same("find -q of nothing", scene.wq("find", "*.none", "-q"), built.Ended(b"", b"", 1))
         once = ["--once", "-q", "--on-busy", "queue", "--debounce", "50ms", "-w", "src", "--", "echo", "ran"]
         self.same("run as watchexec has it", scene.names("run", *once), ["ran"])
+        once = [
+            "--once",
+            "--quiet",
+            "--ext",
+            "c",
+            "-i",
+            "*.h",
+            "-a",
+            "--signal",
+            "HUP",
+            "--delay",
+            "0.1s",
+            "--",
+            "echo",
+        ]
+        self.same("run as nodemon has it", scene.wq("run", *once), built.Ended(b"\n", b"", 0))
+        for words in (["-r", "-t", "1", "src"], ["--timeout", "100ms"], ["--timeout", "0.002min"]):
+            self.same(f"wait {words}", scene.wq("wait", *words), built.Ended(b"", b"", 1))
         for name in ("tool", "empty"):
             (scene.tree / "src" / name).unlink()
+        self.check_hints(scene)
         for words, reason in (
             (["find", "--jsonl", "-0"], "-0 is for names, and --json and --jsonl print lines: take one out"),
-            (["run", "-d", "500", "--", "true"], "there is no option -d; see `wq run --help`"),
             (["follow", "-x", "echo"], "there is no option -x; see `wq follow --help`"),
             (["find", "--all"], "there is no option --all; write -u; see `wq find --help`"),
             (["find", "--lines"], "there is no option --lines; write --jsonl; see `wq find --help`"),
@@ -194,3 +212,54 @@ class Typed(Beside):
             (["--hlep"], "there is no option --hlep; did you mean --help?; `wq --help` says which there are"),
         ):
             wrong(self, scene, words, reason)
+
+    def check_hints(self, scene: Scene) -> None:
+        """What to write in place of words of other tools, and of words that are missing or mistyped."""
+        dashes = "run takes `--` and a command after it, such as: wq run"
+        for words, reason in (
+            (["run", "cat"], f"{dashes} -- cat"),
+            (["run", "src", "*.c", "sh", "it"], f"{dashes} src '*.c' -- sh it"),
+            (["run", "src"], f"{dashes} '*.c' -- make"),
+            (
+                ["run", "make", "-j4"],
+                "there is no option -j4; the words of COMMAND come after `--`; see `wq run --help`",
+            ),
+            (
+                ["run", "--exec", "make"],
+                "there is no option --exec; the command comes after `--`, such as: wq run -- make; see `wq run --help`",
+            ),
+            (
+                ["run", "-d", "500", "--", "true"],
+                "there is no option -d; --debounce MS and --delay MS wait before a run, and --dirs is for directories; "
+                "see `wq run --help`",
+            ),
+            (
+                ["run", "--delay", "2.5", "--", "true"],
+                "argument --delay: 2.5 is no number of milliseconds from 0 on; 2.5s is seconds; see `wq run --help`",
+            ),
+            (
+                ["trigger", "-n", "build", "--", "make"],
+                "there is no option -n; the name comes first, such as: wq trigger build '*.c' -- make; see "
+                "`wq trigger --help`",
+            ),
+            (
+                ["find", ".", "-delete"],
+                "there is no option -delete; -X rm runs rm with what is found; see `wq find --help`",
+            ),
+            (
+                ["wait", "-e", "modify", "src"],
+                "-e is for suffixes, and modify is an event: leave it out, since each change is told",
+            ),
+            (
+                ["find", "scr"],
+                "scr is no directory here; did you mean src?; write '*scr*' for names that contain it, or './scr' for a "
+                "file of that name",
+            ),
+            (["kill"], "there is no command kill; did you mean stop?; `wq --help` says which there are"),
+            (["-V"], "there is no option -V; did you mean --version?; `wq --help` says which there are"),
+        ):
+            wrong(self, scene, words, reason)
+        piped = scene.call(["run", "cat"], b"src/a.c\n").errors
+        self.same(
+            "names in a pipe", piped, said(f"{dashes} -- cat; names are words of it, and standard input is not read")
+        )
