@@ -4,6 +4,7 @@ import os
 import pty
 import signal
 import subprocess
+import sys
 import termios
 import time
 from typing import List
@@ -140,6 +141,22 @@ class WaysOfRuns(Beside):
             (["--delay=-1"], "argument --delay: -1 is no number of milliseconds from 0 on; see `wq run --help`"),
         ):
             wrong(self, scene, ["run", *words, "--", "true"], line)
+
+    def test_unended(self) -> None:
+        """A command that even SIGKILL does not end, as while a file system hangs, does not keep wq."""
+        script = (
+            "import signal, sys; sys.path.insert(0, sys.argv[1]); from wq.commands_run import Command, Run\n"
+            "class Unending(Run):\n"
+            "    def signal(self, number, to_all=True): pass\n"
+            "run = Unending(Command(['sleep', '30'], False, False, True, False), [['sleep', '30']], [], {}, set())\n"
+            "run.begin()\n"
+            "run.end_at_once(signal.SIGTERM, 0.2)\n"
+            "run.process.kill()\n"
+        )
+        began = time.monotonic()
+        ended = built.call([sys.executable, "-IBc", script, str(built.TOP / "clients")], timeout=PATIENCE)
+        self.check("it ends", time.monotonic() - began < 20, [str(ended)])
+        self.check("and says why", b"was killed and does not end: state S\n" in ended.errors, [str(ended.errors)])
 
     def test_own(self) -> None:
         """A command that causes its own next run hears so after the third."""
