@@ -150,9 +150,7 @@ class Finding(Beside):
 
     def check_unknown(self, scene: Scene) -> None:
         """A word that names nothing is a mistake; one that names a file that is gone is none."""
-        unknown = (
-            "scr is no directory here; write '*scr*' for names that contain it, or './scr' for a file of that name"
-        )
+        unknown = "scr is no directory here; did you mean src?; write '*scr*' for names that contain it, or './scr' for a file of that name"
         for command in (["find"], ["since", "-n", "name"], ["follow"], ["wait"], ["run"]):
             ends = ["--", "true"] if command == ["run"] else []
             for words in (["scr", "*.c"], ["*.c", "scr"], ["src", "scr"]):
