@@ -15,8 +15,8 @@ def room() -> str:
 
 
 def fault_of(directory: str) -> str:
-    """Why nothing of a directory may be run; "" if it may. With sudo it may be the cache of another user, who could also
-    rename what is below his home."""
+    """Why nothing of a directory may be run; "" if it may. With sudo it may be the cache of another user, who could
+    also rename what is below his home."""
     found = os.lstat(directory)
     if not stat.S_ISDIR(found.st_mode) or found.st_uid != os.getuid() or found.st_mode & 0o022:
         return f"{directory}: it is no directory that you alone write to"

@@ -11,7 +11,7 @@ from typing import Callable, Dict, List, NamedTuple
 import built
 from case import Case
 from client import PATIENCE
-from test_neighbours import environment_of
+from neighbours import environment_of
 from users import OTHER
 
 UID = os.getuid()
@@ -47,8 +47,10 @@ find_socket 2> /dev/null && echo "$sock"
 
 def said(words: List[str], room: Path, variables: Dict[str, str]) -> str:
     environment = environment_of(room, **variables)
-    streams = {"stdout": subprocess.PIPE, "stderr": subprocess.STDOUT}
-    return subprocess.run(words, cwd=room, env=environment, timeout=PATIENCE, **streams).stdout.decode().strip()
+    ended = subprocess.run(
+        words, cwd=room, env=environment, timeout=PATIENCE, stdout=subprocess.PIPE, stderr=subprocess.STDOUT
+    )
+    return ended.stdout.decode().strip()
 
 
 def by(*words: str) -> Decider:
@@ -153,7 +155,7 @@ class Socknames(Case):
                 self.same(f"{name}: {decider}", found, expected(row, room, places))
 
     def test_bridge(self) -> None:
-        """The quick answer of the command is the same, if it gives one. It needs the socket and the lock of a bridge."""
+        """The quick answer of the command is the same, if it gives one, which needs the socket and lock of a bridge."""
         own = f"wqd-watchman-{UID}"
         places = {SESSION: f"run/{own}/sock", "link": f"link/{own}/sock", OWN: f"tmp/{own}/sock"}
         quick = []

@@ -7,13 +7,13 @@ import subprocess
 import sys
 import termios
 import time
-from typing import List
+from typing import Dict, List, Tuple
 
 import built
 from case import Beside
 from client import PATIENCE
+from runs import Log, change_until, command, has_runs
 from scene import COMMAND, AtTerminal, Scene, called_at_terminal, following, said, wrong
-from test_running import Log, change_until, command, has_runs
 from waiting import wait_until
 
 SHOWS = 'printf "%s %s [%s]\\n" "$WQ_ROOT" "$WQ_CHANGED_COUNT" "$WQ_CHANGED"'
@@ -187,7 +187,8 @@ class WaysOfRuns(Beside):
         """A file that a person edits is not taken for one that the command changes."""
         with Scene(self.room) as scene:
             script = ["--", "sh", "-c", "echo begun; sleep 0.7"]
-            for options in (["--restart"], ["--on-busy", "signal", "--stop-signal", "CONT"], []):
+            ways: List[List[str]] = [["--restart"], ["--on-busy", "signal", "--stop-signal", "CONT"], []]
+            for options in ways:
                 with scene.begin("run", *options, "src", "*.c", *script) as going:
                     self.check(f"a run {options}", going.prints("begun"))
                     for turn in range(5):
@@ -215,7 +216,11 @@ class WaysOfRuns(Beside):
             self.same(
                 "Enter restarts", (found.status, found.text.count("begun"), "SIGTERM" in found.text), (0, 2, True)
             )
-            for variables, end in (({}, "\a"), ({"TERM": "xterm-kitty"}, "\x1b]9;true ended with status 0\a")):
+            terminals: List[Tuple[Dict[str, str], str]] = [
+                ({}, "\a"),
+                ({"TERM": "xterm-kitty"}, "\x1b]9;true ended with status 0\a"),
+            ]
+            for variables, end in terminals:
                 words = ["run", "--once", "--notify", "--", "true"]
                 found = called_at_terminal(scene, words, {**variables, "NO_COLOR": "1"})
                 self.same(f"an end is told by {end!r}", found, AtTerminal(f"wq: true ended with status 0\n{end}", 0))
