@@ -230,8 +230,8 @@ class Typed(Beside):
         self.same("find -q of nothing", scene.wq("find", "*.none", "-q"), built.Ended(b"", b"", 1))
         once = ["--once", "-q", "--on-busy", "queue", "--debounce", "50ms", "-w", "src", "--", "echo", "ran"]
         self.same("run as watchexec has it", scene.names("run", *once), ["ran"])
-        once = "--once --quiet --ext c -i *.h -a --signal HUP --delay 0.1s -- echo"
-        self.same("run as nodemon has it", scene.wq("run", *once.split()), built.Ended(b"\n", b"", 0))
+        words = "--once --quiet --ext c -i *.h -a --signal HUP --delay 0.1s -- echo".split()
+        self.same("run as nodemon has it", scene.wq("run", *words), built.Ended(b"\n", b"", 0))
         for words in (["-r", "-t", "1", "src"], ["--timeout", "100ms"], ["--timeout", "0.002min"]):
             self.same(f"wait {words}", scene.wq("wait", *words), built.Ended(b"", b"", 1))
         for name in ("tool", "empty"):
