@@ -43,7 +43,11 @@ WQ_MAIN = """import os
 import sys
 
 try:
+    from wqclient.archive import keep_bytecode
+
+    keep_bytecode(sys.argv[0])
     from wq.command import main
+
     sys.exit(main(sys.argv[1:], os.path.dirname(os.path.realpath(sys.argv[0]))))
 except KeyboardInterrupt:
     sys.exit(130)

@@ -6,7 +6,7 @@ cell as a tag, and the others below. Comments and lists of links are left out.
 """
 
 import re
-from typing import Callable, Dict, Iterator, List, Tuple
+from typing import Callable, Dict, Iterable, Iterator, List, Tuple
 
 COMMENT = re.compile(r"<!--.*?-->", re.DOTALL)
 # What marks code, bold and slanted text.
@@ -134,7 +134,7 @@ def narrow(rows: List[List[str]]) -> List[str]:
     return lines if max(map(len, lines)) <= COLUMNS else []
 
 
-WRITERS: Dict[str, Callable[[List[str]], object]] = {
+WRITERS: Dict[str, Callable[[List[str]], Iterable[str]]] = {
     "blank": lambda lines: [],
     "heading": heading,
     "table": table,

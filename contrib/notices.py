@@ -6,7 +6,6 @@ on this machine."""
 import hashlib
 import json
 import re
-import sys
 from pathlib import Path
 from typing import Any, Dict, List, Set
 
@@ -140,4 +139,4 @@ def sha(data: bytes) -> Dict[str, str]:
 
 
 if __name__ == "__main__":
-    sys.exit(main())
+    main()

@@ -122,14 +122,15 @@ def require_names(options: object) -> None:
 
 def own_command(command: str) -> str:
     """The command of wq that Watchman has by this word."""
-    from .other_words import COMMANDS
+    from .other_words import COMMANDS, MEANT
     from .vocabulary import meant
     from .words import FORMS
 
     if command in COMMANDS:
         return COMMANDS[command]
     is_option = command.startswith("-")
-    hint = meant(command, ("--help", "--version") if is_option else FORMS).replace('"', "")
+    other = f"; did you mean {MEANT[command]}?" if command in MEANT else ""
+    hint = other or meant(command, ("--help", "--version") if is_option else FORMS).replace('"', "")
     kind = "option" if is_option else "command"
     raise WrongWords(f"there is no {kind} {command}{hint}; `wq --help` says which there are")
 

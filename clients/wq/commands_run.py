@@ -8,7 +8,9 @@ import tempfile
 from typing import IO, Dict, List, Optional, Set, Tuple, Union
 
 from .names_handed import as_argument, batches
+from .processes import state_of
 from .shell_text import with_names
+from .terminal import say
 from .trouble import Trouble
 
 PLACE = "{}"
@@ -107,7 +109,7 @@ class Run:
         self.environment = environment
         self.signals = signals
         self.process: "Optional[subprocess.Popen[bytes]]" = None
-        self.is_ending = False
+        self.is_ending = self.is_killed = False
         # How the first process ended that did not end well.
         self.fault = 0
 
@@ -156,17 +158,31 @@ class Run:
         except ProcessLookupError:
             pass
 
+    def kill(self) -> None:
+        """Kills the run; the second time a person hears that it does not end, as while a file system hangs."""
+        if not self.is_killed:
+            self.is_killed = True
+            self.signal(signal.SIGKILL)
+        elif self.process is not None:
+            state = state_of(self.process.pid)
+            say(
+                f"{self.command.name}, process {self.process.pid}, was killed and does not end: state {state}", "yellow"
+            )
+
     def end_at_once(self, number: int, grace: float) -> None:
-        """Ends the run, since this command ends: a run that does not go by itself is killed."""
+        """Ends the run, since this command ends: a run that does not go by itself is killed, and then left alone."""
         self.is_ending = True
         if self.process is None or self.has_ended():
             return
         self.signal(number)
-        try:
-            self.process.wait(grace)
-        except (subprocess.TimeoutExpired, KeyboardInterrupt):
-            self.signal(signal.SIGKILL)
-            self.process.wait()
+        was_killed = False
+        while not was_killed:
+            try:
+                self.process.wait(grace)
+                return
+            except (subprocess.TimeoutExpired, KeyboardInterrupt):
+                was_killed = self.is_killed
+                self.kill()
 
 
 def run_once(command: Command, names: List[str], variables: Dict[str, str]) -> int:

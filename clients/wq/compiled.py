@@ -6,13 +6,13 @@ import hashlib
 import os
 import shutil
 import signal
-import stat
 import subprocess
 import tempfile
 import time
 from pathlib import Path
 from typing import Callable, Dict, Iterator, List, Set, Union
 
+from wqclient import cache
 from wqclient.client import Client
 from wqclient.sockets import is_listened_on
 from wqclient.starting import PAUSE, Unstarted, alone, said
@@ -35,8 +35,7 @@ STAY = 600
 
 def room() -> Path:
     """The directory below which programs without proof are kept, also those of `bench/apart`."""
-    above = os.environ.get("XDG_CACHE_HOME", "")
-    return Path(above if os.path.isabs(above) else os.path.expanduser("~/.cache"), "wqd")
+    return Path(cache.room())
 
 
 def program(top: str, tell: Tell) -> Path:
@@ -47,7 +46,10 @@ def program(top: str, tell: Tell) -> Path:
     path = programs / checksum(Path(top)) / "wqd"
     try:
         programs.mkdir(mode=0o700, parents=True, exist_ok=True)
-        require_own(programs)
+        # What is in there is run.
+        fault = cache.fault_of(str(programs))
+        if fault:
+            raise Unstarted(fault)
         with alone(str(programs / "compiling"), lambda: tell(WAITS)):
             if not path.exists():
                 tell(COMPILES)
@@ -57,18 +59,6 @@ def program(top: str, tell: Tell) -> Path:
     except OSError as error:
         raise Unstarted(f"{error.filename}: {error.strerror}") from None
     return path
-
-
-def require_own(directory: Path) -> None:
-    """What is in there is run. With sudo it may be the cache of another user, who could also rename what is below his
-    home."""
-    found = directory.lstat()
-    if not stat.S_ISDIR(found.st_mode) or found.st_uid != os.getuid() or found.st_mode & 0o022:
-        raise Unstarted(f"{directory}: it is no directory that you alone write to")
-    for above in list(directory.resolve().parents)[:3]:
-        found = above.stat()
-        if found.st_uid not in (os.getuid(), 0) or found.st_mode & stat.S_IWOTH and not found.st_mode & stat.S_ISVTX:
-            raise Unstarted(f"{above}: it is no directory of yours alone, and what is kept below is run")
 
 
 def checksum(top: Path) -> str:

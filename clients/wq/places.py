@@ -36,8 +36,23 @@ class UnknownWord(WrongWords):
 
     def __init__(self, word: str, more: str = "") -> None:
         part = "" if "/" in word else f"'*{word}*' for names that contain it, or "
-        super().__init__(f"{word} is no directory here; write {part}'./{word}' for a file of that name{more}")
+        like = f"; did you mean {name_like(word)}?" if name_like(word) else ""
+        super().__init__(f"{word} is no directory here{like}; write {part}'./{word}' for a file of that name{more}")
         self.word = word
+
+
+def name_like(word: str) -> str:
+    """The name of a directory that may have been meant; nothing if none is like the word."""
+    import difflib  # most words are right
+
+    above, name = os.path.split(word)
+    try:
+        with os.scandir(above or ".") as entries:
+            names = [entry.name for entry in entries if entry.is_dir() and entry.name.isprintable()]
+    except (OSError, ValueError):
+        return ""
+    found = difflib.get_close_matches(name, names, 1)
+    return os.path.join(above, found[0]) if found else ""
 
 
 class Places:

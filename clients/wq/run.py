@@ -1,8 +1,13 @@
 """`wq run`: a command that runs now and after each change, one run at a time."""
 
 import argparse
+import os
+import select
+import shlex
 import signal
+import stat
 import sys
+from typing import List
 
 from .changes import FIELDS
 from .commands_run import Command
@@ -18,7 +23,7 @@ KEYS = "; Enter runs it again, q ends, c clears"
 
 def run(options: argparse.Namespace, home: Home) -> int:
     if not options.command:
-        raise WrongWords("run takes `--` and a command after it, such as: wq run '*.c' -- make")
+        raise WrongWords(f"run takes `--` and a command after it, such as: wq run {without_dashes(options.words)}")
     manner = manner_of(options)
     is_alone = manner.on_busy in (RESTART, SIGNAL)
     command = Command(options.command, options.stdin, options.print0, is_alone, options.shell)
@@ -27,6 +32,24 @@ def run(options: argparse.Namespace, home: Home) -> int:
         if not options.quiet and (not options.once or options.postpone):
             say(window.words() + (KEYS if is_terminal(sys.stdin) else ""))
         return Runner(window, command, manner, options).loop()
+
+
+def without_dashes(words: List[str]) -> str:
+    """The words as they may have been meant: the command begins at the first one that is a program, and not there."""
+    from shutil import which
+
+    place = next((place for place, word in enumerate(words) if not os.path.lexists(word) and which(word)), None)
+    example = "'*.c' -- make" if place is None else shlex.join([*words[:place], "--", *words[place:]])
+    return f"{example}; names are words of it, and standard input is not read" if is_input_piped() else example
+
+
+def is_input_piped() -> bool:
+    """Whether a pipe has bytes to read, as names for entr."""
+    if sys.stdin is None or not stat.S_ISFIFO(os.fstat(sys.stdin.fileno()).st_mode):
+        return False
+    poll = select.poll()
+    poll.register(sys.stdin, select.POLLIN)
+    return any(events & select.POLLIN for _, events in poll.poll(0))
 
 
 def manner_of(options: argparse.Namespace) -> Manner:

@@ -87,8 +87,8 @@ class Runner:
         """Does what is due now, and waits for what comes next. Gives the status, if that was the last run."""
         now = time.monotonic()
         if self.run is not None and now >= self.killed_at:
-            self.run.signal(signal.SIGKILL)
-            self.killed_at = NEVER
+            self.killed_at = NEVER if self.run.is_killed else now + GRACE
+            self.run.kill()
         if self.pending.is_due and self.may_act() and now >= self.pending.begins_at():
             self.act(now)
         if self.wait(self.seconds_left(time.monotonic())):

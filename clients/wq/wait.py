@@ -8,7 +8,7 @@ from .changes import FIELDS, File, counted, print_changes
 from .follow import wait as wait_once
 from .follow import waking
 from .home import Home
-from .trouble import FOUND, NOTHING, WrongWords
+from .trouble import FOUND, NOTHING
 from .window import Window
 
 # By these a file of one server is compared with that of the next one.
@@ -16,8 +16,6 @@ STATE = ["type", "size", "mtime_ms"]
 
 
 def wait(options: argparse.Namespace, home: Home) -> int:
-    if options.timeout is not None and not options.timeout >= 0:
-        raise WrongWords("--timeout takes a number of seconds from 0 on")
     end = None if options.timeout is None else time.monotonic() + options.timeout
     gap = "this goes on, unless something changed between"
     with waking() as woken, Window(home, options, gap, takes_names=True, fields=[*FIELDS, *STATE[1:]]) as window:

@@ -1,7 +1,7 @@
 """The options and other words of each command, which argparse reads, and the pages of help."""
 
 import argparse
-from typing import Any, Dict, List, NamedTuple, NoReturn, Tuple
+from typing import Any, Dict, List, NamedTuple, NoReturn, Optional, Tuple
 
 from .trouble import WrongWords
 
@@ -51,17 +51,34 @@ def value(*names: str, help: str, metavar: str, **settings: Any) -> Option:
 
 def milliseconds(word: str) -> int:
     """A number of milliseconds. `500ms` and `2s` are understood too."""
-    number, factor = (word[:-2], 1) if word.endswith("ms") else (word[:-1], 1000) if word.endswith("s") else (word, 1)
-    if not (number.isascii() and number.isdigit()):
-        raise argparse.ArgumentTypeError(f"{word} is no number of milliseconds from 0 on")
-    return int(number) * factor
+    found = seconds_in(word)
+    if found is None and not (word.isascii() and word.isdigit()):
+        hint = f"; {word}s is seconds" if number_of(word) is not None else ""
+        raise argparse.ArgumentTypeError(f"{word} is no number of milliseconds from 0 on{hint}")
+    return int(word) if found is None else round(found * 1000)
 
 
 def seconds(word: str) -> float:
-    try:
-        return float(word)
-    except ValueError:
-        raise argparse.ArgumentTypeError(f"{word} is no number of seconds from 0 on") from None
+    """A number of seconds. `500ms`, `2s` and `1min` are understood too."""
+    found = number_of(word) if seconds_in(word) is None else seconds_in(word)
+    if found is None:
+        raise argparse.ArgumentTypeError(f"{word} is no number of seconds from 0 on")
+    return found
+
+
+def seconds_in(word: str) -> Optional[float]:
+    """The seconds of a time with a unit; none if it is no such."""
+    for unit, factor in (("ms", 0.001), ("s", 1.0), ("min", 60.0), ("m", 60.0), ("h", 3600.0)):
+        if word.endswith(unit):
+            number = number_of(word[: -len(unit)])
+            return None if number is None else number * factor
+    return None
+
+
+def number_of(word: str) -> Optional[float]:
+    """A number from 0 on that is written in digits, perhaps with a dot."""
+    is_number = word.isascii() and word.replace(".", "", 1).isdigit()
+    return float(word) if is_number else None
 
 
 def whole(word: str, first: int = 0) -> int:
@@ -355,12 +372,13 @@ def read(command: str, words: List[str]) -> argparse.Namespace:
     """The words of a command. Those after two dashes are the command that it runs, and else no options."""
     rest: List[str] = []
     words, commands = without_commands(command, words)
-    if "--" in words:
+    has_dashes = "--" in words
+    if has_dashes:
         place = words.index("--")
         words, rest = words[:place], words[place + 1 :]
     words = with_joined_sizes(with_own_words(command, words))
     parser = parser_of(command)
-    found = read_any_order(parser, command, words, () if command in NEEDS_DASHES else rest)
+    found = read_any_order(parser, command, words, () if command in NEEDS_DASHES else rest, has_dashes)
     if command in NEEDS_DASHES:
         found.command = rest
     for name, given in commands.items():
@@ -373,11 +391,14 @@ def read(command: str, words: List[str]) -> argparse.Namespace:
 def with_own_words(command: str, words: List[str]) -> List[str]:
     """The words with those of wq in place of options of other tools."""
     known = options_of(command)
-    if all(not word.startswith("-") or word.partition("=")[0] in known for word in words):
+    are_known = all(not word.startswith("-") or word.partition("=")[0] in known for word in words)
+    # Two of its options have other meanings in inotifywait.
+    may_be_others = command in ("follow", "wait") and any(word in ("-e", "-t") for word in words)
+    if are_known and not may_be_others:
         return words
-    from .other_words import own_words  # most people know those of wq
+    from .other_words import of_inotifywait, own_words  # most people know those of wq
 
-    return own_words(command, words, known)
+    return own_words(command, of_inotifywait(command, words) if may_be_others else words, known)
 
 
 def without_commands(command: str, words: List[str]) -> Tuple[List[str], Dict[str, List[str]]]:
@@ -402,7 +423,7 @@ def with_joined_sizes(words: List[str]) -> List[str]:
     return found
 
 
-def no_option(command: str, word: str) -> str:
+def no_option(command: str, word: str, has_dashes: bool) -> str:
     """That there is no such option, with the one that was probably meant."""
     import difflib  # few are mistyped
 
@@ -411,15 +432,20 @@ def no_option(command: str, word: str) -> str:
     if GONE.get(given) in known:
         return f"there is no option {given}; write {GONE[given]}"
     like = difflib.get_close_matches(given, [name for name in known if name.startswith("--")], 1)
-    return f"there is no option {given}" + (f"; did you mean {like[0]}?" if like else "")
+    dashes = "; the words of COMMAND come after `--`" if command in NEEDS_DASHES and not has_dashes else ""
+    return f"there is no option {given}" + (f"; did you mean {like[0]}?" if like else dashes)
 
 
-def read_any_order(parser: Parser, command: str, words: List[str], rest: Any = ()) -> argparse.Namespace:
+def read_any_order(
+    parser: Parser, command: str, words: List[str], rest: Any = (), has_dashes: bool = False
+) -> argparse.Namespace:
     """Options may be before, between and after the other words. The rest has none."""
     found, left = parser.parse_known_intermixed_args(words)
     if left:
         is_option = left[0].startswith("-") and len(left[0]) > 1
-        parser.error(no_option(command, left[0]) if is_option else f"{command} takes no further words: {left[0]}")
+        parser.error(
+            no_option(command, left[0], has_dashes) if is_option else f"{command} takes no further words: {left[0]}"
+        )
     for word in rest:
         if hasattr(found, "words"):
             found.words = [*found.words, word]

@@ -9,22 +9,14 @@ from typing import Dict, List
 
 import built
 from case import Beside
+from node_version import OLDEST, version
 
 HERE = Path(__file__).resolve().parent
 COMPARE = built.TOP / "clients" / "node" / "compare"
 HISTORIES = 28
-OLDEST = 18
 PATIENCE = 120.0
 # Where Debian has packages for Node.
 MODULES = "/usr/share/nodejs"
-
-
-def version() -> int:
-    """The version of Node, or 0 without one."""
-    if shutil.which("node") is None:
-        return 0
-    ended = subprocess.run(["node", "-p", "process.versions.node.split('.')[0]"], stdout=subprocess.PIPE)
-    return int(ended.stdout) if ended.returncode == 0 else 0
 
 
 def environment(room: Path) -> Dict[str, str]:

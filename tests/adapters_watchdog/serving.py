@@ -34,3 +34,11 @@ def restarted(room: Path, server: Server, interval: int = 50) -> Server:
     """Another server at the socket of one that is killed."""
     server.kill()
     return Server(room, interval=interval, share=50)
+
+
+def made(room: Path) -> Path:
+    root = room / "root"
+    for name in ("a", "d/b", "d/e/c"):
+        (root / name).parent.mkdir(parents=True, exist_ok=True)
+        (root / name).write_text(name)
+    return root

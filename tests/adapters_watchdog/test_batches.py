@@ -2,7 +2,7 @@
 
 import json
 import os
-from typing import Iterator
+from typing import Iterator, List, Optional, Tuple
 
 from case import Case
 from wqd_watchdog.latency import LOOKS, Latency
@@ -37,28 +37,29 @@ class Pieces(Case):
         self.same("a difference", found, [Change("b", A, D), Change("c", A, None), Change("e", None, B)])
 
     def test_roots(self) -> None:
-        for directory, roots, expected in (
+        rows: List[Tuple[str, List[str], Tuple[Optional[str], str]]] = [
             ("/a/b", [], (None, "/a/b")),
             ("/a/b", ["/a"], ("/a", "/a")),
             ("/a/b", ["/a", "/a/b"], ("/a/b", "/a")),
             ("/ab", ["/a"], (None, "/ab")),
             ("/a", ["/"], ("/", "/")),
             ("/a", ["/a/b"], (None, "/a")),
-        ):
+        ]
+        for directory, roots, expected in rows:
             self.same(f"{directory} in {roots}", (nearest(directory, roots), outermost(directory, roots)), expected)
         self.check(
             "no root is free", str(refusal("/a", "E13: too many roots")).startswith("/a: 16 directories are watched")
         )
         self.same("another error", str(refusal("/a", "E60: no memory")), "/a: E60: no memory")
         home = os.path.expanduser("~")
-        for directories, expected in (
+        for directories, common in (
             (["/a/b/c", "/a/b/d"], "/a/b"),
             (["/a/b/c", "/a/b"], "/a/b"),
             (["/a/b", "/a/c"], None),
             (["/a", "/b"], None),
             ([f"{home}/a", f"{home}/b"], None),
         ):
-            self.same(f"what {directories} have in common", in_common(directories), expected)
+            self.same(f"what {directories} have in common", in_common(directories), common)
 
     def test_latency(self) -> None:
         """A file system is slow if some of the last looks took long."""

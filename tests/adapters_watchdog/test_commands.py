@@ -48,7 +48,8 @@ class Commands(Case):
             (status, output[:1], errors),
             (0, ["Runs a tool that watches files by Python's watchdog, and has wqd watch them."], []),
         )
-        for words in ([], ["--frob"], ["-m"]):
+        wrong: List[List[str]] = [[], ["--frob"], ["-m"]]
+        for words in wrong:
             status, output, errors = said(*words)
             self.same(f"the words {words}", (status, output, len(errors) > 3), (2, [], True))
         self.same("no such command", said("no-such"), (1, [], ["wqd_watchdog: there is no command no-such"]))

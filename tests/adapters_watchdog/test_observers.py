@@ -1,6 +1,5 @@
 """The observer beside watchdog's own polling."""
 
-import os
 import shutil
 import subprocess
 import sys
@@ -10,48 +9,19 @@ from typing import Callable, List, Set, Tuple
 
 import built
 from case import Case
-from client import PATIENCE, Server
-from serving import needs_watchdog, served
-from test_trees import made
-from waiting import look_until
+from client import Server
+from serving import made, needs_watchdog, served
 
 needs_watchdog()
 
-from watchdog.events import FileSystemEvent, FileSystemEventHandler
-from watchdog.observers.api import BaseObserver
+from recording import TIMEOUT, Recorder
 from watchdog.observers.polling import PollingObserver
 from wqd_watchdog import WqdObserver
 from wqd_watchdog.wqclient.kept import STOPS, keep, run_of
 
-TIMEOUT = 0.1
 HISTORIES = "6"
 # How long an event is waited for that should not come.
 SILENCE = 0.5
-
-
-class Recorder(FileSystemEventHandler):
-    """What an observer said of a watch."""
-
-    def __init__(self, observer: BaseObserver, path: Path, is_recursive: bool = True) -> None:
-        self.path = path
-        self.events: List[Tuple[str, str, bool]] = []
-        self.watch = observer.schedule(self, str(path), recursive=is_recursive)
-
-    def on_any_event(self, event: FileSystemEvent) -> None:
-        self.events.append((event.event_type, os.path.relpath(event.src_path, self.path), event.is_directory))
-
-    def said(self) -> Set[str]:
-        """The events, but for directories whose time changed."""
-        return {
-            f"{kind} {path}{'/' if is_directory else ''}"
-            for kind, path, is_directory in list(self.events)
-            if not (kind == "modified" and is_directory)
-        }
-
-    def waits_for(self, expected: Set[str]) -> Set[str]:
-        found = look_until(self.said, expected.issubset, PATIENCE / 4)
-        self.events.clear()
-        return found
 
 
 STEPS: List[Tuple[Callable[[Path], object], Set[str]]] = [

@@ -16,7 +16,7 @@ from waiting import look_until, wait_until
 
 needs_watchdog()
 
-from test_observers import TIMEOUT, Recorder
+from recording import TIMEOUT, Recorder
 from wqd_watchdog import WqdObserver, emitter, server
 from wqd_watchdog.wqclient.kept import STOPS, keep, run_of
 from wqd_watchdog.wqclient.own_roots import set_own_root

@@ -8,21 +8,13 @@ from typing import Dict, List
 
 from case import Case
 from client import PATIENCE
-from serving import restarted, served
+from serving import made, restarted, served
 from waiting import wait_until
 from wqd_watchdog.connection import GONE
 from wqd_watchdog.rows import Change
 from wqd_watchdog.server import Server
 from wqd_watchdog.tree import Gone, Replaced, Tree
 from wqd_watchdog.trouble import Lost, Unserved
-
-
-def made(room: Path) -> Path:
-    root = room / "root"
-    for name in ("a", "d/b", "d/e/c"):
-        (root / name).parent.mkdir(parents=True, exist_ok=True)
-        (root / name).write_text(name)
-    return root
 
 
 def kinds(tree: Tree, root: Path) -> Dict[str, bool]:
@@ -110,11 +102,11 @@ class Trees(Case):
             (outside / "f").write_text("longer")
             (self.room / "none").touch()
             tree.look()
-            found = [each for each in changes_of(tree, 2) if "/" not in each]
-            self.same("where links lead", found, ["~ file", "+ nowhere"])
+            changes = [each for each in changes_of(tree, 2) if "/" not in each]
+            self.same("where links lead", changes, ["~ file", "+ nowhere"])
             (root / "directory").unlink()
-            found = [each for each in changes_of(tree, 5) if each != "~ directory/f"]
-            self.same("a link that goes", found, [f"- {name}" for name in sorted(linked)])
+            changes = [each for each in changes_of(tree, 5) if each != "~ directory/f"]
+            self.same("a link that goes", changes, [f"- {name}" for name in sorted(linked)])
             tree.close()
             self.same("no root is left", running.client().ask("watch-list")["roots"], [])
             server.close()

@@ -6,11 +6,11 @@ import subprocess
 import sys
 from pathlib import Path
 from types import ModuleType
-from typing import Dict, List, Optional
+from typing import Callable, Dict, List, Optional
 
 import built
 from client import PATIENCE, Client, Server, client_of
-from waiting import wait_until
+from waiting import look_until, wait_until
 
 sys.path[:0] = [str(built.TOP / "clients")]
 
@@ -147,3 +147,8 @@ def make_files(root: Path, names: List[str]) -> None:
             path.mkdir(exist_ok=True)
         else:
             path.write_text(name)
+
+
+def text_of(path: Path, is_right: Callable[[str], object]) -> str:
+    """The text of a file, as soon as it is right."""
+    return look_until(lambda: path.read_text() if path.exists() else "", is_right)

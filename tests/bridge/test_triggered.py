@@ -4,14 +4,12 @@ log."""
 import contextlib
 import json
 import time
-from pathlib import Path
-from typing import Callable, Dict
+from typing import Dict
 
-from bridged import VERSION, Bridge, make_files
+from bridged import VERSION, Bridge, make_files, text_of
 from case import Case
 from test_configured import set_for
 from test_lists import move_in
-from waiting import look_until
 
 # So many clients the server takes.
 PLACES = 32
@@ -21,11 +19,6 @@ SHOWN = f'cat; pwd; for word; do echo "$word"; done; echo "{VARIABLES}"'
 
 def trigger_of(name: str, keys: Dict[str, object]) -> Dict[str, object]:
     return {"name": name, "command": ["sh", "-c", SHOWN, "sh"], "expression": ["suffix", "c"], **keys}
-
-
-def text_of(path: Path, is_right: Callable[[str], object]) -> str:
-    """The text of a file, as soon as it is right."""
-    return look_until(lambda: path.read_text() if path.exists() else "", is_right)
 
 
 # What `trigger ROOT u *.c -X b* -- true x` registers.

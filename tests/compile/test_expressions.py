@@ -18,7 +18,7 @@ from cases import count_term, expected_cases, terms_in
 from document import Table, read_page
 from draws import Draws, array
 from notation import expand
-from replay import turns
+from replay import Turn, turns
 from scripted import FIRST, FIRST_ROOT
 from unproved import answers
 from views import View
@@ -56,7 +56,9 @@ class Asked(NamedTuple):
 
 def view_of(tree: bytes) -> View:
     """The view of the plain program after the passes of a tree."""
-    return list(turns(tree + b'ask 1 ["clock","/r"]\n'))[-1].view
+    last = list(turns(tree + b'ask 1 ["clock","/r"]\n'))[-1]
+    assert isinstance(last, Turn)
+    return last.view
 
 
 def asked(name: str, expression: str, *known: Any) -> Asked:

@@ -5,7 +5,7 @@ fail."""
 import itertools
 from concurrent.futures import ThreadPoolExecutor
 from pathlib import Path
-from typing import Callable, Dict, Iterator, List, NamedTuple, Optional, Sequence, Set, Tuple, Union
+from typing import Callable, Dict, Iterator, List, NamedTuple, Optional, Sequence, Set, Tuple, Type, Union
 
 from case import Case
 from client import A_HOUR, Client, Server
@@ -48,7 +48,7 @@ class Pair(NamedTuple):
     def through(self, log: Path) -> List[str]:
         names = sorted({call for call, _ in self})
         if len(names) == 1:
-            low, high = self.first[1], self.second[1]
+            low, high = int(self.first[1]), int(self.second[1])
             rules = [rule(names[0], f"{low}..{high}+{high - low}")]
         else:
             rules = [rule(call, str(number)) for call, number in self]
@@ -144,7 +144,8 @@ def queries(room: Path, pair: Pair) -> List[str]:
         if not watched(server, root):
             return ["the root is not watched"]
         make_tree(root)
-        follower = (Caller if pair.is_cut() else Follower)(server, root, pair.lost())
+        kind: Type[Union[Caller, Follower]] = Caller if pair.is_cut() else Follower
+        follower = kind(server, root, pair.lost())
         follower.follow({"a", "d", "d/b"})
         (root / "a").unlink()
         follower.follow({"d", "d/b"})

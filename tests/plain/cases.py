@@ -135,7 +135,7 @@ def count_cases(script: bytes, counts: Counter) -> None:
 
 def count_turn(turn: Turn, counts: Counter) -> None:
     count_told(turn, counts)
-    if turn.reply is None:
+    if turn.reply is None or turn.line is None:
         return
     reply = read(turn.reply)
     if "error" in reply:
@@ -149,6 +149,7 @@ def count_turn(turn: Turn, counts: Counter) -> None:
         count_roots(reply, counts)
         count_triggers(reply, counts)
     else:
+        assert turn.query is not None
         count_query(read(turn.line)[2], turn.query, turn.view, counts)
 
 

@@ -120,19 +120,19 @@ def turns(script: bytes) -> Iterator[Played]:
     server = Server()
     sessions: Dict[int, Session] = {}
     begun = ListingBegins(0, False)
-    rows: Optional[List[Row]] = None
+    rows: List[Row] = []
+    is_inside = False
     for number, line in lines_of(script):
         said = line_said(number, line)
-        is_inside = rows is not None
         if is_inside != isinstance(said, (Row, ListingEnds)):
             raise Malformed(number, "in a pass" if is_inside else "outside of a pass")
         if isinstance(said, ListingBegins):
-            begun, rows = said, []
+            begun, rows, is_inside = said, [], True
         elif isinstance(said, Row):
             rows.append(said)
         elif isinstance(said, ListingEnds):
             end_listing(number, server, begun, rows)
-            rows = None
+            is_inside = False
         elif isinstance(said, Ask):
             answered = answer(said.line, sessions.setdefault(said.client, Session()), server)
             told = [] if answered.told is None else [answered.told]

@@ -4,7 +4,7 @@ import json
 from typing import List
 
 import built
-from replay import turns
+from replay import Turn, turns
 from wqprogram.records import Record
 
 TREE = built.TOP / "tests" / "compile" / "tree"
@@ -22,4 +22,6 @@ def replies_to(lines: List[str]) -> List[dict]:
 
 def records_of(tree: bytes) -> List[Record]:
     """The records of the plain program after the passes of a tree."""
-    return list(turns(tree + b'ask 1 ["clock","/r"]\n'))[-1].view.records
+    last = list(turns(tree + b'ask 1 ["clock","/r"]\n'))[-1]
+    assert isinstance(last, Turn)
+    return last.view.records

@@ -116,7 +116,7 @@ class DrawnPrograms(Case):
             added = next(replies)
             name = f"drawn file {number + 1} of version {version}: {one.file.hex()}"
             self.check(f"explain, {name}", one.line == line_of(added), [one.line, str(added)])
-            if one.may_run:
+            if one.may_run and one.program is not None:
                 self.check_runs(name, one.program, records, next(replies)["files"], records[number % len(records)])
         ran, file_faults = sum(one.may_run for one in asked), sum(one.program is None for one in asked)
         counts = f"{len(asked)} drawn files of version {version}: {ran} may run, {file_faults} are no program files"

@@ -25,6 +25,10 @@ class Worked(NamedTuple):
     code: str
     constants: Tuple[str, ...] = ()
 
+    def file(self, version: int = 1) -> bytes:
+        tables = dict(zip(("numbers", "texts", "lists", "patterns", "sets"), self.constants))
+        return file_of(self.code, version=version, **tables)
+
 
 ONE_OF_EACH = 'nums\n1\ntexts\n"a"\nlists\n["a"]\npatterns\n"a"\nsets\n["a"]\ncode\n'
 
@@ -308,10 +312,10 @@ class WorkedPrograms(Case):
     def test_worked(self) -> None:
         for worked in [*WORKED, WRITTEN, WRITTEN_SETS]:
             found = assembled(worked.text.encode("utf-8"))
-            file = file_of(worked.code, *worked.constants, version=found.version.number)
+            file = worked.file(found.version.number)
             self.same(worked.name, written(found.program, found.version), file)
         for worked in (WRITTEN, WRITTEN_SETS):
-            file = file_of(worked.code, *worked.constants)
+            file = worked.file()
             self.same(worked.name, disassembled(read(file), version_of(file)), worked.text)
         self.same("explain", explained(read(LARGE)), EXPLAINED)
         record = record_of_row(b"f 6 1000 a", Clocks(1, 1, 1, 1), exists=True)
@@ -352,7 +356,7 @@ class WorkedPrograms(Case):
                 f"the mark in {code!r}", [lines.index(line) for line in marked], [looked.place + 2 if code else 1]
             )
             self.same(f"the line of {code!r}", lines[-1], said(file))
-            seen.add(looked.fault)
+            seen.add(looked.fault or 0)
         self.same("the faults of programs", sorted(seen), list(range(1, 11)))
         for digits, line in FILE_FAULTS:
             self.same(f"the file {digits}", file_sentence(digits).split(":")[0], line)

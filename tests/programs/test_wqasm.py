@@ -225,13 +225,14 @@ class CommandLine(Case):
         for words, message in WRONG_RECORDS:
             ended = called("run", str(file), "--record", *words)
             self.same(f"record {words}", ended, built.Ended(b"", f"wqasm: {message}\n".encode(), 2))
-        for words, answer in (
+        rows: List[Tuple[List[str], str]] = [
             ([], "yes"),
             (["--deleted"], "no"),
             (["--cclock", "3"], "yes"),
             (["--oclock", "2"], "no"),
             (["--deleted", "--osec", "5"], "yes"),
-        ):
+        ]
+        for words, answer in rows:
             ended = called("run", str(file), "--record", "f 12 1000 src/a.c", *words)
             last = ended.output.decode().splitlines()[-1]
             self.same(f"run {words}", (last, ended.status), (f"{answer} at a cost of 8, of at most 8", 0))

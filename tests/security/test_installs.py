@@ -11,6 +11,8 @@ from client import PATIENCE
 from users import OTHER, of_two_users
 
 ALL = ("--as-watchman", "--adapters")
+# An install, and a removal.
+WAYS: List[List[str]] = [[], ["--remove"]]
 NO_LINK = b"it is no directory, and a link is not followed"
 
 
@@ -69,7 +71,7 @@ class Installs(Beside):
         (prefix / "lib" / "wqd").mkdir(parents=True)
         (prefix / "evil").symlink_to(precious)
         (precious / "shadow").write_text("words")
-        for words in ([], ["--remove"]):
+        for words in WAYS:
             (prefix / "lib" / "wqd" / "files").write_text("evil/shadow\n")
             ended = install(self.room, *words, str(prefix))
             said = f"install: {prefix}/evil: ".encode() + NO_LINK in ended.errors
@@ -102,7 +104,7 @@ class Installs(Beside):
             planted.chmod(mode)
             os.chown(planted, owner, owner)
             kept.write_text("words")
-            for words in ([], ["--remove"]):
+            for words in WAYS:
                 ended = install(self.room, *words, str(prefix))
                 found = (ended.status, reason in ended.errors.decode(), kept.exists())
                 self.same(f"./install {words}: {reason}", found, (1, True, True))
@@ -141,7 +143,7 @@ class Installs(Beside):
             precious.write_text("words")
             (prefix / "lib" / "wqd").mkdir(parents=True, exist_ok=True)
             (prefix / "lib" / "wqd" / "files").write_text(f"{line}\n")
-            for words in (["--remove"], []):
+            for words in reversed(WAYS):
                 ended = install(self.room, *words, str(prefix))
                 self.same(f"the line {line}", (ended.status, b"names what is not below" in ended.errors), (1, True))
             self.same("what it names", precious.read_text(), "words")

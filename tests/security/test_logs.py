@@ -3,7 +3,7 @@
 import os
 import subprocess
 from pathlib import Path
-from typing import Dict
+from typing import Dict, List, Tuple
 
 import built
 from case import Beside
@@ -89,7 +89,11 @@ class Logs(Beside):
         environment.pop("XDG_CACHE_HOME", None)
         (room / "open").mkdir()
         (room / "open").chmod(0o777)
-        for values, culprit in (({}, room / "home"), ({"XDG_CACHE_HOME": str(room / "open")}, room / "open")):
+        rows: List[Tuple[Dict[str, str], Path]] = [
+            ({}, room / "home"),
+            ({"XDG_CACHE_HOME": str(room / "open")}, room / "open"),
+        ]
+        for values, culprit in rows:
             ended = subprocess.run(
                 [built.TOP / "contrib" / "unproved"],
                 env={**environment, **values},

@@ -4,10 +4,9 @@ import shutil
 import subprocess
 from typing import List
 
-from bridged import Bridge, make_files
+from bridged import Bridge, make_files, text_of
 from case import Beside
 from scene import Scene
-from test_triggered import text_of
 
 HOSTILE = [
     "-specs=evil.c",

@@ -15,13 +15,13 @@ from bridge.faults import Ended
 from bridge.link import Link
 from case import Beside
 from client import PATIENCE
-from test_neighbours import HOOK, environment_of
+from neighbours import HOOK, environment_of
 from users import FORGED, for_all, given, of_two_users, other, serve
 from waiting import wait_until
 from wqclient.client import Client
 
 sys.path[:0] = [str(built.TOP / "tests" / "adapters_node")]
-from test_node import OLDEST, version
+from node_version import OLDEST, version
 
 TRIES = 1_000
 # So long each of the two directories has the name, in seconds.
@@ -99,7 +99,7 @@ class Races(Beside):
         with other(rename, str(attack), str(target)):
             wait_until(lambda: (place / "aside").exists())
             found = run(environment)
-        forged = [text for text in found if FORGED["clock"] in text or "planted" in text]
+        forged = [text for text in found if str(FORGED["clock"]) in text or "planted" in text]
         seen = {text.partition(begin)[2][:200] if begin else text[:200] for text in found}
         self.same("forged answers", forged, [])
         self.check("the other user was seen too", len(seen) > 1, sorted(seen))

@@ -53,8 +53,8 @@ class Settings(Beside):
             (root / ".watchmanconfig").write_text(text)
         with Bridge(self.room) as bridge, bridge.client() as client:
             for number in range(7):
-                root = str(self.room / str(number))
-                reply = client.ask("subscribe", root, "s", {"fields": ["name"]})
+                path = str(self.room / str(number))
+                reply = client.ask("subscribe", path, "s", {"fields": ["name"]})
                 self.same(f"a subscription with the settings {number}", reply.get("subscribe"), "s")
                 self.same("its first list", client.reply().get("subscription"), "s")
-                self.same("the settings told", "error" in client.ask("get-config", root), False)
+                self.same("the settings told", "error" in client.ask("get-config", path), False)

@@ -108,22 +108,20 @@ class Shown(Beside):
                 "WATCHMAN_SOCK": str(scene.runtime / ESCAPES / "s"),
             }
             program = built.TOP / "examples" / "large.program"
-            for words in (
-                [built.TOP / "clients/wqasm", "explain", ESCAPES],
-                [built.TOP / "clients/wqasm", ESCAPES],
-                [built.TOP / "clients/wqasm", "add", "x", program],
-                [built.TOP / "clients/watchman", f"--{ESCAPES}"],
-                [built.TOP / "clients/watchman", "--no-spawn", "--no-local", "watch-list"],
-                [built.TOP / "contrib/git-fsmonitor-hook", "2", ""],
+            for command, *rest in (
+                ["clients/wqasm", "explain", ESCAPES],
+                ["clients/wqasm", ESCAPES],
+                ["clients/wqasm", "add", "x", str(program)],
+                ["clients/watchman", f"--{ESCAPES}"],
+                ["clients/watchman", "--no-spawn", "--no-local", "watch-list"],
+                ["contrib/git-fsmonitor-hook", "2", ""],
             ):
                 ended = subprocess.run(
-                    [str(word) for word in words],
+                    [str(built.TOP / command), *rest],
                     cwd=scene.tree,
                     env=environment,
                     stdout=subprocess.DEVNULL,
                     stderr=subprocess.PIPE,
                 )
                 text = ended.stderr.decode()
-                self.same(
-                    f"an error of {words[0].name} {words[1]!a}", (harm_in(text), "Traceback" in text), ([], False)
-                )
+                self.same(f"an error of {command} {rest[0]!a}", (harm_in(text), "Traceback" in text), ([], False))

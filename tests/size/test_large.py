@@ -123,7 +123,7 @@ def pass_text(rows: List[bytes], second: int) -> bytes:
 def view_of(passes: List[List[bytes]]) -> View:
     history = History()
     for second, rows in enumerate(passes, 100):
-        said: List[Row] = [read_line(line) for line in rows]
+        said = [one for one in map(read_line, rows) if isinstance(one, Row)]
         history.add(pass_of(second, said))
     return history.view()
 

@@ -2,6 +2,7 @@
 own."""
 
 import contextlib
+import json
 import os
 import pty
 import re
@@ -10,7 +11,7 @@ import signal
 import subprocess
 import time
 from pathlib import Path
-from typing import Callable, Dict, List, NamedTuple, Optional, Sequence, Tuple
+from typing import Any, Callable, Dict, List, NamedTuple, Optional, Sequence, Tuple, Union
 
 import built
 from case import Case
@@ -18,6 +19,8 @@ from client import PATIENCE, Client
 from waiting import wait_until
 
 COMMAND = str(built.TOP / "wq")
+# A word of a command line.
+Word = Union[str, bytes, Path]
 # In milliseconds: how soon the server looks again, so that nothing waits for a second.
 INTERVAL = "40"
 # So long, in seconds, a scene waits for its server to be gone.
@@ -76,23 +79,25 @@ class Scene:
         path.parent.mkdir(parents=True, exist_ok=True)
         path.write_text(text)
 
-    def call(self, words: List[object], enters: bytes = b"", **environment: str) -> built.Ended:
+    def call(self, words: Sequence[Word], enters: bytes = b"", **environment: str) -> built.Ended:
         """A call in the tree, with a standard input."""
         ended = built.call(
             [COMMAND, *words], input=enters, cwd=self.tree, env={**self.environment, **environment}, timeout=PATIENCE
         )
         return ended if self.shows_delays else ended._replace(errors=without_delays(ended.errors))
 
-    def wq(self, *words: object, **environment: str) -> built.Ended:
-        return self.call(list(words), **environment)
+    def wq(self, *words: Word, **environment: str) -> built.Ended:
+        return self.call(words, b"", **environment)
 
-    def names(self, *words: object) -> List[str]:
+    def names(self, *words: Word) -> List[str]:
         """The lines that a call writes, if it ends well and says nothing else."""
         ended = self.wq(*words)
         return ended.output.decode().splitlines() if (ended.status, ended.errors) == (0, b"") else [str(ended)]
 
-    def begin(self, *words: object, **settings: object) -> "Going":
-        return Going(self, [str(word) for word in words], **settings)
+    def begin(
+        self, *words: Word, output: Optional[int] = None, ignores: Optional[int] = None, **environment: str
+    ) -> "Going":
+        return Going(self, words, output, ignores, **environment)
 
     def roots(self) -> List[str]:
         """The roots that the server watches."""
@@ -119,7 +124,7 @@ class Going:
     def __init__(
         self,
         scene: Scene,
-        words: List[str],
+        words: Sequence[Word],
         output: Optional[int] = None,
         ignores: Optional[int] = None,
         **environment: str,
@@ -184,6 +189,29 @@ class Going:
         self.read(0)
         self.read(0)
         return self.process.wait(1)
+
+
+def facts(scene: Scene) -> Dict[str, Any]:
+    """What `wq status` says."""
+    found: Dict[str, Any] = json.loads(scene.wq("status", "--json").output)
+    return found
+
+
+def write_until(scene: Scene, going: Going, name: str, is_so: Callable[[Going], object]) -> None:
+    """Writes a file again and again until this is so: when a subscription begins is not told."""
+    turns = iter(range(10_000))
+
+    def has_come(one: Going) -> bool:
+        if not is_so(one):
+            scene.write(name, "x" * (next(turns) % 50 + 1))
+        return bool(is_so(one))
+
+    going.waits_for(has_come)
+
+
+def touch_until(scene: Scene, going: Going, name: str) -> None:
+    """Changes a file until that is told."""
+    write_until(scene, going, name, lambda one: one.output)
 
 
 def hear(ignored: Optional[int]) -> None:
@@ -258,6 +286,6 @@ def said(*lines: str) -> bytes:
     return "".join(f"wq: {line}\n" for line in lines).encode()
 
 
-def wrong(case: Case, scene: Scene, words: List[object], *lines: str, status: int = 2) -> None:
+def wrong(case: Case, scene: Scene, words: Sequence[Word], *lines: str, status: int = 2) -> None:
     """A call that is refused with these lines."""
     case.same(f"wq {words}", scene.call(words), built.Ended(b"", said(*lines), status))

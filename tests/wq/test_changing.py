@@ -4,16 +4,17 @@ import json
 import os
 import shutil
 import signal
+from typing import List, Tuple
 
 import built
 from case import Beside
-from scene import Going, Scene, following, said, wrong
+from scene import Scene, following, said, touch_until, wrong
 
 FIRST = b"+ Makefile\n+ src/a.c\n+ src/b b.c\n+ src/deep/c.h\n"
 
 
 # Questions, and what each is told of src/deep/d.h, src/e.c and dir/f.c.
-QUESTIONS = (
+QUESTIONS: List[Tuple[List[str], List[str]]] = [
     (["-n", "q", "src"], ["+ src/deep/d.h", "+ src/e.c"]),
     (["-n", "q", "dir"], ["+ dir/f.c"]),
     (["-n", "q", "src", "*.h"], ["+ src/deep/d.h"]),
@@ -22,7 +23,7 @@ QUESTIONS = (
     ([], ["+ dir/f.c", "+ src/deep/d.h", "+ src/e.c"]),
     (["*.h"], ["+ src/deep/d.h"]),
     (["-n", "q", "dir", "src"], ["+ dir/f.c", "+ src/deep/d.h", "+ src/e.c"]),
-)
+]
 
 
 class Changing(Beside):
@@ -216,12 +217,6 @@ def is_followed(scene: Scene) -> bool:
     """Whether the root is watched. The subscription comes a moment later."""
     with scene.client() as client:
         return str(scene.tree) in client.ask("watch-list")["roots"]
-
-
-def touch_until(scene: Scene, going: Going, name: str) -> None:
-    """Changes a file until that is told: when the subscription begins is not told."""
-    turns = iter(range(10_000))
-    going.waits_for(lambda one: one.output or scene.write(name, "x" * (next(turns) % 50 + 1)))
 
 
 def closed_pipe(scene: Scene) -> tuple:

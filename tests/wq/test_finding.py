@@ -4,12 +4,12 @@ import json
 import os
 import subprocess
 import time
-from typing import Callable
+from typing import Callable, List, Tuple
 
 import built
 from case import Beside
 from client import Client
-from scene import Scene, said, wrong
+from scene import Scene, Word, said, wrong
 
 C_FILES = ["src/a.c", "src/b b.c"]
 
@@ -29,7 +29,7 @@ class Finding(Beside):
     def check_globs(self, scene: Scene) -> None:
         """Globs of the last part of names and of whole names, directories, and what is left out."""
         everything = ["Makefile", "src", *C_FILES, "src/deep", "src/deep/c.h"]
-        for words, expected in (
+        rows: List[Tuple[List[Word], List[str]]] = [
             ([], everything),
             (["."], everything),
             ([".", "*.c"], C_FILES),
@@ -62,7 +62,8 @@ class Finding(Beside):
             (["--exclude", "deep", "--exclude", "Make*"], ["src", *C_FILES]),
             (["--exclude", "src/deep"], ["Makefile", "src", *C_FILES]),
             (["src", "--exclude", "/deep"], C_FILES),
-        ):
+        ]
+        for words, expected in rows:
             self.same(f"find {words}", scene.names("find", *words), expected)
         self.same("find in another directory", scene.names("find", scene.tree / "src", "a*"), [f"{scene.tree}/src/a.c"])
 
@@ -151,7 +152,8 @@ class Finding(Beside):
     def check_unknown(self, scene: Scene) -> None:
         """A word that names nothing is a mistake; one that names a file that is gone is none."""
         unknown = (
-            "scr is no directory here; write '*scr*' for names that contain it, or './scr' for a file of that name"
+            "scr is no directory here; did you mean src?; write '*scr*' for names that contain it, or './scr' for a "
+            "file of that name"
         )
         for command in (["find"], ["since", "-n", "name"], ["follow"], ["wait"], ["run"]):
             ends = ["--", "true"] if command == ["run"] else []
@@ -195,13 +197,14 @@ class Finding(Beside):
             ["[x]/y", "[x]/y/target", "[x]/y/target/in"],
         )
         self.same("a glob below it", scene.names("find", "[x]", "y/*", "-H"), ["[x]/y/target"])
-        for words in (
+        not_utf8: List[List[Word]] = [
             ["find", b"\xff"],
             ["since", b"\xff"],
             ["find", ".", b"a\xff"],
             ["watch", b"\xff"],
             ["find", "--program", b"\xff"],
-        ):
+        ]
+        for words in not_utf8:
             ended = scene.call(words)
             self.same(
                 f"{words}",
@@ -301,7 +304,7 @@ class Finding(Beside):
         """The root of a project is watched, and find gives it back."""
         with Scene(self.room) as scene, scene.client() as client:
 
-            def watched() -> object:
+            def watched() -> List[str]:
                 return client.ask("watch-list")["roots"]
 
             scene.names("find", "src")
@@ -335,7 +338,7 @@ class Finding(Beside):
             )
             self.check_shared_roots(scene, client, watched)
 
-    def check_shared_roots(self, scene: Scene, client: Client, watched: Callable[[], object]) -> None:
+    def check_shared_roots(self, scene: Scene, client: Client, watched: Callable[[], List[str]]) -> None:
         """Directories of one project share a root, which others may need."""
         (self.room / "link").symlink_to(scene.tree / "src")
         self.same(

@@ -8,11 +8,11 @@ import signal
 import subprocess
 import sys
 from pathlib import Path
+from typing import List, Tuple
 
 import built
 from case import Beside
-from scene import Scene, said
-from test_changing import touch_until
+from scene import Scene, said, touch_until
 
 TREES, AT_ONCE = 300, 15
 DIRECTORIES = ["a", "b", "build", "a b", ".x"]
@@ -137,7 +137,7 @@ class Ignoring(Beside):
         # Git does not ignore these, so they are listed here.
         left = sorted([*left, "node_modules/x/y.c", "target/z.c"])
         ignored = ["dist/in/y.js", "dist/x.js", "out", "src/a.o", "src/dist/z.js"]
-        for words, expected in (
+        rows: List[Tuple[List[str], List[str]]] = [
             ([], left),
             (["--no-ignore"], sorted([*left, *ignored])),
             (["--gitignore"], left),
@@ -150,7 +150,8 @@ class Ignoring(Beside):
             (["description", "-H"], [".git/description"]),
             (["-H", "--gitignore", "keep.*", "*.js"], ["src/keep.o"]),
             (["--count"], [str(len(left))]),
-        ):
+        ]
+        for words, expected in rows:
             self.same(f"find {words} in a repository", scene.names("find", "-t", "f", *words), expected)
         directories = ["node_modules", "node_modules/x", "src", "src/deep", "target"]
         self.same("an ignored directory", scene.names("find", "-t", "d"), directories)

@@ -27,7 +27,8 @@ def cases() -> List[Wrong]:
     """Wrong requests, their errors, and the sentences on their places."""
     text = (Path(__file__).resolve().parent / "places.cases").read_text(encoding="utf-8")
     text = text.replace("@FIELDS", ", ".join(FIELDS))
-    short = [tuple(part.strip("\n").split("\n")) for part in text.split("\n\n")[1:]]
+    parts = [part.strip("\n").split("\n") for part in text.split("\n\n")[1:]]
+    short = [(request, error, sentence) for request, error, sentence in parts]
     return [*short, *((f'["query","@",{{{keys}}}]', error, sentence) for keys, error, sentence in LONG_ONES)]
 
 

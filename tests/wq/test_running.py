@@ -5,36 +5,12 @@ import os
 import signal
 import time
 from pathlib import Path
-from typing import Callable, List
 
 import built
 from case import Beside
-from scene import Going, Scene, following, said, wrong
+from runs import Log, change_until, command, has_runs
+from scene import Scene, following, said, touch_until, wrong
 from waiting import wait_until
-
-# Appends a line at each run. A file `hold` keeps the run going until it is gone.
-SCRIPT = 'echo run >> "$LOG"; echo "$@" >> "$LOG.names"; while [ -e "$LOG.hold" ]; do sleep 0.01; done'
-
-
-class Log:
-    """The lines that the runs of a command wrote."""
-
-    def __init__(self, scene: Scene) -> None:
-        self.path = scene.room / "log"
-        self.hold = scene.room / "log.hold"
-        scene.environment["LOG"] = str(self.path)
-
-    def runs(self) -> int:
-        return len(self.path.read_text().splitlines()) if self.path.exists() else 0
-
-    def names(self) -> List[str]:
-        path = Path(f"{self.path}.names")
-        return path.read_text().splitlines() if path.exists() else []
-
-    def clear(self) -> None:
-        for path in (self.path, Path(f"{self.path}.names")):
-            if path.exists():
-                path.unlink()
 
 
 class Running(Beside):
@@ -102,8 +78,7 @@ class Running(Beside):
             self.same("two directories", (going.ends(), going.output), (0, b"./src/-z.h\n"))
         wrong(self, scene, ["run", "*.nothing", "--once", "--", "echo", "{}"], "no file matches", status=1)
         with scene.begin("run", "src/deep", "--postpone", "--once", "--", "echo", "{}") as going:
-            turns = iter(range(10_000))
-            going.waits_for(lambda one: one.output or scene.write("src/deep/c.h", "x" * (next(turns) % 50 + 1)))
+            touch_until(scene, going, "src/deep/c.h")
             self.same("run --postpone --once", (going.ends(), going.output), (0, b"./src/deep/c.h\n"))
         with scene.begin("run", "*.nothing", "--", "echo", "{}") as going:
             going.waits_for(lambda _: is_asked(scene))
@@ -161,28 +136,14 @@ class Running(Beside):
             (scene.tree / "plain").write_text("no program")
             wrong(self, scene, ["run", "--once", "--", "./plain"], "./plain: Permission denied", status=126)
             reason = "run takes `--` and a command after it, such as: wq run '*.c' -- make"
-            for words in (["run"], ["run", "*.c"], ["run", "*.c", "--"]):
-                wrong(self, scene, words, reason)
+            for without in (["run"], ["run", "*.c"], ["run", "*.c", "--"]):
+                wrong(self, scene, without, reason)
             wrong(
                 self,
                 scene,
                 ["run", "--debounce=-1", "--", "true"],
                 "argument --debounce: -1 is no number of milliseconds from 0 on; see `wq run --help`",
             )
-
-
-def command(*words: str) -> List[str]:
-    return ["--", "sh", "-c", SCRIPT, "sh", *words]
-
-
-def has_runs(log: Log, count: int) -> Callable[[Going], bool]:
-    return lambda _: log.runs() >= count
-
-
-def change_until(scene: Scene, going: Going, log: Log, runs: int) -> None:
-    """Changes a file until so many runs began: when the subscription begins is not told."""
-    turns = iter(range(10_000))
-    going.waits_for(lambda _: log.runs() >= runs or scene.write("src/a.c", "x" * (next(turns) % 50 + 1)))
 
 
 def is_asked(scene: Scene) -> bool:

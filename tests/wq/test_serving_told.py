@@ -16,7 +16,7 @@ from unittest import mock
 import built
 from case import Beside
 from client import PATIENCE
-from scene import COMMAND, Scene, said, wrong
+from scene import COMMAND, Scene, facts, said, wrong
 from waiting import wait_until
 from wq.answering import require_answers
 from wq.file_systems import hearing_of, mount_of
@@ -123,7 +123,7 @@ class ServingTold(Beside):
         journalctl = self.room / "journalctl"
         journalctl.write_text(f"#!/bin/sh\ncat '{self.room}/journal'\n")
         journalctl.chmod(0o755)
-        server = SimpleNamespace(sockname="/run/wqd.sock", peer=SimpleNamespace(process=os.getpid()))
+        server: Any = SimpleNamespace(sockname="/run/wqd.sock", peer=SimpleNamespace(process=os.getpid()))
         with mock.patch.dict(os.environ, PATH=f"{self.room}:{os.environ['PATH']}"), mock.patch(
             "wq.server_log.is_in_journal", return_value=True
         ), mock.patch("wq.server_log.registered_at", return_value=30):
@@ -480,10 +480,6 @@ class ServingTold(Beside):
 
 def words_of(process: int) -> list:
     return Path(f"/proc/{process}/cmdline").read_text().split("\0")[:-1]
-
-
-def facts(scene: Scene) -> dict:
-    return json.loads(scene.wq("status", "--json").output)
 
 
 def reads(path: Path, text: str) -> bool:

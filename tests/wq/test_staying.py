@@ -13,9 +13,8 @@ from typing import Iterator, List
 import built
 from case import Beside
 from client import PATIENCE
-from scene import Going, Scene, said
+from scene import Going, Scene, facts, said
 from stand_ins import Holding
-from test_serving_told import facts
 from waiting import wait_until
 
 FOLLOWING = r"following ([0-9,]+) files? below (\S+); changes show within about [0-9.]+ s, later under load"
@@ -251,7 +250,8 @@ class Staying(Beside):
                 going.ends(signal.SIGINT)
             self.same("the root of another client stays", scene.names("roots"), [str(scene.tree)])
             names = [str(scene.room / name) for name in "ab"]
-            [os.mkdir(name) for name in names]
+            for name in names:
+                os.mkdir(name)
             self.same(
                 "run --once gives back too",
                 (scene.wq("run", names[0], "--once", "--", "true").status, scene.names("roots")),

@@ -8,7 +8,7 @@ import sys
 import built
 from case import Beside
 from client import PATIENCE
-from scene import COMMAND, Going, Scene, hear, said, wrong
+from scene import COMMAND, Going, Scene, hear, said, write_until, wrong
 
 # Their names fit into a pipe, and not into what a reader takes at once.
 MANY = 500
@@ -162,8 +162,7 @@ def replaced(scene: Scene, name: str, target: str) -> None:
 
 def write_until_end(scene: Scene, going: Going, name: str) -> None:
     """Writes a file until a command ends: what changed before it listens is not told."""
-    turns = iter(range(10_000))
-    going.waits_for(lambda one: one.process.poll() is not None or scene.write(name, "x" * (next(turns) % 50 + 1)))
+    write_until(scene, going, name, lambda one: one.process.poll() is not None)
 
 
 def began(scene: Scene) -> "subprocess.Popen[bytes]":

@@ -3,12 +3,97 @@ the one that there is."""
 
 import os
 import time
+from typing import List, Tuple
 
 import built
 from case import Beside
-from scene import Scene, wrong
+from scene import Scene, said, wrong
 
 C_FILES = ["src/a.c", "src/b b.c"]
+
+
+# Words of find, and the names that it prints, in which @ is the tree.
+LISTED: List[Tuple[List[str], List[str]]] = [
+    (["-i", "A.C", "MAKE*"], ["Makefile", "src/a.c"]),
+    (["--ignore-case", "SRC/*.C"], C_FILES),
+    (["-d", "1"], ["Makefile", "src"]),
+    (["--max-depth", "2", "-t", "f"], ["Makefile", *C_FILES]),
+    (["--min-depth", "3"], ["src/deep/c.h"]),
+    (["src", "--max-depth", "1"], [*C_FILES, "src/deep"]),
+    (["src", "--min-depth", "2", "--max-depth", "2"], ["src/deep/c.h"]),
+    (["-E", "*.c", "-t", "file"], ["Makefile", "src/deep/c.h"]),
+    (["-t", "file", "-t", "dir", "-E", "*.*"], ["Makefile", "src", "src/deep"]),
+    (["--type", "directory"], ["src", "src/deep"]),
+    (["-e", "c,h"], [*C_FILES, "src/deep/c.h"]),
+    (["--extension", "h"], ["src/deep/c.h"]),
+    (["*.{c,h}"], [*C_FILES, "src/deep/c.h"]),
+    (["{Make,src/b}*", "src"], []),
+    (["/{Make*,src}"], ["Makefile", "src"]),
+    (["{a,{b b,x}}.c"], C_FILES),
+    (["{nothing,Makefile}"], ["Makefile"]),
+    (["-E", "{src/d*,*.c}"], ["Makefile", "src"]),
+    (["-a", "Make*"], ["@/Makefile"]),
+    (["-a", "src/deep/"], ["@/src/deep/c.h"]),
+    (["--absolute-path", "./src/..", "*.h"], ["@/src/deep/c.h"]),
+]
+# Words that others have, which are understood.
+FOREIGN = [
+    (["find", "-name", "*.c"], C_FILES),
+    (["find", ".", "-type", "f", "-name", "*.h"], ["src/deep/c.h"]),
+    (["find", "-iname", "*.H"], ["src/deep/c.h"]),
+    (["find", "-maxdepth", "1"], ["Makefile", "src"]),
+    (["find", "--search-path", "src", "-g", "*.c", "-s"], C_FILES),
+    (["find", "-empty"], ["src/empty", "src/tool"]),
+    (["find", "-t", "x"], ["src/tool"]),
+    (["find", "-1"], ["Makefile"]),
+    (["find", "--max-results", "2", "*.c", "src"], C_FILES),
+    (["find", "*.h", "-exec", "echo", "{}", ";"], ["./src/deep/c.h"]),
+    (["ls", "*.h"], ["src/deep/c.h"]),
+]
+DASHES = "run takes `--` and a command after it, such as: wq run"
+# What is to be written in place of words of other tools, and of words that are missing or mistyped.
+HINTS: List[Tuple[List[str], str]] = [
+    (["run", "cat"], f"{DASHES} -- cat"),
+    (["run", "src", "*.c", "sh", "it"], f"{DASHES} src '*.c' -- sh it"),
+    (["run", "src"], f"{DASHES} '*.c' -- make"),
+    (
+        ["run", "make", "-j4"],
+        "there is no option -j4; the words of COMMAND come after `--`; see `wq run --help`",
+    ),
+    (
+        ["run", "--exec", "make"],
+        "there is no option --exec; the command comes after `--`, such as: wq run -- make; see `wq run --help`",
+    ),
+    (
+        ["run", "-d", "500", "--", "true"],
+        "there is no option -d; --debounce MS and --delay MS wait before a run, and --dirs is for directories; "
+        "see `wq run --help`",
+    ),
+    (
+        ["run", "--delay", "2.5", "--", "true"],
+        "argument --delay: 2.5 is no number of milliseconds from 0 on; 2.5s is seconds; see `wq run --help`",
+    ),
+    (
+        ["trigger", "-n", "build", "--", "make"],
+        "there is no option -n; the name comes first, such as: wq trigger build '*.c' -- make; see "
+        "`wq trigger --help`",
+    ),
+    (
+        ["find", ".", "-delete"],
+        "there is no option -delete; -X rm runs rm with what is found; see `wq find --help`",
+    ),
+    (
+        ["wait", "-e", "modify", "src"],
+        "-e is for suffixes, and modify is an event: leave it out, since each change is told",
+    ),
+    (
+        ["find", "scr"],
+        "scr is no directory here; did you mean src?; write '*scr*' for names that contain it, or './scr' for a "
+        "file of that name",
+    ),
+    (["kill"], "there is no command kill; did you mean stop?; `wq --help` says which there are"),
+    (["-V"], "there is no option -V; did you mean --version?; `wq --help` says which there are"),
+]
 
 
 class Typed(Beside):
@@ -22,29 +107,8 @@ class Typed(Beside):
             self.check_foreign(scene)
 
     def check_lists(self, scene: Scene) -> None:
-        for words, expected in (
-            (["-i", "A.C", "MAKE*"], ["Makefile", "src/a.c"]),
-            (["--ignore-case", "SRC/*.C"], C_FILES),
-            (["-d", "1"], ["Makefile", "src"]),
-            (["--max-depth", "2", "-t", "f"], ["Makefile", *C_FILES]),
-            (["--min-depth", "3"], ["src/deep/c.h"]),
-            (["src", "--max-depth", "1"], [*C_FILES, "src/deep"]),
-            (["src", "--min-depth", "2", "--max-depth", "2"], ["src/deep/c.h"]),
-            (["-E", "*.c", "-t", "file"], ["Makefile", "src/deep/c.h"]),
-            (["-t", "file", "-t", "dir", "-E", "*.*"], ["Makefile", "src", "src/deep"]),
-            (["--type", "directory"], ["src", "src/deep"]),
-            (["-e", "c,h"], [*C_FILES, "src/deep/c.h"]),
-            (["--extension", "h"], ["src/deep/c.h"]),
-            (["*.{c,h}"], [*C_FILES, "src/deep/c.h"]),
-            (["{Make,src/b}*", "src"], []),
-            (["/{Make*,src}"], ["Makefile", "src"]),
-            (["{a,{b b,x}}.c"], C_FILES),
-            (["{nothing,Makefile}"], ["Makefile"]),
-            (["-E", "{src/d*,*.c}"], ["Makefile", "src"]),
-            (["-a", "Make*"], [f"{scene.tree}/Makefile"]),
-            (["-a", "src/deep/"], [f"{scene.tree}/src/deep/c.h"]),
-            (["--absolute-path", "./src/..", "*.h"], [f"{scene.tree}/src/deep/c.h"]),
-        ):
+        for words, names in LISTED:
+            expected = [name.replace("@", str(scene.tree)) for name in names]
             ended = scene.wq("find", *words)
             expected_end = built.Ended("".join(f"{name}\n" for name in expected).encode(), b"", 0 if expected else 1)
             self.same(f"find {words}", ended, expected_end)
@@ -159,30 +223,22 @@ class Typed(Beside):
         """An option or a command that others have is taken, if it is understood."""
         (scene.tree / "src" / "tool").touch(0o755)
         (scene.tree / "src" / "empty").touch(0o644)
-        for words, expected in (
-            (["find", "-name", "*.c"], C_FILES),
-            (["find", ".", "-type", "f", "-name", "*.h"], ["src/deep/c.h"]),
-            (["find", "-iname", "*.H"], ["src/deep/c.h"]),
-            (["find", "-maxdepth", "1"], ["Makefile", "src"]),
-            (["find", "--search-path", "src", "-g", "*.c", "-s"], C_FILES),
-            (["find", "-empty"], ["src/empty", "src/tool"]),
-            (["find", "-t", "x"], ["src/tool"]),
-            (["find", "-1"], ["Makefile"]),
-            (["find", "--max-results", "2", "*.c", "src"], C_FILES),
-            (["find", "*.h", "-exec", "echo", "{}", ";"], ["./src/deep/c.h"]),
-            (["ls", "*.h"], ["src/deep/c.h"]),
-        ):
+        for words, expected in FOREIGN:
             self.same(f"wq {words}", scene.names(*words), expected)
         self.same("find --print0", scene.wq("find", "*.h", "--print0").output, b"src/deep/c.h\0")
         self.same("find -q", scene.wq("find", "*.h", "-q"), built.Ended(b"", b"", 0))
         self.same("find -q of nothing", scene.wq("find", "*.none", "-q"), built.Ended(b"", b"", 1))
         once = ["--once", "-q", "--on-busy", "queue", "--debounce", "50ms", "-w", "src", "--", "echo", "ran"]
         self.same("run as watchexec has it", scene.names("run", *once), ["ran"])
+        words = "--once --quiet --ext c -i *.h -a --signal HUP --delay 0.1s -- echo".split()
+        self.same("run as nodemon has it", scene.wq("run", *words), built.Ended(b"\n", b"", 0))
+        for words in (["-r", "-t", "1", "src"], ["--timeout", "100ms"], ["--timeout", "0.002min"]):
+            self.same(f"wait {words}", scene.wq("wait", *words), built.Ended(b"", b"", 1))
         for name in ("tool", "empty"):
             (scene.tree / "src" / name).unlink()
+        self.check_hints(scene)
         for words, reason in (
             (["find", "--jsonl", "-0"], "-0 is for names, and --json and --jsonl print lines: take one out"),
-            (["run", "-d", "500", "--", "true"], "there is no option -d; see `wq run --help`"),
             (["follow", "-x", "echo"], "there is no option -x; see `wq follow --help`"),
             (["find", "--all"], "there is no option --all; write -u; see `wq find --help`"),
             (["find", "--lines"], "there is no option --lines; write --jsonl; see `wq find --help`"),
@@ -194,3 +250,12 @@ class Typed(Beside):
             (["--hlep"], "there is no option --hlep; did you mean --help?; `wq --help` says which there are"),
         ):
             wrong(self, scene, words, reason)
+
+    def check_hints(self, scene: Scene) -> None:
+        """What to write in place of words of other tools, and of words that are missing or mistyped."""
+        for words, reason in HINTS:
+            wrong(self, scene, words, reason)
+        piped = scene.call(["run", "cat"], b"src/a.c\n").errors
+        self.same(
+            "names in a pipe", piped, said(f"{DASHES} -- cat; names are words of it, and standard input is not read")
+        )

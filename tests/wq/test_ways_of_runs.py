@@ -4,15 +4,16 @@ import os
 import pty
 import signal
 import subprocess
+import sys
 import termios
 import time
-from typing import List
+from typing import Dict, List, Tuple
 
 import built
 from case import Beside
 from client import PATIENCE
+from runs import Log, change_until, command, has_runs
 from scene import COMMAND, AtTerminal, Scene, called_at_terminal, following, said, wrong
-from test_running import Log, change_until, command, has_runs
 from waiting import wait_until
 
 SHOWS = 'printf "%s %s [%s]\\n" "$WQ_ROOT" "$WQ_CHANGED_COUNT" "$WQ_CHANGED"'
@@ -141,6 +142,22 @@ class WaysOfRuns(Beside):
         ):
             wrong(self, scene, ["run", *words, "--", "true"], line)
 
+    def test_unended(self) -> None:
+        """A command that even SIGKILL does not end, as while a file system hangs, does not keep wq."""
+        script = (
+            "import signal, sys; sys.path.insert(0, sys.argv[1]); from wq.commands_run import Command, Run\n"
+            "class Unending(Run):\n"
+            "    def signal(self, number, to_all=True): pass\n"
+            "run = Unending(Command(['sleep', '30'], False, False, True, False), [['sleep', '30']], [], {}, set())\n"
+            "run.begin()\n"
+            "run.end_at_once(signal.SIGTERM, 0.2)\n"
+            "run.process.kill()\n"
+        )
+        began = time.monotonic()
+        ended = built.call([sys.executable, "-IBc", script, str(built.TOP / "clients")], timeout=PATIENCE)
+        self.check("it ends", time.monotonic() - began < 20, [str(ended)])
+        self.check("and says why", b"was killed and does not end: state S\n" in ended.errors, [str(ended.errors)])
+
     def test_own(self) -> None:
         """A command that causes its own next run hears so after the third."""
         with Scene(self.room) as scene:
@@ -170,7 +187,8 @@ class WaysOfRuns(Beside):
         """A file that a person edits is not taken for one that the command changes."""
         with Scene(self.room) as scene:
             script = ["--", "sh", "-c", "echo begun; sleep 0.7"]
-            for options in (["--restart"], ["--on-busy", "signal", "--stop-signal", "CONT"], []):
+            ways: List[List[str]] = [["--restart"], ["--on-busy", "signal", "--stop-signal", "CONT"], []]
+            for options in ways:
                 with scene.begin("run", *options, "src", "*.c", *script) as going:
                     self.check(f"a run {options}", going.prints("begun"))
                     for turn in range(5):
@@ -198,7 +216,11 @@ class WaysOfRuns(Beside):
             self.same(
                 "Enter restarts", (found.status, found.text.count("begun"), "SIGTERM" in found.text), (0, 2, True)
             )
-            for variables, end in (({}, "\a"), ({"TERM": "xterm-kitty"}, "\x1b]9;true ended with status 0\a")):
+            terminals: List[Tuple[Dict[str, str], str]] = [
+                ({}, "\a"),
+                ({"TERM": "xterm-kitty"}, "\x1b]9;true ended with status 0\a"),
+            ]
+            for variables, end in terminals:
                 words = ["run", "--once", "--notify", "--", "true"]
                 found = called_at_terminal(scene, words, {**variables, "NO_COLOR": "1"})
                 self.same(f"an end is told by {end!r}", found, AtTerminal(f"wq: true ended with status 0\n{end}", 0))

@@ -10,6 +10,7 @@ const { O_DIRECTORY, O_NOFOLLOW, O_RDONLY } = fs.constants;
 const SOCKET = 'wqd.sock';
 const SUPERUSER = 0;
 const WRITABLE_BY_OTHERS = 0o022;
+const ENTERED_BY_OTHERS = 0o077;
 
 /**
  * The socket at which `wq` looks for a server: WQD_SOCK, else `wqd.sock` in the directory of the session, else in a
@@ -20,7 +21,12 @@ function defaultSockname(environment = process.env) {
   if (environment.WQD_SOCK) return path.resolve(environment.WQD_SOCK);
   const session = environment.XDG_RUNTIME_DIR || '';
   if (session && isOwnDirectory(session)) return path.join(path.resolve(session), SOCKET);
-  return path.join(path.resolve(environment.TMPDIR || '/tmp'), `wqd-${process.getuid()}`, SOCKET);
+  return path.join(ownRoom(environment), SOCKET);
+}
+
+/** The directory of the user's own, if the session has none. */
+function ownRoom(environment = process.env) {
+  return path.join(path.resolve(environment.TMPDIR || '/tmp'), `wqd-${process.getuid()}`);
 }
 
 function isOwnDirectory(directory) {
@@ -40,6 +46,7 @@ function isOwnDirectory(directory) {
  * @returns {() => void} closes the directory; to be called when the path is needed no more
  */
 function throughOwnDirectory(sockname, use) {
+  if (path.dirname(sockname) === ownRoom()) requireAlone(sockname);
   const target = fs.realpathSync(sockname);
   const directory = fs.openSync(path.dirname(target), O_RDONLY | O_DIRECTORY | O_NOFOLLOW);
   const close = () => fs.closeSync(directory);
@@ -57,6 +64,14 @@ function throughOwnDirectory(sockname, use) {
   } catch (fault) {
     close();
     throw fault;
+  }
+}
+
+/** Refuses a directory below TMPDIR that is a link, or that others can enter: whoever came first made it. */
+function requireAlone(sockname) {
+  const found = fs.lstatSync(path.dirname(sockname));
+  if (!found.isDirectory() || found.uid !== process.getuid() || found.mode & ENTERED_BY_OTHERS) {
+    throw refused(sockname, `${path.dirname(sockname)} is no directory of yours alone`);
   }
 }
 

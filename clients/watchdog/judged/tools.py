@@ -72,7 +72,7 @@ class Tool:
         while self.said.count(text) < count:
             left = began + patience - time.monotonic()
             if left <= 0 or not self.reads(left):
-                raise ValueError(f"{self.process.args} did not say {text!r} {count} times: {self.said[-2000:]}")
+                raise ValueError(f"{self.process.args!r} did not say {text!r} {count} times: {self.said[-2000:]}")
         return time.monotonic() - began
 
     def rests(self, seconds: float) -> str:

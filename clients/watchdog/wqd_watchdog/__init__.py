@@ -5,6 +5,12 @@ command such as mkdocs.
 """
 
 import os
+from typing import TYPE_CHECKING
+
+if TYPE_CHECKING:
+    from .observer import WqdObserver
+
+__all__ = ["WqdObserver"]
 
 # The client of wqd, `wqclient`, is inside this package if it is installed, and two directories above in a clone. The
 # prover refuses a repository with links.
@@ -15,7 +21,7 @@ if not os.path.isdir(os.path.join(__path__[0], "wqclient")):
 def __getattr__(name: str) -> object:
     """The observer is read when it is asked for: the rest needs no watchdog."""
     if name == "WqdObserver":
-        from .observer import WqdObserver
+        from . import observer
 
-        return WqdObserver
+        return observer.WqdObserver
     raise AttributeError(f"module {__name__!r} has no attribute {name!r}")
