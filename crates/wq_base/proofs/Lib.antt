@@ -1,3 +1,4 @@
+pub mod Facts
 pub mod Unsigned
 pub mod Signed
 pub mod Fault

@@ -1,9 +1,9 @@
 -- The texts that are numbers of a script.
-use Rattle.std.proofs.Common.{◌≡◌, ℕ, ℤ, pos, negsuc, ◌^◌, Bool, true, false, ◌&&◌, List, Some, None, Ok, Err, FitsSigned, w64, refl, sym, subst}
+use Rattle.std.proofs.Common.{◌≡◌, ℕ, ℤ, pos, negsuc, ◌^◌, true, false, List, Some, None, Ok, Err, FitsSigned, w64, refl, sym, subst}
 use Rattle.std.specs.Fmt.{signed_decimal}
 use Rattle.std.specs.Str.{IsUtf8, bytes_eq}
 use Rattle.std.specs.Str.Parse.{signed_digits_value, ParsesSigned}
-use Rattle.std.proofs.lemmas.Bool.{and_parts, and_from, lt-ltb, ltb-true, cond-true, cond-false, false_from_ne_true}
+use Rattle.std.proofs.lemmas.Bool.{and_parts, and_from, lt-ltb, ltb-true, cond-true, cond-false, false_from_ne_true, and_right}
 use Rattle.std.proofs.lemmas.Slice.Eq.{bytes_eq-Decides}
 use Rattle.std.proofs.lemmas.Str.{IsUtf8-from_ascii}
 use Rattle.std.proofs.lemmas.Fmt.{parse-signed_decimal}
@@ -44,13 +44,9 @@ pub is_number : (text : List ℕ) (z : ℤ) → FitsSigned w64 z → z ≡ signe
 unfolding signed_of
 is_number text z fits is same = rw (← is) (cond-true _ _ _ (and_from _ _ (from_fits z fits) ((bytes_eq-Decides text (signed_decimal z)).1 same)))
 
-and_false : (b : Bool) → (b && false) ≡ false
-and_false true = refl
-and_false false = refl
-
 -- a text is no number if `parse` reads a number with another text
 pub other_text : (text : List ℕ) (z : ℤ) → z ≡ signed_digits_value 10 text → (text ≡ signed_decimal z → ⊥) → signed_of text ≡ None
 unfolding signed_of
 other_text text z is isnt =
     let other : bytes_eq text (signed_decimal z) ≡ false = false_from_ne_true _ (λ same. isnt ((bytes_eq-Decides text (signed_decimal z)).0 same)) in
-    rw (← is, other, and_false (is_word z)) refl
+    rw (← is, other, and_right (is_word z) false refl) refl

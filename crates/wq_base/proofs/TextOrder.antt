@@ -21,6 +21,7 @@ use Rattle.wq_base.specs.TextList.{AreInOrder, key_from, place_order, text_at, t
 use Rattle.wq_base.specs.declared.compare.Case.{Case}
 use Rattle.wq_base.specs.declared.compare.Case.TheVariants.{Exact, Folded}
 use Rattle.wq_base.specs.declared.text_list.Place.{Place}
+use Rattle.wq_base.proofs.Facts.{item}
 
 pub folded_total : IsTotalOrder folded_order
 folded_total = on_total str_to_ascii_lowercase nat_list_cmp_total
@@ -68,10 +69,6 @@ first_not_less Equal Less b e = e
 first_not_less Equal Equal b e = refl
 first_not_less Equal Greater b e = refl
 first_not_less Greater a b e = refl
-
-item : {A : Type 0} (xs : List A) (k : ℕ) → k < length xs → A
-item [] k h = absurd (omega (arith, h))
-item (x ∷ xs) k h = x
 
 -- a text with its key ties with one that has the same key exactly if they are the same
 tie : (order : List ℕ → List ℕ → Ordering) (case : Case) → ((x y : List ℕ) → same_text case x y ≡ is_eq (order x y)) → (key : ℕ) (x y : List ℕ) → key ≡ text_key x → same_text case x y ≡ is_eq (keyed order (key, x) (text_key y, y))

@@ -6,6 +6,7 @@ use Rattle.std.specs.Option.{option_map_or}
 use Rattle.std.specs.Ordering.{int_eq}
 use Rattle.std.proofs.lemmas.Bool.{eqb-true, eq-eqb, le-leb}
 use Rattle.std.proofs.lemmas.Bool.Decides.{Decides-int_eq}
+use Rattle.std.specs.Cmp.{both_ways}
 use mathlib.Core.Bool.{beq}
 use Rattle.wq_base.specs.Byte.{is_slash}
 use Rattle.wq_base.specs.Compare.{compares, is_suffix, same_text}
@@ -56,21 +57,10 @@ and_first : (a b : Bool) → (if beq a false then a else b) ≡ (a && b)
 and_first false b = refl
 and_first true b = refl
 
-or_first : (a b : Bool) → (if beq a true then a else b) ≡ (a || b)
-or_first false b = refl
-or_first true b = refl
-
--- two tests that hold together are one
-one_test : (x y : Bool) → (x ≡ true → y ≡ true) → (y ≡ true → x ≡ true) → x ≡ y
-one_test true true f g = refl
-one_test false false f g = refl
-one_test true false f g = sym (f refl)
-one_test false true f g = g refl
-
 -- two numbers without a sign, compared with one and in the other order
 same_number : (a b : ℕ) → int_eq (pos a) (pos b) ≡ (b == a)
 same_number a b =
-    one_test (int_eq (pos a) (pos b)) (b == a)
+    both_ways (int_eq (pos a) (pos b)) (b == a)
     (λ e. let is : pos a ≡ pos b = (Decides-int_eq (pos a) (pos b)).0 e in
     let n : a ≡ b = cc in eq-eqb b a (sym n))
     (λ e. (Decides-int_eq (pos a) (pos b)).1 (ap pos (sym (eqb-true b a e))))

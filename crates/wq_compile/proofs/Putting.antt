@@ -1,20 +1,19 @@
 -- Terms that are put one after the other are their joined code.
 use Rattle.std.proofs.Common.{◌≡◌, ℕ, suc, ◌+◌, ◌<◌, Bool, true, false, List, [], ◌∷◌, ◌++◌, length, map, drop, get_or, sym, ap, ◌∙◌, arith, add-one}
 use Rattle.std.proofs.Math.Seq.{drop-cons}
-use Rattle.std.proofs.lemmas.Bool.{and_parts, ltb-false}
+use Rattle.std.proofs.lemmas.Bool.{and_parts, ltb-false, or_parts}
 use Rattle.wq_code.specs.Limit.{max_table_rows}
 use Rattle.wq_code.specs.declared.operation.Op.TheVariants.{Drop, Not, Return}
 use Rattle.wq_code.specs.declared.raw.Raw.{Raw}
 use Rattle.wq_term.specs.CodeLength.{code_len, terms_len, others_len as terms_others_len}
 use Rattle.wq_term.specs.declared.expr.Expr.{Expr}
-use Rattle.wq_term.specs.Expr.{ExprData, ExprsData, no_terms, term, term_of, terms_of}
+use Rattle.wq_term.specs.Expr.{ExprData, ExprsData, term, term_of, terms_of}
 use Rattle.wq_term.specs.Fits.{keeps_limits, all_keep_limits, expr_fits}
 use Rattle.wq_compile.specs.Draft.{HasRoom}
 use Rattle.wq_compile.specs.Instruction.{plain, put, put_all, blank}
 use Rattle.wq_compile.specs.Code.{others_len, others, joined, jump_if, code_of, parts_of, program_of}
 use Rattle.wq_compile.specs.Large.{has_long_list, is_too_large}
 use Rattle.std.specs.Prelude.{nat_lt}
-use Rattle.wq_compile.proofs.Sizes.{or_parts}
 use Rattle.wq_compile.proofs.Puts.{put_all-append, length-put_all}
 use Rattle.wq_compile.proofs.Meanings.{term-works, others-lens}
 
@@ -60,20 +59,6 @@ length-jumped : (flag : Bool) (end : ℕ) (raw : Raw) → length (put_all (plain
 length-jumped flag end raw =
     let l = length-put_all (plain (jump_if flag end) ∷ plain Drop ∷ []) raw in omega (arith, l)
 
--- the next term has room
-pub room_next : (flag : Bool) (end : ℕ) (t : ExprData) (ts : ExprsData) (now jumped whole : Raw) → IsBefore flag end (term t ts) now whole
-    → jumped ≡ put_all (plain (jump_if flag end) ∷ plain Drop ∷ []) now → HasRoom (code_len t) jumped
-room_next flag end t ts now jumped whole b is =
-    let l : length jumped.code ≡ 2 + length now.code = ap (λ (r : Raw). length r.code) is ∙ length-jumped flag end now in
-    let e = b.end_is in
-    let lt = b.within in
-    omega (arith, l, e, lt)
-
--- and keeps its limits
-pub limits_next : (flag : Bool) (end : ℕ) (t : ExprData) (ts : ExprsData) (now whole : Raw) → IsBefore flag end (term t ts) now whole
-    → keeps_limits t ≡ true
-limits_next flag end t ts now whole b = (and_parts (keeps_limits t) (all_keep_limits ts) b.limits).0
-
 -- so it is after the next one
 pub next_put : (flag : Bool) (end : ℕ) (t : ExprData) (ts : ExprsData) (now jumped new whole : Raw) → IsBefore flag end (term t ts) now whole
     → jumped ≡ put_all (plain (jump_if flag end) ∷ plain Drop ∷ []) now → new ≡ put_all (code_of t (length jumped.code)) jumped
@@ -95,10 +80,6 @@ next_put flag end t ts now jumped new whole b is next =
       within = b.within;
       limits = (and_parts (keeps_limits t) (all_keep_limits ts) b.limits).1;
     }
-
--- after the last it is the whole
-pub all_put : (flag : Bool) (end : ℕ) (now whole : Raw) → IsBefore flag end no_terms now whole → now ≡ whole
-all_put flag end now whole b = b.made
 
 -- the terms from a place on are the term there and those after it
 pub terms_from : (es : List Expr) (i : ℕ) (e : Expr) → i < length es → e ≡ get_or es i e

@@ -1,8 +1,8 @@
 -- The program of an expression that fits and is not too large keeps the limits of program files.
 use Rattle.std.proofs.Common.{◌≡◌, ℕ, ◌+◌, ◌≤◌, pos, Bool, true, false, not, List, [], ◌∷◌, ◌++◌, length, refl, ◌∙◌, arith, length-append}
-use Rattle.std.specs.Prelude.{◌||◌, ◌&&◌, ◌==◌, nat_lt, nat_le, if◌then◌else◌}
+use Rattle.std.specs.Prelude.{◌&&◌, ◌==◌, nat_lt, nat_le, if◌then◌else◌}
 use Rattle.std.specs.List.{list_all}
-use Rattle.std.proofs.lemmas.Bool.{and_parts, and_from, le-leb, ltb-false}
+use Rattle.std.proofs.lemmas.Bool.{and_parts, and_from, le-leb, ltb-false, or_parts}
 use Rattle.std.proofs.lemmas.List.Folds.{list_all-append}
 use Rattle.wq_base.specs.declared.compare.Case.{Case}
 use Rattle.wq_base.specs.declared.compare.Relation.TheVariants.{Ge}
@@ -25,7 +25,7 @@ use Rattle.wq_term.specs.Expr.{ExprData, always, never, exists, empty, kind_is, 
 use Rattle.wq_term.specs.Expr.{suffix_is, size_is, since, below, negation, all_of, any_of}
 use Rattle.wq_term.specs.Expr.{ExprsData, no_terms, term}
 use Rattle.wq_compile.specs.Instruction.{Instruction, plain, number, text, one_of, fitting, put, put_all, blank}
-use Rattle.wq_compile.specs.Code.{Part, straight, jump_if, others_len, others, joined}
+use Rattle.wq_compile.specs.Code.{Part, straight, others_len, others, joined}
 use Rattle.wq_compile.specs.Code.{depth_code, filled, since_code, code_of, parts_of, program_of}
 use Rattle.wq_compile.specs.Large.{is_long_list, has_long_list, have_long_list, is_too_large}
 use Rattle.wq_compile.proofs.Puts.{length-put}
@@ -181,9 +181,6 @@ abbrev pub AllFit : List Part → Type 0
 AllFit [] = Unit {0}
 AllFit (p ∷ ps) = Fits p × AllFit ps
 
-jump-fits : (stop : Bool) (end : ℕ) → constant_fits (plain (jump_if stop end)) ≡ true
-jump-fits stop end = refl
-
 others-fit : (stop : Bool) (end : ℕ) (ps : List Part) → AllFit ps → (at : ℕ) → list_all constant_fits (others stop end ps at) ≡ true
 others-fit stop end [] f at = refl
 others-fit stop end (p ∷ ps) f at =
@@ -226,12 +223,6 @@ since-constants (Created Fresh) = refl
 since-constants (Created (Tick tick)) = refl
 since-constants (Created (Second second)) = refl
 since-constants (Modified second) = refl
-
--- neither of two is true
-pub or_parts : (a b : Bool) → (a || b) ≡ false → (a ≡ false) × (b ≡ false)
-or_parts false false e = (refl, refl)
-or_parts false true e = cc
-or_parts true b e = cc
 
 mutual
   -- the constants of a term that fits and has no long list keep the limits

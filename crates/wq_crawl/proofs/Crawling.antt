@@ -1,5 +1,5 @@
 -- The result for a root that was listed and then published.
-use Rattle.std.proofs.Common.{◌≡◌, ◌≤◌, ℕ, ℤ, Bool, true, false, cond, List, [], ◌∷◌, length, find, Option, Some, None, option_map, Result, Ok, Err, IfOk, IsTrue, MatchResult, Vec, inl, inr, sym, refl, ap, subst, ◌∙◌}
+use Rattle.std.proofs.Common.{◌≡◌, ◌≤◌, ℕ, ℤ, Bool, true, false, cond, List, [], ◌∷◌, length, find, Option, Some, None, option_map, Result, Ok, Err, IfOk, IsTrue, MatchResult, Vec, inr, sym, refl, ap, subst, ◌∙◌}
 use Rattle.std.specs.List.{All, AllByRecursion, list_all}
 use Rattle.std.proofs.lemmas.List.Elements.{recursion_from_All}
 use Rattle.std.proofs.lemmas.Option.{same_Some}
@@ -39,13 +39,6 @@ found_passes P test xs x all is = at xs (recursion_from_All P xs all) is
         by : (b : Bool) → (find test ys ≡ Some x → P x) → cond b (Some y) (find test ys) ≡ Some x → P x
         by true later is = subst P (same_Some y x is) all.0
         by false later is = later is
-
--- a root that is shown, and over which there is no pass
-pub not_crawled_at : (text : List ℕ) (before after : CrawlerData) (number : ℕ) (result : Result (List RootEvent) CrawlFault)
-    (told fault : CrawlFault) → result ≡ Err told → told ≡ fault → after.events ≡ before.events
-    → IsNoPassOver text before fault after → CrawledAt number text before result after
-not_crawled_at text before after number result told fault is same kept none =
-    subst (λ r. CrawledAt number text before r after) (sym (is ∙ ap Err same)) (kept, inl none)
 
 -- a table shows the view of the passes over a root
 pub view_at : (events : List RootEvent) (table : TableData) (text : List ℕ) (number : ℕ) (view : ViewData) → IsTableOf events table

@@ -3,8 +3,7 @@ mod Crawling
 mod Publishing
 mod Attempts
 mod Sharing
-mod Beginnings
 mod Shown
 mod Needs
 mod Meets
-mod Tables
+pub mod Tables

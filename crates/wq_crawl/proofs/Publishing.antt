@@ -1,45 +1,28 @@
 -- What a listing came to, published over a list in which its root is as it was.
-use Rattle.std.proofs.Common.{◌≡◌, ℕ, ℤ, Bool, true, false, not, ◌||◌, List, [], ◌∷◌, ◌++◌, find, filter, Option, Some, option_map, bytes_eq, Result, Ok, Err, MatchResult, Vec, inl, inr, sym, refl, ap, subst, ◌∙◌, append-nil}
+use Rattle.std.proofs.Common.{◌≡◌, ℕ, ℤ, List, find, Option, Some, option_map, bytes_eq, Result, Ok, Err, MatchResult, Vec, inl, inr, sym, refl, ap, subst, ◌∙◌}
 use Rattle.std.specs.declared.alloc.Global.{Global}
-use Rattle.std.proofs.lemmas.List.Elements.{filter_map-append, filter_agree}
-use Rattle.std.proofs.lemmas.List.Folds.{list_any-append}
 use Rattle.wq_view.specs.Listing.{PassData}
 use Rattle.wq_view.specs.View.{IsViewOf, ViewData}
 use Rattle.wq_view.specs.declared.patch.Patch.{Patch}
 use Rattle.wq_live.specs.declared.event.RootEvent.{RootEvent}
-use Rattle.wq_live.specs.declared.event.RootEvent.TheVariants.{Passed}
-use Rattle.wq_live.specs.Event.{Root, has_ended, is_end_of, number_of, passes_over, shown, start_in, started}
+use Rattle.wq_live.specs.Event.{Root, number_of, passes_over, shown}
+use Rattle.wq_live.proofs.Events.{shown_after_pass}
 use Rattle.wq_view.specs.Change.{pass_by}
 use Rattle.wq_crawl.specs.declared.fault.CrawlFault.{CrawlFault}
 use Rattle.wq_crawl.specs.declared.relisted.Relisted.{Relisted}
 use Rattle.wq_crawl.specs.declared.relisted.Relisted.TheVariants.{Pass, Patched}
-use Rattle.wq_crawl.specs.Answer.{CrawlData, IsAnswer}
+use Rattle.wq_crawl.specs.Answer.{CrawlData}
 use Rattle.wq_crawl.specs.Shared.{CrawledFrom, Publishes}
 use Rattle.wq_crawl.specs.Crawl.{CrawledAt, CrawlerData, IsRelisted, IsTakable, ListerData, crawler_at}
 use Rattle.wq_crawl.specs.Publish.{IsNotTakenIn, Passes}
 use Rattle.wq_crawl.proofs.Crawling.{crawled_at, patched_at}
-
--- a pass starts no root
-started_after : (events : List RootEvent) (n : ℕ) (p : PassData) → started (events ++ Passed n p ∷ []) ≡ started events
-started_after events n p = filter_map-append start_in events (Passed n p ∷ []) ∙ append-nil (started events)
-
-or_false : (b : Bool) → (b || false) ≡ b
-or_false true = refl
-or_false false = refl
-
--- and it ends none
-shown_after : (events : List RootEvent) (n : ℕ) (p : PassData) → shown (events ++ Passed n p ∷ []) ≡ shown events
-shown_after events n p =
-    ap (λ l. filter (λ (root : Root). not (has_ended (events ++ Passed n p ∷ []) root.number)) l) (started_after events n p)
-    ∙ filter_agree (λ (root : Root). not (has_ended (events ++ Passed n p ∷ []) root.number)) (λ (root : Root). not (has_ended events root.number))
-    (λ root. ap not (list_any-append (is_end_of root.number) events (Passed n p ∷ []) ∙ or_false (has_ended events root.number))) (started events)
 
 -- so each root keeps its number
 pub numbers_stay : (text : List ℕ) (before after : List RootEvent) (number : ℕ) (pass : PassData) → Passes before number pass after → number_of text after ≡ number_of text before
 numbers_stay text before after number pass (inl (still, same)) = ap (number_of text) same
 numbers_stay text before after number pass (inr (news, few, added)) =
     ap (number_of text) added
-    ∙ ap (λ roots. option_map (λ (root : Root). root.number) (find (λ (root : Root). bytes_eq root.text text) roots)) (shown_after before number pass)
+    ∙ ap (λ roots. option_map (λ (root : Root). root.number) (find (λ (root : Root). bytes_eq root.text text) roots)) (shown_after_pass before number pass)
 
 -- whatever became of the pass
 pub numbers_kept : (text : List ℕ) (before after : List RootEvent) (number : ℕ) (pass : PassData) (result : Result (List RootEvent) CrawlFault)
@@ -105,9 +88,3 @@ module _ (text : List ℕ) (events later : List RootEvent) (number count : ℕ) 
       → CrawledFrom text before (Err fault) after
   refused_now fault same crawled =
       (events, number, shown, subst (λ (l : List RootEvent). CrawledAt number text (crawler_at events before) (Err fault) (crawler_at l after)) same crawled)
-
--- the answer after a publication
-pub answered : (published : List RootEvent → Type 0) (text : List ℕ) (events later : List RootEvent) (number count : ℕ) (crawl : Option CrawlData)
-    → crawl ≡ Some (record { told = later; number = number; count = count }) → published later → number_of text later ≡ number_of text events
-    → number_of text events ≡ Some number → IsAnswer published text crawl
-answered published text events later number count crawl is was same shown = subst (IsAnswer published text) (sym is) (was, same ∙ shown)

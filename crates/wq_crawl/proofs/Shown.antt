@@ -1,7 +1,8 @@
 -- The root that is found in a list, by its text and by its number.
-use Rattle.std.proofs.Common.{◌≡◌, ◌==◌, ℕ, Bool, true, false, cond, IfErr, IfOk, List, [], ◌∷◌, Option, Some, None, Result, Ok, Err, option_map, bytes_eq, refl, ap, subst, sym, ◌∙◌, arith}
+use Rattle.std.proofs.Common.{◌≡◌, ◌==◌, ℕ, Bool, true, false, cond, IfErr, IfOk, List, [], ◌∷◌, Option, Some, None, Result, Ok, Err, option_map, bytes_eq, refl, ap, subst, sym, ◌∙◌}
 use Rattle.std.specs.List.{find, list_any}
-use Rattle.std.proofs.lemmas.Bool.Decides.{nat_tests}
+use Rattle.std.proofs.lemmas.Option.{same_Some}
+use Rattle.std.proofs.lemmas.Bool.{eq-eqb}
 use Rattle.wq_clock.specs.Instance.{InstanceData}
 use Rattle.wq_clock.specs.Run.{instance_of, run_data}
 use Rattle.wq_clock.specs.declared.run.Run.{Run}
@@ -58,12 +59,6 @@ module _ (run : Run) (text : List ℕ) (events : List RootEvent) (lawful : IsLaw
       by None is = refl
       by (Some root) is = absurd cc
 
-number_itself : (n : ℕ) → (n == n) ≡ true
-number_itself n = grind (arith, nat_tests)
-
-some_same : {X : Type 0} {x y : X} → Some x ≡ Some y → x ≡ y
-some_same h = cc h
-
 -- a root that is found by its text is found by its number
 pub number_found : (text : List ℕ) (roots : List Root) (root : Root) → find (λ (r : Root). bytes_eq r.text text) roots ≡ Some root
     → list_any (λ (r : Root). r.number == root.number) roots ≡ true
@@ -78,8 +73,8 @@ number_found text (r ∷ rs) root h = at (bytes_eq r.text text) refl (λ k. numb
     at : (b : Bool) → bytes_eq r.text text ≡ b → (find (λ (x : Root). bytes_eq x.text text) rs ≡ Some root → list_any (λ (x : Root). x.number == root.number) rs ≡ true)
         → list_any (λ (x : Root). x.number == root.number) (r ∷ rs) ≡ true
     at true e later =
-        let same : r ≡ root = some_same (subst (λ c. cond c (Some r) (find (λ (x : Root). bytes_eq x.text text) rs) ≡ Some root) e h) in
-        rw (subst (λ (x : Root). (r.number == x.number) ≡ true) same (number_itself r.number)) refl
+        let same : r ≡ root = same_Some _ _ (subst (λ c. cond c (Some r) (find (λ (x : Root). bytes_eq x.text text) rs) ≡ Some root) e h) in
+        rw (subst (λ (x : Root). (r.number == x.number) ≡ true) same (eq-eqb r.number r.number refl)) refl
     at false e later =
         either (r.number == root.number) refl
         (later (subst (λ c. cond c (Some r) (find (λ (x : Root). bytes_eq x.text text) rs) ≡ Some root) e h))
@@ -100,7 +95,7 @@ module _ (shows : Option AtData → Type 0) where
   -- a root that has a number is looked at
   pub one_shown : (instance : InstanceData) → IsNumbered shows (Some instance) → (at : AtData) × shows (Some at) × (instance ≡ at.instance)
   one_shown instance (None, it, is) = absurd (cc is)
-  one_shown instance (Some at, it, is) = (at, it, some_same is)
+  one_shown instance (Some at, it, is) = (at, it, same_Some _ _ is)
 
   -- and if there is no number, none is
   pub none_there : IsNumbered shows None → shows None

@@ -3,7 +3,8 @@ use Rattle.std.proofs.Common.{◌≡◌, ◌==◌, ℕ, ◌+◌, ◌≤◌, ◌<
 use Rattle.wq_clock.specs.Instance.{InstanceData}
 use Rattle.wq_live.specs.Event.{Root, has_ended, started}
 use Rattle.std.specs.List.{AllByRecursion, range_with_len}
-use Rattle.std.proofs.lemmas.Bool.Decides.{nat_tests}
+use Rattle.std.proofs.lemmas.Option.{same_Some}
+use Rattle.std.proofs.lemmas.Bool.{eqb-true}
 use Rattle.wq_live.specs.Table.{IsTableOf, RootView, TableData, has_number, root_of}
 use Rattle.wq_live.specs.declared.event.RootEvent.{RootEvent}
 use Rattle.wq_crawl.specs.At.{AtData}
@@ -15,22 +16,16 @@ use Rattle.wq_crawl.specs.Meets.{at_root}
 abbrev pub at_data_of : InstanceData → Option ViewData → AtData
 at_data_of instance view = record { instance = instance; view = view }
 
-some_same : {X : Type 0} {x y : X} → Some x ≡ Some y → x ≡ y
-some_same h = cc h
-
 -- a root that is found by its number and its view is the one that is looked at
 pub at_found : (mine : RunData) (found : Option RootView) (number : ℕ) (view : ViewData) (instance : InstanceData)
     → Some number ≡ option_map (λ (r : RootView). r.number) found → Some view ≡ option_map (λ (r : RootView). r.view) found
     → instance ≡ instance_of mine number → Some (at_data_of instance (Some view)) ≡ option_map (at_root mine) found
 at_found mine None number view instance numbered viewed is = absurd cc
 at_found mine (Some r) number view instance numbered viewed is =
-    let n : number ≡ r.number = some_same numbered in
-    let v : view ≡ r.view = some_same viewed in
+    let n : number ≡ r.number = same_Some _ _ numbered in
+    let v : view ≡ r.view = same_Some _ _ viewed in
     ap (λ i. Some (at_data_of i (Some view))) (is ∙ ap (instance_of mine) n)
     ∙ ap (λ v. Some (at_data_of (instance_of mine r.number) (Some v))) v
-
-same_number : (m n : ℕ) → (m == n) ≡ true → m ≡ n
-same_number m n h = grind (arith, nat_tests)
 
 -- roots that were numbered one after the other have no number past the last one
 known_started : (roots : List Root) (a n limit : ℕ) → a + n ≤ 1 + limit → map (λ (root : Root). root.number) roots ≡ range_with_len a n
@@ -78,7 +73,7 @@ numbered_found number (r ∷ roots) = by (r.number == number) refl (numbered_fou
         → option_map (λ (r : RootView). r.number) (find (has_number number) roots) ≡ option_map (λ (r : RootView). number) (find (has_number number) roots)
         → option_map (λ (r : RootView). r.number) (cond b (Some r) (find (has_number number) roots))
         ≡ option_map (λ (r : RootView). number) (cond b (Some r) (find (has_number number) roots))
-    by true is later = ap Some (same_number r.number number is)
+    by true is later = ap Some (eqb-true r.number number is)
     by false is later = later
 
 -- a root that is found by this number is the one that is looked at
@@ -89,12 +84,6 @@ pub at_numbered : (mine : RunData) (number : ℕ) (found : Option RootView) (vie
 at_numbered mine number None view instance same viewed is = absurd cc
 at_numbered mine number (Some r) view instance same viewed is = at_found mine (Some r) number view instance (sym same) viewed is
 
--- and none, if none is found
-pub at_none : (mine : RunData) (found : Option RootView) → None ≡ option_map (λ (r : RootView). r.view) found
-    → None ≡ option_map (at_root mine) found
-at_none mine None none = refl
-at_none mine (Some r) none = absurd cc
-
 none_past : (number given : ℕ) (roots : List RootView) → given < number → AllByRecursion (λ (r : RootView). r.number ≤ given) roots
     → find (has_number number) roots ≡ None
 none_past number given [] past all = refl
@@ -102,7 +91,7 @@ none_past number given (r ∷ roots) past all = by (r.number == number) refl (no
   where
     by : (b : Bool) → (r.number == number) ≡ b → find (has_number number) roots ≡ None
         → cond b (Some r) (find (has_number number) roots) ≡ None
-    by true is later = let same = same_number r.number number is in absurd (omega (arith, past, all.0, same))
+    by true is later = let same = eqb-true r.number number is in absurd (omega (arith, past, all.0, same))
     by false is later = later
 
 -- no root has a number that was not given yet

@@ -182,7 +182,7 @@ fn at_end<N: Named>(
 
 /// Learns the list that was told, and looks at once, so that the seat keeps nothing of it that is shown by then.
 /// Otherwise it would keep the views of all roots as they were told, until its client asks something that looks.
-#[tactic(auto, using(crate::proofs::Beginnings::begins_later))]
+#[tactic(auto, using(wq_live::proofs::Beginnings::prefix_trans))]
 fn learn_and_leave<N: Named>(seat: Seat<N>, told: Told<N>) -> Seat<N>
     ensures { Learns seat (Ok (Some told)) result }
 {

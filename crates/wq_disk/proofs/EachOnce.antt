@@ -12,6 +12,7 @@ use Rattle.std.specs.declared.cmp.Ordering.TheVariants.{Less, Equal, Greater}
 use Rattle.std.proofs.lemmas.Cmp.{nat_cmp_total, on_total}
 use Rattle.std.proofs.lemmas.List.Elements.{All-cons, All-head, All-nil, All-tail, Contains-append_right, Contains-get_or}
 use Rattle.std.proofs.lemmas.Slice.Eq.{bytes_eq-Decides}
+use Rattle.std.proofs.lemmas.Bool.{not-true}
 use Rattle.wq_record.specs.Name.{name_cmp}
 use Rattle.wq_disk.specs.declared.names.Place.{Place}
 use Rattle.wq_disk.specs.Entries.{AreDistinct}
@@ -105,10 +106,6 @@ less_from Less e = refl
 less_from Equal e = absurd (true≢false e)
 less_from Greater e = absurd (true≢false e)
 
-not_less_from : (b : Bool) → not b ≡ true → b ≡ false
-not_less_from false e = refl
-not_less_from true e = absurd (false≢true e)
-
 -- less is not greater
 less_greater : Less ≡ Greater → ⊥
 less_greater is = false≢true (sym (ap is_lt is))
@@ -174,7 +171,7 @@ each_once {S} bytes Q R step s xs ys q deduped sorted = whole xs deduped.told so
         ([], is, tt, tt, subst (λ l. Has l (k ∷ [])) (sym is) (All-cons (Contains (names_at bytes (k ∷ []))) (name_at bytes k) [] (head k []) (All-nil (Contains (names_at bytes (k ∷ []))))))
     from s k (x ∷ xs) ys q (true, t, x', k', called, rest) (near, fall) =
         let told = step s x k true t x' k' q called in
-        let equal = ties bytes k x near (not_less_from _ (sym told.3)) in
+        let equal = ties bytes k x near (not-true _ (sym told.3)) in
         let after = subst (λ j. DedupsFrom R t j xs ys) told.2 rest in
         let got = from t k xs ys told.0 after (tied_falls bytes k x xs equal fall) in
         (got.0, got.1, got.2, got.3, joined k x xs ys (tied_name bytes k x equal) got.4)

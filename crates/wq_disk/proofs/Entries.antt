@@ -3,7 +3,7 @@ use Rattle.std.proofs.Common.{◌≡◌, ℕ, Bool, true, false, List, [], ◌�
 use Rattle.std.specs.List.{Contains}
 use Rattle.std.specs.List.Retain.{DedupsAll, DedupsFrom, IsDeduped}
 use Rattle.std.proofs.lemmas.List.{length-map, map-append, nil_from_length}
-use Rattle.std.proofs.lemmas.List.Elements.{All-cons, All-contains, All-head, All-map, All-nil, All-tail}
+use Rattle.std.proofs.lemmas.List.Elements.{All-cons, All-contains, All-head, All-nil, All-tail}
 use Rattle.wq_disk.specs.declared.names.Names.{Names}
 use Rattle.wq_disk.specs.declared.names.Place.{Place}
 use Rattle.wq_disk.specs.HeldNames.{AllAreLeft, names_given, names_left}
@@ -25,11 +25,6 @@ count_at bytes places = sym (length-map places (name_at bytes))
 -- there are no places of which there are no names
 pub none_at : (bytes : List ℕ) (places : List Place) → names_at bytes places ≡ [] → places ≡ []
 none_at bytes places is = nil_from_length places (count_at bytes places ∙ ap length is)
-
--- the names that are left of a directory are entries, each once
-pub are_entries : (names : Names) → AreEntries (names_left names)
-are_entries names =
-    (All-map (λ name. IsTrue (is_entry name)) (name_at names.bytes.items) names.places.items names.entries, names.distinct)
 
 -- what passes a test is what was kept by it
 passes : (names : List (List ℕ)) → All (λ name. IsTrue (is_entry name)) (filter is_entry names)

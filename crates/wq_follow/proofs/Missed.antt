@@ -1,6 +1,7 @@
 -- Each change between two batches is in exactly one of those between.
 use Rattle.std.proofs.Common.{◌≡◌, ◌<◌, ◌≤◌, ℕ, Bool, true, false, ◌&&◌, nat_le, nat_lt, List, [], ◌∷◌, ◌++◌, Some, if◌then◌else◌, inl, inr, refl, sym, ap, subst, ◌∙◌, arith}
 use Rattle.std.proofs.lemmas.Bool.Decides.{nat_tests}
+use Rattle.std.proofs.lemmas.Bool.{and_parts}
 use Rattle.wq_view.specs.History.{History, record_of}
 use Rattle.wq_record.specs.RecordData.{RecordData}
 use Rattle.wq_follow.specs.Batch.{FollowerData, polled, told_up_to}
@@ -8,7 +9,7 @@ use Rattle.wq_follow.specs.Interval.{Adjoin, HaveReached, LookData, ToldData, ch
 use Rattle.wq_follow.specs.Missing.{AreOf, IsAmong, IsNeverTold, IsOf, IsToldOnce, NothingIsMissed, end_of}
 use Rattle.wq_follow.proofs.Intervals.{intervals_adjoin}
 use Rattle.wq_follow.proofs.Passes.{since_change, views_are_reached}
-use Rattle.wq_follow.proofs.Views.{among_by, among_kept, both, given, passes}
+use Rattle.wq_follow.proofs.Views.{among_by, among_kept, given, passes}
 
 -- the views of batches that were told show a history at some of its passes
 abbrev AreToldOf : History → List ToldData → Type 0
@@ -39,7 +40,7 @@ reached history (look ∷ looks) of =
 within : (from now : ℕ) (matches : RecordData → Bool) (r : RecordData) → (changed_in from now r && matches r) ≡ true
     → (from < r.otick) × (r.otick ≤ now)
 within from now matches r is =
-    let parts = both (nat_lt from r.otick) (nat_le r.otick now) (both (changed_in from now r) (matches r) is).0 in
+    let parts = and_parts (nat_lt from r.otick) (nat_le r.otick now) (and_parts (changed_in from now r) (matches r) is).0 in
     (less from r.otick parts.0, low r.otick now parts.1)
   where
     less : (a b : ℕ) → nat_lt a b ≡ true → a < b

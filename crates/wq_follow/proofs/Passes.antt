@@ -1,28 +1,17 @@
 -- The record of a name over the passes of a history.
-use Rattle.std.proofs.Common.{◌≡◌, ◌<◌, ◌≤◌, ℕ, zero, suc, ◌+◌, ℤ, Bool, true, false, not, ◌&&◌, ◌==◌, cond, if◌then◌else◌, nat_le, List, [], ◌∷◌, ◌++◌, length, slice_get, Option, Some, None, is_some, option_map, inl, inr, refl, sym, ap, ◌∙◌, length-append, arith}
+use Rattle.std.proofs.Common.{◌≡◌, ◌<◌, ◌≤◌, ℕ, zero, suc, ◌+◌, ℤ, Bool, true, false, not, if◌then◌else◌, nat_le, List, [], ◌∷◌, ◌++◌, length, slice_get, Option, Some, None, is_some, option_map, inl, inr, refl, sym, ap, ◌∙◌, length-append, arith}
 use Rattle.std.proofs.lemmas.Option.{same_Some}
-use Rattle.std.proofs.lemmas.Bool.Decides.{nat_tests, Decides-int_eq, Decides-eqb}
+use Rattle.std.proofs.lemmas.Bool.Decides.{nat_tests}
 use Rattle.std.specs.FinMap.{get}
 use Rattle.std.specs.Option.{option_and_then}
-use Rattle.std.specs.Ordering.{int_eq}
-use Rattle.wq_record.specs.declared.kind.Kind.{Kind}
-use Rattle.wq_record.specs.declared.kind.Kind.TheVariants.{File, Dir, Link, Block, Char, Fifo, Socket, Door, Unknown}
 use Rattle.wq_view.specs.History.{History, stat_at, second_of, same_observation, greatest, is_seen, has_come, has_changed, record_from, record_of}
-use Rattle.wq_record.specs.Kind.{letter_of}
+use Rattle.wq_view.proofs.Stats.{one_stat}
+use Rattle.wq_view.proofs.Histories.{record_alike, greatest_le, seen_now}
 use Rattle.wq_record.specs.RecordData.{RecordData}
 use Rattle.wq_record.specs.Seen.{Stat, same_stat}
 use Rattle.wq_follow.specs.Interval.{AreReached}
 use Rattle.wq_follow.specs.Missing.{IsAmong, ViewsAreReached}
-use Rattle.wq_follow.proofs.Views.{both, given}
-
--- the greatest number that passes is at most the last
-greatest_low : (test : ℕ → Bool) (n : ℕ) → greatest test n ≤ n
-greatest_low test zero = omega arith
-greatest_low test (suc n) = at (test (suc n)) (greatest_low test n)
-  where
-    at : (b : Bool) → greatest test n ≤ n → (if b then suc n else greatest test n) ≤ suc n
-    at true low = omega arith
-    at false low = omega (arith, low)
+use Rattle.wq_follow.proofs.Views.{given}
 
 -- the tick of a record from so many passes is that of its last change
 changed_in : (name : List ℕ) (stats : ℕ → Option Stat) (seconds : ℕ → ℤ) (n : ℕ) (r : RecordData)
@@ -62,42 +51,8 @@ views_are_reached history view is = reached_by view.tick view.records (λ r amon
     low : (r : RecordData) → IsAmong r view.records → r.otick ≤ view.tick
     low r among =
         let at = changed_in r.name (stat_at history r.name) (second_of history) (length history) r (given history view r is among) in
-        let most = greatest_low (has_changed (stat_at history r.name)) (length history) in
+        let most = greatest_le (has_changed (stat_at history r.name)) (length history) in
         omega (arith, at, most, is.tick)
-
--- the kind that has a letter
-kind_of : ℕ → Kind
-kind_of n = cond (n == letter_of File) File (cond (n == letter_of Dir) Dir (cond (n == letter_of Link) Link (cond (n == letter_of Block) Block (cond (n == letter_of Char) Char (cond (n == letter_of Fifo) Fifo (cond (n == letter_of Socket) Socket (cond (n == letter_of Door) Door Unknown)))))))
-
-kind_of-letter_of : (k : Kind) → kind_of (letter_of k) ≡ k
-unfolding kind_of
-kind_of-letter_of File = refl
-kind_of-letter_of Dir = refl
-kind_of-letter_of Link = refl
-kind_of-letter_of Block = refl
-kind_of-letter_of Char = refl
-kind_of-letter_of Fifo = refl
-kind_of-letter_of Socket = refl
-kind_of-letter_of Door = refl
-kind_of-letter_of Unknown = refl
-
--- stats that test as the same are equal
-one_stat : (a b : Stat) → same_stat a b ≡ true → a ≡ b
-one_stat a b e =
-    let front = both ((letter_of a.kind == letter_of b.kind) && int_eq a.size b.size) (int_eq a.mtime_ms b.mtime_ms) e in
-    let parts = both (letter_of a.kind == letter_of b.kind) (int_eq a.size b.size) front.0 in
-    let kinds = one_kind a.kind b.kind ((Decides-eqb (letter_of a.kind) (letter_of b.kind)).0 parts.0) in
-    let sizes = (Decides-int_eq a.size b.size).0 parts.1 in
-    let times = (Decides-int_eq a.mtime_ms b.mtime_ms).0 front.1 in
-    λ i. record { kind = kinds i; size = sizes i; mtime_ms = times i }
-  where
-    one_kind : (k l : Kind) → letter_of k ≡ letter_of l → k ≡ l
-    one_kind k l e = sym (kind_of-letter_of k) ∙ ap kind_of e ∙ kind_of-letter_of l
-
--- a pass that sees a file is the last that does
-seen_now : (stats : ℕ → Option Stat) (n : ℕ) (s : Stat) → stats n ≡ Some s → stats (greatest (is_seen stats) n) ≡ Some s
-seen_now stats zero s e = e
-seen_now stats (suc n) s e = rw (e, e) refl
 
 -- a pass that is no change of a name leaves its record
 stays : (name : List ℕ) (stats : ℕ → Option Stat) (seconds : ℕ → ℤ) (n : ℕ) → has_changed stats (suc n) ≡ false
@@ -116,7 +71,7 @@ stays name stats seconds n same = at (stats (suc n)) (stats n) refl refl same
         seen false h quiet = absurd (cc quiet)
         seen true h quiet =
             let again : stats (suc n) ≡ Some t = ea ∙ ap Some (sym (one_stat t s h)) in
-            let last = seen_now stats n t eb in
+            let last = seen_now name stats seconds n t eb in
             let itself : same_stat t t ≡ true = ap (same_stat t) (one_stat t s h) ∙ h in
             simp (again, eb, last, itself)
 
@@ -147,32 +102,6 @@ record_stays name stats seconds early (suc more) low =
         → record_from name stats seconds (suc last) ≡ record_from name stats seconds early
     at true h low rest = absurd (omega (arith, low, later_by_is more early))
     at false h low rest = stays name stats seconds last h ∙ rest low
-
--- observations that agree up to n
-module _ (n : ℕ) where
-  greatest_alike : (t u : ℕ → Bool) (m : ℕ) → m ≤ n → ((i : ℕ) → i ≤ n → t i ≡ u i) → greatest t m ≡ greatest u m
-  greatest_alike t u zero low same = refl
-  greatest_alike t u (suc m) low same = rw (same (suc m) low, greatest_alike t u m (omega arith) same) refl
-
-  come_alike : (s z : ℕ → Option Stat) → ((i : ℕ) → i ≤ n → s i ≡ z i) → (i : ℕ) → i ≤ n → has_come s i ≡ has_come z i
-  come_alike s z same zero low = refl
-  come_alike s z same (suc i) low = rw (same (suc i) low, same i (omega arith)) refl
-
-  changed_alike : (s z : ℕ → Option Stat) → ((i : ℕ) → i ≤ n → s i ≡ z i) → (i : ℕ) → i ≤ n → has_changed s i ≡ has_changed z i
-  changed_alike s z same zero low = refl
-  changed_alike s z same (suc i) low = rw (same (suc i) low, same i (omega arith)) refl
-
--- passes that agree up to the last one make the same record
-record_alike : (name : List ℕ) (s z : ℕ → Option Stat) (c d : ℕ → ℤ) (n : ℕ) → ((i : ℕ) → i ≤ n → s i ≡ z i)
-    → ((i : ℕ) → i ≤ n → c i ≡ d i) → record_from name s c n ≡ record_from name z d n
-record_alike name s z c d n stats seconds =
-    let seen = greatest_alike n (is_seen s) (is_seen z) n (omega arith) (λ i low. ap is_some (stats i low)) in
-    let come = greatest_alike n (has_come s) (has_come z) n (omega arith) (come_alike n s z stats) in
-    let changed = greatest_alike n (has_changed s) (has_changed z) n (omega arith) (changed_alike n s z stats) in
-    let last = stats (greatest (is_seen z) n) (greatest_low (is_seen z) n) in
-    let csec = seconds (greatest (has_come z) n) (greatest_low (has_come z) n) in
-    let osec = seconds (greatest (has_changed z) n) (greatest_low (has_changed z) n) in
-    simp (seen, come, changed, last, csec, osec, stats n (omega arith))
 
 -- the first passes of a history are those of its front
 pass_front : (early later : History) (i : ℕ) → i < length early → slice_get (early ++ later) i ≡ slice_get early i

@@ -1,5 +1,5 @@
 -- The object of a definition is plain: each of its values is.
-use Rattle.std.proofs.Common.{◌≡◌, ◌≤◌, suc, [], Bool, true, false, not, List, codes, ℕ, Option, Some, None, Result, Ok, Ordering, Less, Equal, Greater, nat_cmp, bytes_eq, refl, sym, ap, subst, ◌∙◌, arith}
+use Rattle.std.proofs.Common.{◌≡◌, ◌≤◌, suc, [], Bool, true, false, not, List, codes, ℕ, Option, Some, None, Ok, Ordering, Less, Equal, Greater, nat_cmp, bytes_eq, refl, sym, ap, subst, ◌∙◌, arith}
 use Rattle.std.proofs.lemmas.Bool.{and_parts}
 use Rattle.std.proofs.lemmas.Bool.Decides.{not_from_Decides}
 use Rattle.std.proofs.lemmas.Slice.Eq.{bytes_eq-Decides}
@@ -12,6 +12,7 @@ use Rattle.serde_json.specs.Written.{has_float}
 use Rattle.serde_json.proofs.Views.{get_member-put, get_member-put_other}
 use Rattle.serde_json.specs.Read as text
 use Rattle.wq_base.proofs.Fault.{or_fault-ok, or_its_fault-ok, or_own_fault-ok, unless_fault-ok, with_first-some}
+use Rattle.wq_base.proofs.Facts.{same_Ok}
 use Rattle.wq_clock.specs.Instance.{InstanceData}
 use Rattle.wq_query.specs.declared.field.Field.{Field}
 use Rattle.wq_query.specs.Query.{QueryData}
@@ -23,7 +24,7 @@ use Rattle.wq_term.specs.Expr.{always, depth_of}
 use Rattle.wq_term.specs.Limit.{max_depth}
 use Rattle.wq_follow.specs.Start.{InputData}
 use Rattle.wq_follow.specs.Definition.{DefinitionData, ShapeData, argument_of, arguments_in, command_of, has_bad_length, has_left_out_trigger_key, input_of, is_text_or_absent, defines, known_part, limit_of, list_input, shape_of, trigger_name_of, with_key, with_program}
-use Rattle.wq_follow.specs.Kept.{command_in, data_in}
+use Rattle.wq_follow.specs.Kept.{command_in}
 use Rattle.wq_follow.specs.Plain.{DefinitionsAreShallow, DefinitionsHaveNoFloat}
 use Rattle.wq_follow.specs.declared.fault.TriggerFault.TheVariants.{BadName, BadShape, Query}
 use Rattle.wq_follow.proofs.PlainExpressions.{written}
@@ -230,10 +231,6 @@ plain_part d shape is expression =
     (plain_with most (codes "command") (get (codes "command") d) _ (plain_command max_depth (get (codes "command") d) command started)
     (plain_with most (codes "append_files") (get (codes "append_files") d) no_members (plain_flag most (get (codes "append_files") d) appends on) refl
     )))))))))))))
-
--- results that are the same have the same value
-same_Ok : {A E : Type 0} (x y : A) → ◌≡◌ {A = Result A E} (Ok x) (Ok y) → x ≡ y
-same_Ok x y e = cc
 
 -- the object of a definition is plain
 plain_object : ValuesAskWhatTheyWrite → (instance : InstanceData) (d : Data) (definition : DefinitionData)

@@ -7,7 +7,7 @@ use Rattle.wq_view.specs.View.{ViewData}
 use Rattle.wq_follow.specs.Batch.{BatchData, FollowerData, is_told, last_or, listing, nothing, polled, told_up_to}
 use Rattle.wq_follow.specs.Follower.{IsBatch, batch_at}
 use Rattle.wq_follow.specs.Launcher.{AsksRun, LauncherData, Rose, StartsRun, goes_on}
-use Rattle.wq_follow.specs.Round.{Agrees, CountsFailure, FailedStartsStay, FiredData, Fires, IsFree, TriggerData, WantsMemory, batch_of, is_short, stopped, runs, quiet, started, failed, short}
+use Rattle.wq_follow.specs.Round.{Agrees, CountsFailure, FailedStartsStay, FiredData, Fires, IsFree, TriggerData, WantsMemory, batch_of, is_short, stopped, runs, started, failed, short}
 use Rattle.wq_follow.specs.Start.{StartData, start_of}
 use Rattle.wq_follow.specs.declared.batch.Batch.{Batch}
 use Rattle.wq_follow.proofs.Places.{length_at}
@@ -36,11 +36,6 @@ free_some : (running : Option ℕ) (l : LauncherData) (after : Option LauncherDa
     → IsFree running l × (after ≡ Some l)
 free_some None l after asks = (tt, asks.1)
 free_some (Some run) l after asks = (ends (goes_on run l) asks.0, asks.1)
-
-pub agrees_quiet : (running : Option ℕ) (before after : Option LauncherData) → AsksRun running true before after
-    → Agrees quiet running before after
-agrees_quiet running None after asks = free_none running after asks
-agrees_quiet running (Some l) after asks = free_some running l after asks
 
 pub agrees_short : (running : Option ℕ) (before after : Option LauncherData) → AsksRun running true before after
     → Agrees short running before after
@@ -115,21 +110,6 @@ pub does_short_start : (instance : InstanceData) (view : ViewData) (t : TriggerD
     → Does instance view t (stopped t) before shown true count counted
 does_short_start instance view t batch before shown count counted asks stays is some =
     does_short instance view t before shown count counted asks stays (wants_memory t.follower view (some_files view.records (batch_of t view) batch is some))
-
-pub does_quiet : (instance : InstanceData) (view : ViewData) (t : TriggerData) (batch : Batch) (next : FollowerData) (before shown : Option LauncherData) (count counted : ℕ)
-    → AsksRun t.running true before shown → counted ≡ count → IsBatch view.records (batch_of t view) batch → length batch.files.items ≡ 0
-    → next ≡ told_up_to batch.now t.follower
-    → Does instance view t (record { order = t.order; follower = next; object = t.object; running = None }) before shown false count counted
-does_quiet instance view t batch next before shown count counted asks stays is none moves = (
-  quiet,
-  (
-    no_files view.records (batch_of t view) batch is none,
-    ap (λ f. record { order = t.order; follower = f; object = t.object; running = None }) (followed view t batch next is moves),
-  ),
-  agrees_quiet t.running before shown asks,
-  refl,
-  stays,
-)
 
 pub does_started : (instance : InstanceData) (view : ViewData) (t : TriggerData) (batch : Batch) (next : FollowerData) (start : StartData) (run : ℕ) (before mid shown : Option LauncherData) (count counted : ℕ)
     → AsksRun t.running true before mid → counted ≡ count → IsBatch view.records (batch_of t view) batch → length batch.files.items ≢ 0

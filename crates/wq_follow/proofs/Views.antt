@@ -1,30 +1,19 @@
 -- The files of a view, by their names.
-use Rattle.std.proofs.Common.{◌≡◌, ℕ, Bool, true, false, ◌&&◌, cond, List, [], ◌∷◌, filter, if◌then◌else◌, Some, IsTrue, inl, inr, refl, sym, ap, subst, ◌∙◌}
+use Rattle.std.proofs.Common.{◌≡◌, ℕ, Bool, true, false, cond, List, [], ◌∷◌, filter, if◌then◌else◌, Some, IsTrue, inl, inr, refl, sym, ap, subst, ◌∙◌}
 use Rattle.std.proofs.lemmas.Option.{same_Some}
-use Rattle.std.specs.declared.cmp.Ordering.{Ordering}
-use Rattle.std.specs.declared.cmp.Ordering.TheVariants.{Less, Equal, Greater}
-use Rattle.std.specs.Ordering.{eq_by_cmp, is_eq, is_lt, ordering_reverse}
-use Rattle.std.specs.Cmp.{IsTotalOrder, tied_itself}
-use Rattle.std.specs.Cmp.Lexicographic.{nat_list_cmp_total}
+use Rattle.std.specs.declared.cmp.Ordering.TheVariants.{Less}
+use Rattle.std.specs.Ordering.{eq_by_cmp, is_eq, ordering_reverse}
+use Rattle.std.specs.Cmp.{tied_itself}
 use Rattle.std.specs.FinMap.{is_sorted}
 use Rattle.std.specs.FinMap.Entries.{below_all}
+use Rattle.std.proofs.lemmas.Bool.{and_parts}
+use Rattle.wq_base.proofs.Facts.{less_from_lt}
 use Rattle.wq_view.specs.History.{History, record_of}
 use Rattle.wq_record.specs.Name.{name_cmp}
 use Rattle.wq_record.specs.RecordData.{RecordData, by_name, record_named}
 use Rattle.wq_view.specs.View.{ViewData, IsViewOf}
+use Rattle.wq_view.proofs.NameOrder.{names_total}
 use Rattle.wq_follow.specs.Missing.{IsAmong}
-
-names_total : IsTotalOrder name_cmp
-names_total = nat_list_cmp_total
-
-pub both : (a b : Bool) → (a && b) ≡ true → (a ≡ true) × (b ≡ true)
-both true b e = (refl, e)
-both false b e = absurd (cc e)
-
-less_from : (o : Ordering) → is_lt o ≡ true → o ≡ Less
-less_from Less e = refl
-less_from Equal e = absurd (cc e)
-less_from Greater e = absurd (cc e)
 
 -- a name finds the first record that has it
 at_head : (r : RecordData) (rs : List RecordData) → record_named r.name (r ∷ rs) ≡ Some r
@@ -40,8 +29,8 @@ apart : (name : List ℕ) (rs : List RecordData) (r : RecordData) → IsAmong r 
 apart name [] r among below = absurd among
 apart name (x ∷ rs) r (inl same) below =
     subst (λ (z : RecordData). eq_by_cmp name_cmp z.name name ≡ false) same
-    (above name x.name (less_from (name_cmp name x.name) (both _ _ below).0))
-apart name (x ∷ rs) r (inr among) below = apart name rs r among (both _ _ below).1
+    (above name x.name (less_from_lt (name_cmp name x.name) (and_parts _ _ below).0))
+apart name (x ∷ rs) r (inr among) below = apart name rs r among (and_parts _ _ below).1
 
 -- each record of a list whose names rise is found by its name
 found : (rs : List RecordData) (r : RecordData) → is_sorted name_cmp (by_name rs) ≡ true → IsAmong r rs
@@ -50,7 +39,7 @@ found [] r sorted among = absurd among
 found (x ∷ rs) r sorted (inl same) =
     subst (λ (z : RecordData). record_named z.name (x ∷ rs) ≡ Some z) same (at_head x rs)
 found (x ∷ rs) r sorted (inr among) =
-    let parts = both (below_all name_cmp x.name (by_name rs)) (is_sorted name_cmp (by_name rs)) sorted in
+    let parts = and_parts (below_all name_cmp x.name (by_name rs)) (is_sorted name_cmp (by_name rs)) sorted in
     ap (λ b. cond b (Some x) (record_named r.name rs)) (apart x.name rs r among parts.0)
     ∙ found rs r parts.1 among
 

@@ -49,12 +49,6 @@ module _ (path : PathGen) (rs : List RecordData) where
       ∙ ap (λ l. old ++ l) (sym (more f from (at - from) at place))
       ∙ ap (λ n. old ++ filter f (range_with_len from n)) count
 
-  -- no position from here up to here
-  pub none_on : (at : ℕ) (old : List ℕ) → old ≡ old ++ under_between path rs at at
-  none_on at old =
-      let none : 0 ≡ at - at = omega arith in
-      sym (append-nil old) ∙ ap (λ n. old ++ filter f (range_with_len at n)) none
-
   nothing : (from k : ℕ) → ((i : ℕ) → from ≤ i → i < from + k → f i ≡ false) → filter f (range_with_len from k) ≡ []
   nothing from zero none = refl
   nothing from (suc k) none =

@@ -12,17 +12,13 @@ use Rattle.std.proofs.lemmas.Cmp.{tied_itself}
 use Rattle.std.proofs.lemmas.List.{drop_all, get_or-map, length-map}
 use Rattle.std.proofs.lemmas.List.Sorted.{list_any-IsPermutation, ranks_by, sorted_far}
 use Rattle.std.proofs.lemmas.List.Sums.{sum_by-cons}
+use Rattle.wq_base.proofs.Facts.{item}
 use Rattle.wq_record.specs.RecordData.{RecordData}
 use Rattle.wq_term.specs.declared.generators.PathGen.{PathGen}
 use Rattle.wq_gen.specs.Candidate.{is_itself, is_on_path, is_under}
 use Rattle.wq_gen.specs.Outer.{holds, is_held, kept_after, once, outer, path_order}
 use Rattle.wq_gen.proofs.Holding.{either, holds_gives, holds_itself, holds_on}
 use Rattle.wq_gen.proofs.PathOrder.{holds_between, holds_first, path_tied, path_total}
-
--- an item of a list
-item : {A : Type 0} (xs : List A) (k : ℕ) → k < length xs → A
-item [] k h = absurd (omega (arith, h))
-item (x ∷ xs) k h = x
 
 -- the image of a sorted list is sorted
 pub sorted_image : {A B : Type 0} (f : A → B) (lt : B → B → Bool) (xs : List A) → IsSortedBy (λ a b. lt (f a) (f b)) xs → IsSortedBy lt (map f xs)

@@ -6,7 +6,7 @@ use Rattle.std.specs.Cmp.{IsTotalOrder, bool_cmp_total, ranks}
 use Rattle.std.specs.declared.cmp.Ordering.{Ordering}
 use Rattle.std.specs.declared.cmp.Ordering.TheVariants.{Less, Equal, Greater}
 use Rattle.std.specs.Ordering.{MatchOrdering, bool_cmp, int_cmp, is_eq, is_gt, is_lt, nat_cmp, ordering_reverse, ordering_then}
-use Rattle.std.proofs.lemmas.Bool.{cases_lt, eq-eqb, eqb-true, le-leb, le-ltb, lt-leb, lt-ltb}
+use Rattle.std.proofs.lemmas.Bool.{cases_lt, eq-eqb, eqb-true, le-leb, le-ltb, lt-leb, lt-ltb, not-false}
 use Rattle.std.proofs.lemmas.Bool.Decides.{Decides-int_eq}
 use Rattle.std.proofs.lemmas.Cmp.{back_total, int_cmp_total, nat_cmp_total, nat_list_cmp_total, on_total, then_total, tied_itself}
 use Rattle.wq_base.specs.Byte.{is_slash}
@@ -139,10 +139,6 @@ le_not_lt a b = at (cases_lt b a)
     at (inl h) = lt-leb a b h ∙ sym (ap not (lt-ltb b a h))
     at (inr h) = le-leb a b h ∙ sym (ap not (le-ltb b a h))
 
-not_turned : (b : Bool) → not b ≡ false → b ≡ true
-not_turned true e = refl
-not_turned false e = absurd (true≢false e)
-
 less : (d e : ℤ) → int_lt d e ≡ true → int_cmp d e ≡ Less
 less d e h = ap (λ b. cond b Less (cond (int_lt e d) Greater Equal)) h
 
@@ -182,7 +178,7 @@ first_reach d e = at (is_unlimited d) (is_unlimited e)
         by false f = absurd (true≢false (sym (ap is_gt greater) ∙ h))
           where
             later : int_cmp d e ≡ Less
-            later = less d e (not_turned (int_lt d e) (sym (int_le_not_lt d e) ∙ f))
+            later = less d e (not-false (int_lt d e) (sym (int_le_not_lt d e) ∙ f))
 
             greater : int_cmp e d ≡ Greater
             greater = int_cmp_total.antisymm e d ∙ ap ordering_reverse later

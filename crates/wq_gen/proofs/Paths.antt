@@ -5,7 +5,7 @@ use Rattle.std.specs.Option.{option_map_or}
 use Rattle.std.proofs.lemmas.Bool.{and_left, and_right, lt-leb, le-ltb, ne_eqb}
 use Rattle.std.proofs.lemmas.List.Folds.{list_any-append}
 use Rattle.std.proofs.lemmas.List.{map-append}
-use Rattle.std.proofs.lemmas.List.Sums.{sum_by-append, sum_by-cons}
+use Rattle.std.proofs.lemmas.List.Sums.{sum_by-cons}
 use mathlib.Core.Bool.{true≢false}
 use Rattle.wq_base.specs.Directory.{rest_below}
 use Rattle.wq_base.specs.declared.compare.Case.TheVariants.{Exact}
@@ -100,7 +100,3 @@ module _ {A : Type 0} (f : A → PathGen) where
         let one : sum_by cost (f q ∷ []) ≡ cost (f q) + sum_by cost [] = sum_by-cons cost (f q) [] in
         ap (λ x. cost (f x)) is ∙ omega (arith, one)
     one_sum_of (q ∷ q' ∷ ps) p low high is = absurd (omega (arith, high))
-
-    pub both_sums_of : (ps qs all : List A) → all ≡ ps ++ qs → sum_by cost (map f all) ≡ sum_by cost (map f ps) + sum_by cost (map f qs)
-    both_sums_of ps qs all is =
-        ap (λ l. sum_by cost (map f l)) is ∙ ap (sum_by cost) (map-append f ps qs) ∙ sum_by-append cost (map f ps) (map f qs)

@@ -1,19 +1,12 @@
 -- The first positions that a test keeps.
-use Rattle.std.proofs.Common.{◌≡◌, ◌≢◌, ℕ, zero, suc, ◌+◌, ◌<◌, ◌≤◌, Bool, true, false, cond, IsTrue, List, [], ◌∷◌, ◌++◌, length, filter, slice_get, Option, Some, None, ◌⊎◌, inl, inr, refl, ap, sym, ◌∙◌, arith, add-one, append-nil, get_or}
+use Rattle.std.proofs.Common.{◌≡◌, ◌≢◌, ℕ, zero, suc, ◌+◌, ◌<◌, ◌≤◌, Bool, true, false, cond, List, [], ◌∷◌, ◌++◌, length, filter, slice_get, Option, Some, None, ◌⊎◌, inl, inr, refl, ap, sym, ◌∙◌, arith, add-one, append-nil, get_or}
 use Rattle.std.specs.List.{range_with_len}
 use Rattle.std.specs.Option.{option_map_or}
-use Rattle.std.proofs.lemmas.Bool.{cases_lt, and_parts}
-use Rattle.std.proofs.lemmas.Bool.Decides.{nat_tests}
-use Rattle.wq_record.specs.Name.{is_valid_name}
-use Rattle.wq_record.specs.declared.name.TheConstants.{MAX_NAME}
+use Rattle.std.proofs.lemmas.Bool.{cases_lt}
 use Rattle.std.proofs.lemmas.Option.{slice_get-get_or}
+use Rattle.std.proofs.lemmas.List.Elements.{filter_agree}
 use Rattle.wq_record.specs.RecordData.{RecordData, blank_record}
 use Rattle.wq_view.specs.Position.{passes_at, all_positions, positions_of}
-
--- tests that agree keep the same
-pub filter_alike : (f g : ℕ → Bool) → ((i : ℕ) → f i ≡ g i) → (is : List ℕ) → filter f is ≡ filter g is
-filter_alike f g alike [] = refl
-filter_alike f g alike (i ∷ is) = rw (alike i) (ap (λ kept. cond (g i) (i ∷ kept) kept) (filter_alike f g alike is))
 
 -- tests that agree on records agree at positions
 pub passes_alike : (p q : RecordData → Bool) → ((r : RecordData) → p r ≡ q r) → (rs : List RecordData) (i : ℕ) → passes_at p rs i ≡ passes_at q rs i
@@ -24,7 +17,7 @@ passes_alike p q alike rs i = at (slice_get rs i)
     at (Some r) = alike r
 
 pub positions_alike : (p q : RecordData → Bool) → ((r : RecordData) → p r ≡ q r) → (rs : List RecordData) → positions_of p rs ≡ positions_of q rs
-positions_alike p q alike rs = filter_alike (passes_at p rs) (passes_at q rs) (passes_alike p q alike rs) (all_positions rs)
+positions_alike p q alike rs = filter_agree (passes_at p rs) (passes_at q rs) (passes_alike p q alike rs) (all_positions rs)
 
 -- one more position
 pub more : (f : ℕ → Bool) (a n j : ℕ) → a + n ≡ j → filter f (range_with_len a (suc n)) ≡ filter f (range_with_len a n) ++ cond (f j) (j ∷ []) []
@@ -54,11 +47,6 @@ none_behind f n (suc m) low none = at (cases_lt m n) (λ fits. none_behind f n m
 pub one_alone : (f : ℕ → Bool) (n i : ℕ) → i < n → ((k : ℕ) → k ≢ i → f k ≡ false) → filter f (range_with_len 0 n) ≡ cond (f i) (i ∷ []) []
 one_alone f n i low none =
     none_behind f (suc i) n (omega arith) (λ k behind. none k (λ same. omega (arith, same, behind))) ∙ more f 0 i i (omega arith) ∙ ap (λ kept. kept ++ cond (f i) (i ∷ []) []) (none_before f i (λ k before. none k (λ same. omega (arith, same, before))))
-
--- a valid name has at most 4,096 bytes
-pub name_is_short : (name : List ℕ) → IsTrue (is_valid_name name) → length name ≤ MAX_NAME
-unfolding is_valid_name
-name_is_short name h = grind (arith, nat_tests, and_parts)
 
 -- one more record was tried
 pub goes_on : (test : RecordData → Bool) (rs : List RecordData) (i : ℕ) (r : RecordData) (is_kept : Bool) (found more_found : List ℕ) → found ≡ filter (passes_at test rs) (range_with_len 0 i) → slice_get rs i ≡ Some r → is_kept ≡ test r → more_found ≡ found ++ cond is_kept (i ∷ []) [] → more_found ≡ filter (passes_at test rs) (range_with_len 0 (i + 1))

@@ -1,52 +1,30 @@
 -- The positions of what changed after a tick come first in the order of last change.
 use Rattle.std.proofs.Common.{◌≡◌, ℕ, zero, suc, ◌+◌, ◌-◌, ◌<◌, ◌≤◌, ◌⊎◌, inl, inr, Bool, true, false, cond, ◌&&◌, ◌||◌, ◌==◌, nat_lt, nat_le, if◌then◌else◌, List, [], ◌∷◌, ◌++◌, map, length, take, get_or, slice_get, count_by, filter, Some, refl, sym, ap, subst, ◌∙◌, add-one, arith}
-use mathlib.Core.Bool.{false≢true, true≢false}
+use mathlib.Core.Bool.{true≢false}
 use Rattle.std.specs.List.{AllByRecursion, range_with_len}
 use Rattle.std.specs.List.Sorted.{IsPermutation}
-use Rattle.std.proofs.lemmas.Bool.{and_from, cases_eq, cases_lt, eq-eqb, eqb-true, le-ltb, le-leb, leb-true, lt-ltb, ltb-true}
+use Rattle.std.proofs.lemmas.Bool.{and_from, cases_eq, cases_lt, eq-eqb, eqb-true, le-ltb, le-leb, leb-true, lt-ltb, ltb-true, or_right, or_left, or_cases, and_parts}
 use Rattle.std.proofs.lemmas.List.{length-map, map-append}
 use Rattle.std.proofs.lemmas.Option.{same_Some}
 use Rattle.std.proofs.lemmas.List.Sorted.{IsPermutation-refl, IsPermutation-cons, IsPermutation-map, IsPermutation-trans, IsPermutation-append, IsPermutation-middle, length_permutation}
 use Rattle.std.proofs.lemmas.List.Sums.{sum_by-cons}
+use Rattle.std.specs.Cmp.{both_ways}
+use Rattle.wq_base.proofs.Facts.{all_so}
 use Rattle.wq_clock.specs.declared.bound.Bound.TheVariants.{Tick}
 use Rattle.wq_record.specs.RecordData.{RecordData}
 use Rattle.wq_view.specs.Position.{passes_at, positions_of}
 use Rattle.wq_view.specs.Order.{positions, newest_first, newer, ticks_of, Known, NewestIsSplit}
+use Rattle.wq_view.proofs.LaterOrder.{positions_alike}
 use Rattle.wq_gen.specs.Candidate.{changed_since}
 use Rattle.wq_gen.proofs.Rising.{Rises}
-
-all_more : (P Q : ℕ → Type 0) → ((p : ℕ) → P p → Q p) → (ps : List ℕ) → AllByRecursion P ps → AllByRecursion Q ps
-all_more P Q step [] all = tt
-all_more P Q step (p ∷ ps) all = (step p all.0, all_more P Q step ps all.1)
 
 pub all_push : (P : ℕ → Type 0) (ps : List ℕ) (p : ℕ) → AllByRecursion P ps → P p → AllByRecursion P (ps ++ (p ∷ []))
 all_push P [] p all here = (here, tt)
 all_push P (q ∷ ps) p all here = (all.0, all_push P ps p all.1 here)
 
--- tests of which each follows from the other
-same_bool : (a b : Bool) → (a ≡ true → b ≡ true) → (b ≡ true → a ≡ true) → a ≡ b
-same_bool true b there back = sym (there refl)
-same_bool false true there back = back refl
-same_bool false false there back = refl
-
-or_right : (a b : Bool) → b ≡ true → (a || b) ≡ true
-or_right true b e = refl
-or_right false b e = e
-
-or_left : (a b : Bool) → a ≡ true → (a || b) ≡ true
-or_left a b e = rw e refl
-
-or_cases : (a b : Bool) → (a || b) ≡ true → (a ≡ true) ⊎ (b ≡ true)
-or_cases true b e = inl refl
-or_cases false b e = inr e
-
 and_true : (b : Bool) → (b && true) ≡ b
 and_true true = refl
 and_true false = refl
-
-both : (a b : Bool) → (a && b) ≡ true → (a ≡ true) × (b ≡ true)
-both true b e = (refl, e)
-both false b e = absurd (false≢true e)
 
 -- the positions of either of two tests, which no item passes both
 cases : (a b c : Bool) (ps qs rs : List ℕ) → c ≡ (a || b) → (a ≡ true → b ≡ false) → IsPermutation (map suc ps ++ map suc qs) (map suc rs) → IsPermutation ((if a then 0 ∷ map suc ps else map suc ps) ++ (if b then 0 ∷ map suc qs else map suc qs)) (if c then 0 ∷ map suc rs else map suc rs)
@@ -65,22 +43,18 @@ none_pass : (p : ℕ → Bool) (ns : List ℕ) → AllByRecursion (λ n. p n ≡
 none_pass p [] all = refl
 none_pass p (n ∷ ns) all = rw all.0 (ap (map suc) (none_pass p ns all.1))
 
-alike : (p q : ℕ → Bool) (ns : List ℕ) → AllByRecursion (λ n. p n ≡ q n) ns → positions p ns ≡ positions q ns
-alike p q [] all = refl
-alike p q (n ∷ ns) all = rw all.0 (ap (λ l. if q n then 0 ∷ map suc l else map suc l) (alike p q ns all.1))
-
 -- the ticks after one, as many as these
 abbrev in_span : ℕ → ℕ → ℕ → Bool
 in_span tick more n = nat_lt tick n && nat_le n (more + tick)
 
 one_span : (tick more n : ℕ) → in_span tick (suc more) n ≡ ((n == suc (more + tick)) || in_span tick more n)
-one_span tick more n = same_bool _ _ there back
+one_span tick more n = both_ways _ _ there back
   where
     there : in_span tick (suc more) n ≡ true → ((n == suc (more + tick)) || in_span tick more n) ≡ true
     there e = at (cases_eq n (suc (more + tick)))
       where
         parts : (nat_lt tick n ≡ true) × (nat_le n (suc more + tick) ≡ true)
-        parts = both (nat_lt tick n) (nat_le n (suc more + tick)) e
+        parts = and_parts (nat_lt tick n) (nat_le n (suc more + tick)) e
 
         at : (n ≡ suc (more + tick)) ⊎ (n ≡ suc (more + tick) → ⊥) → ((n == suc (more + tick)) || in_span tick more n) ≡ true
         at (inl same) = or_left (n == suc (more + tick)) (in_span tick more n) (eq-eqb n (suc (more + tick)) same)
@@ -94,7 +68,7 @@ one_span tick more n = same_bool _ _ there back
             let is = eqb-true n (suc (more + tick)) same in
             and_from (nat_lt tick n) (nat_le n (suc more + tick)) (lt-ltb tick n (omega (arith, is))) (le-leb n (suc more + tick) (omega (arith, is)))
         at (inr in_it) =
-            let parts = both (nat_lt tick n) (nat_le n (more + tick)) in_it in
+            let parts = and_parts (nat_lt tick n) (nat_le n (more + tick)) in_it in
             and_from (nat_lt tick n) (nat_le n (suc more + tick)) parts.0 (le-leb n (suc more + tick) (omega (arith, leb-true n (more + tick) parts.1)))
 
 span_apart : (tick more n : ℕ) → (n == suc (more + tick)) ≡ true → in_span tick more n ≡ false
@@ -102,7 +76,7 @@ span_apart tick more n e = at (in_span tick more n) refl
   where
     at : (b : Bool) → in_span tick more n ≡ b → in_span tick more n ≡ false
     at false is = is
-    at true is = absurd (omega (arith, eqb-true n (suc (more + tick)) e, leb-true n (more + tick) (both (nat_lt tick n) (nat_le n (more + tick)) is).1))
+    at true is = absurd (omega (arith, eqb-true n (suc (more + tick)) e, leb-true n (more + tick) (and_parts (nat_lt tick n) (nat_le n (more + tick)) is).1))
 
 no_span : (tick n : ℕ) → in_span tick 0 n ≡ false
 no_span tick n = at (in_span tick 0 n) refl
@@ -110,7 +84,7 @@ no_span tick n = at (in_span tick 0 n) refl
     at : (b : Bool) → in_span tick 0 n ≡ b → in_span tick 0 n ≡ false
     at false is = is
     at true is =
-        let parts = both (nat_lt tick n) (nat_le n (0 + tick)) is in
+        let parts = and_parts (nat_lt tick n) (nat_le n (0 + tick)) is in
         absurd (omega (arith, ltb-true tick n parts.0, leb-true n (0 + tick) parts.1))
 
 all_true : (P : ℕ → Type 0) → ((n : ℕ) → P n) → (ns : List ℕ) → AllByRecursion P ns
@@ -200,10 +174,10 @@ pub parted : NewestIsSplit → (tick t : ℕ) (rs : List RecordData) → Known t
 parted law tick t rs known = at (cases_lt t tick)
   where
     fail : (bound : ℕ) → bound ≤ tick → (ps : List ℕ) → AllByRecursion (λ p. get_or (ticks_of rs) p 0 ≤ bound) ps → AllByRecursion (λ i. passes_at (changed_since (Tick tick)) rs i ≡ false) ps
-    fail bound h ps all = all_more (λ p. get_or (ticks_of rs) p 0 ≤ bound) (λ i. passes_at (changed_since (Tick tick)) rs i ≡ false) (λ p low. passes_tick tick rs p ∙ le-ltb tick (get_or (ticks_of rs) p 0) (omega (arith, low, h))) ps all
+    fail bound h ps all = all_so (λ p. get_or (ticks_of rs) p 0 ≤ bound) (λ i. passes_at (changed_since (Tick tick)) rs i ≡ false) (λ p low. passes_tick tick rs p ∙ le-ltb tick (get_or (ticks_of rs) p 0) (omega (arith, low, h))) ps all
 
     pass : (ps : List ℕ) → AllByRecursion (λ p. tick < get_or (ticks_of rs) p 0) ps → AllByRecursion (λ i. passes_at (changed_since (Tick tick)) rs i ≡ true) ps
-    pass ps all = all_more (λ p. tick < get_or (ticks_of rs) p 0) (λ i. passes_at (changed_since (Tick tick)) rs i ≡ true) (λ p high. passes_tick tick rs p ∙ lt-ltb tick (get_or (ticks_of rs) p 0) high) ps all
+    pass ps all = all_so (λ p. tick < get_or (ticks_of rs) p 0) (λ i. passes_at (changed_since (Tick tick)) rs i ≡ true) (λ p high. passes_tick tick rs p ∙ lt-ltb tick (get_or (ticks_of rs) p 0) high) ps all
 
     at : (t < tick) ⊎ (tick ≤ t) → IsParted tick rs (newest_first t (ticks_of rs))
     at (inl past) =
@@ -222,7 +196,7 @@ parted law tick t rs known = at (cases_lt t tick)
         let e : t ≡ more + tick = omega (arith, low) in
         let split_is = law more tick t (ticks_of rs) e in
         let same : positions (in_span tick more) (ticks_of rs) ≡ positions_of (changed_since (Tick tick)) rs =
-        alike (in_span tick more) (nat_lt tick) (ticks_of rs) (known_bound t (λ n. in_span tick more n ≡ nat_lt tick n) (λ n bound. ap (λ b. nat_lt tick n && b) (le-leb n (more + tick) (omega (arith, bound, e))) ∙ and_true (nat_lt tick n)) rs known) ∙ positions_match (nat_lt tick) rs in
+        positions_alike (in_span tick more) (nat_lt tick) (ticks_of rs) (known_bound t (λ n. in_span tick more n ≡ nat_lt tick n) (λ n bound. ap (λ b. nat_lt tick n && b) (le-leb n (more + tick) (omega (arith, bound, e))) ∙ and_true (nat_lt tick n)) rs known) ∙ positions_match (nat_lt tick) rs in
         record {
           front = newer more tick (ticks_of rs);
           back = newest_first tick (ticks_of rs);
@@ -239,10 +213,6 @@ module _ (pass : ℕ → Bool) where
 
   abbrev Fail : List ℕ → Type 0
   Fail = AllByRecursion (λ i. pass i ≡ false)
-
-  tail_of : List ℕ → List ℕ
-  tail_of [] = []
-  tail_of (x ∷ xs) = xs
 
   -- what passes is no longer than the part that passes
   prefix_short : (front back xs : List ℕ) → xs ≡ take (length xs) (front ++ back) → Pass xs → Fail back → length xs ≤ length front

@@ -3,10 +3,10 @@ use Rattle.std.proofs.Common.{◌≡◌, ℕ, zero, suc, ◌+◌, ◌<◌, Bool,
 use Rattle.std.specs.List.{AllByRecursion, range_with_len}
 use Rattle.std.specs.Option.{option_map_or}
 use Rattle.std.proofs.lemmas.Bool.{lt-ltb, le-ltb, eq-eqb, ne_eqb}
+use Rattle.std.proofs.lemmas.List.Elements.{filter_agree}
 use Rattle.wq_record.specs.RecordData.{RecordData}
 use Rattle.wq_view.specs.Position.{passes_at, all_positions, positions_of}
 use Rattle.wq_gen.specs.Union.{put_position, union}
-use Rattle.wq_gen.proofs.Positions.{filter_alike}
 
 -- the positions from one on are above each lower one
 kept_above : (f : ℕ → Bool) (a from n : ℕ) → a < from → AllByRecursion (λ x. a < x) (filter f (range_with_len from n))
@@ -72,7 +72,7 @@ passes_either p q rs i = at (slice_get rs i)
 -- the positions of the records that pass one of two tests
 pub union_positions : (p q : RecordData → Bool) (rs : List RecordData) → union (positions_of p rs) (positions_of q rs) ≡ positions_of (λ r. p r || q r) rs
 union_positions p q rs =
-    union_filters (passes_at p rs) (passes_at q rs) 0 (length rs) ∙ filter_alike _ _ (passes_either p q rs) (all_positions rs)
+    union_filters (passes_at p rs) (passes_at q rs) 0 (length rs) ∙ filter_agree _ _ (passes_either p q rs) (all_positions rs)
 
 -- the same for lists of these positions
 pub union_found : (p q : RecordData → Bool) (rs : List RecordData) (xs ys both : List ℕ) → xs ≡ positions_of p rs → ys ≡ positions_of q rs → both ≡ union xs ys → both ≡ positions_of (λ r. p r || q r) rs

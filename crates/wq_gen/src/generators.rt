@@ -47,7 +47,7 @@ pub(crate) fn is_itself(path: &PathGen, file: &Record) -> bool
 }
 
 /// Whether the file is strictly below the path, and within its depth.
-#[tactic(auto, using(crate::proofs::Positions::name_is_short))]
+#[tactic(auto, using(wq_term::proofs::Texts::name_is_short))]
 pub(crate) fn is_under(path: &PathGen, file: &Record) -> bool
     ensures { result ≡ is_under path.now file.now }
 {

@@ -58,7 +58,7 @@ fn fitting<A: Asker>(
 }
 
 /// Whether the file exists, and one of these patterns fits its whole name.
-#[tactic(auto, using(crate::proofs::Positions::name_is_short))]
+#[tactic(auto, using(wq_term::proofs::Texts::name_is_short))]
 fn is_fitting(patterns: &[Pattern], file: &Record) -> bool
     ensures { result ≡ is_fitting patterns.now file.now }
 {

@@ -1,6 +1,7 @@
 -- The last byte of a pattern, against the last byte of a text.
-use Rattle.std.proofs.Common.{◌≡◌, ℕ, ◌+◌, ◌-◌, ◌≤◌, Bool, true, false, not, ◌==◌, List, [], ◌∷◌, length, drop, get_or, refl, sym, ◌∙◌, ap, subst, inl, inr, arith}
+use Rattle.std.proofs.Common.{◌≡◌, ℕ, ◌+◌, ◌-◌, ◌≤◌, Bool, true, false, not, ◌==◌, List, [], ◌∷◌, length, drop, get_or, sym, ◌∙◌, ap, subst, inl, inr, arith}
 use Rattle.std.proofs.lemmas.Bool.{cases_lt, cases_eq, and_left}
+use Rattle.std.proofs.lemmas.List.{drop_more}
 use Rattle.wq_glob.specs.Byte.{lower_if}
 use Rattle.wq_glob.specs.Mark.{Mark}
 use Rattle.wq_glob.specs.Cell.{marks_of, cell_of, dead_cell, step_fits, marks_at, mark_at}
@@ -11,7 +12,7 @@ use Rattle.wq_glob.specs.declared.step.Step.{Step}
 use Rattle.wq_glob.specs.declared.step.Step.TheVariants.{Byte}
 use Rattle.wq_glob.proofs.EndLemmas.{end_cell, none_below}
 use Rattle.wq_glob.proofs.MarkLemmas.{marks_step, length-marks_from}
-use Rattle.wq_glob.proofs.RowLemmas.{cell_at_end, dead_below, drop_all, drop_step}
+use Rattle.wq_glob.proofs.RowLemmas.{cell_at_end, dead_below, drop_all}
 use Rattle.wq_glob.proofs.RunLemmas.{dead_from, marks_end}
 
 -- the last mark of a text, alone
@@ -27,7 +28,7 @@ module _ (f : Rules) (steps : List Step) (n : ℕ) (d : Step) (b : ℕ) (ends : 
   -- the tail at the last step is that byte
   last_tail : drop n steps ≡ Byte b ∷ []
   last_tail =
-      drop_step steps n d (omega arith)
+      drop_more steps n d (omega arith)
       ∙ ap (λ (s : Step). s ∷ drop (n + 1) steps) last
       ∙ ap (λ (l : List Step). Byte b ∷ l) (drop_all steps (n + 1) (omega arith))
 
@@ -84,8 +85,3 @@ module _ (f : Rules) (steps : List Step) (n : ℕ) (d : Step) (b : ℕ) (ends : 
   pub back_value_empty : (text : List ℕ) → length text ≡ 0 → true ≡ first_differs (step_form f) (last_alone steps) (last_alone (marks_of f text))
   back_value_empty [] none = sym (ap (λ (l : List Step). first_differs (step_form f) l []) last_is)
   back_value_empty (x ∷ xs) none = absurd (omega arith)
-
--- nor does one that is not there
-pub back_none : (f : Rules) (steps : List Step) (text : List Mark) → length steps ≡ 0 → false ≡ first_differs (step_form f) (last_alone steps) text
-back_none f [] text none = refl
-back_none f (s ∷ steps) text none = absurd (omega arith)

@@ -1,8 +1,9 @@
 -- The row at the end of the text.
-use Rattle.std.proofs.Common.{◌≡◌, ◌≢◌, ℕ, zero, suc, ◌+◌, ◌-◌, ◌<◌, ◌≤◌, Bool, true, false, ◌&&◌, ◌||◌, List, [], ◌∷◌, ◌⊎◌, length, drop, get_or, set, refl, sym, ◌∙◌, ap, subst, inl, inr, arith, get_or-set_same, get_or-set_other, drop-cons}
+use Rattle.std.proofs.Common.{◌≡◌, ◌≢◌, ℕ, zero, suc, ◌+◌, ◌-◌, ◌<◌, ◌≤◌, Bool, true, false, ◌&&◌, List, [], ◌∷◌, ◌⊎◌, length, drop, get_or, set, refl, sym, ◌∙◌, ap, subst, inl, inr, arith, get_or-set_same, get_or-set_other, drop-cons}
 use Rattle.std.proofs.lemmas.Bool.{cases_lt, cases_eq, and_right, or_left}
 use Rattle.std.proofs.lemmas.List.{get_or-replicate, get_or_past}
 use Rattle.std.proofs.Math.ListN.{replicate, length-replicate}
+use Rattle.std.proofs.Math.Bool.{or-false}
 use Rattle.wq_glob.specs.Step.{step_reach}
 use Rattle.wq_glob.specs.Cell.{cell_of, dead_cell, step_fits, IsRow, IsWindow, IsBlank, may_be_empty}
 use Rattle.wq_glob.proofs.RowLemmas.{drop_all}
@@ -12,17 +13,13 @@ use Rattle.wq_glob.specs.declared.row.Window.{Window}
 use Rattle.wq_glob.specs.declared.step.Step.{Step}
 use Rattle.wq_glob.specs.declared.step.Step.TheVariants.{Byte, AnyByte, Set, Stars, Below, Tail, Never}
 
-or_nothing : (b : Bool) → (b || false) ≡ b
-or_nothing true = refl
-or_nothing false = refl
-
 -- at the end of the text a step fits if it may take nothing and the next ones fit
 end_step : (f : Rules) (s : Step) (later : List Step) → cell_of f (s ∷ later) [] ≡ record { fits = may_be_empty (step_reach s) && step_fits f later []; begun = false }
 end_step f (Byte b) later = refl
 end_step f AnyByte later = refl
 end_step f (Set set) later = refl
 end_step f Stars later = refl
-end_step f Below later = ap (λ (b : Bool). record { fits = b; begun = false }) (or_nothing (step_fits f later []))
+end_step f Below later = ap (λ (b : Bool). record { fits = b; begun = false }) (or-false (step_fits f later []))
 end_step f Tail later = refl
 end_step f Never later = refl
 

@@ -1,12 +1,13 @@
 -- The bytes at the front of a pattern.
 use Rattle.std.proofs.Common.{◌≡◌, ℕ, ◌+◌, ◌<◌, ◌≤◌, true, false, ◌&&◌, List, [], ◌∷◌, length, drop, get_or, refl, sym, ◌∙◌, ap, arith}
 use Rattle.std.proofs.lemmas.Bool.{false≢true}
+use Rattle.std.proofs.lemmas.List.{drop_more}
 use Rattle.wq_glob.specs.Mark.{Mark}
 use Rattle.wq_glob.specs.Cost.{agrees, begins_literal, front}
 use Rattle.wq_glob.specs.Cell.{step_fits, marks_at, mark_at}
 use Rattle.wq_glob.specs.Step.{is_byte, step_admits, step_form}
 use Rattle.wq_glob.proofs.MarkLemmas.{marks_step}
-use Rattle.wq_glob.proofs.RowLemmas.{drop_all, drop_step}
+use Rattle.wq_glob.proofs.RowLemmas.{drop_all}
 use Rattle.wq_glob.proofs.RunLemmas.{marks_end}
 use Rattle.wq_glob.specs.declared.rules.Rules.{Rules}
 use Rattle.wq_glob.specs.declared.step.Step.{Step}
@@ -17,7 +18,7 @@ pub agrees_here : (f : Rules) (steps : List Step) (text : List ℕ) (at : ℕ) (
     (is_byte (get_or steps at d) && step_admits f (get_or steps at d) (mark_at f text at)) ≡ agrees (step_form f) (drop at steps) (marks_at f text at)
 agrees_here f steps text at d within inside =
     sym
-    (ap (λ (l : List Step). agrees (step_form f) l (marks_at f text at)) (drop_step steps at d within)
+    (ap (λ (l : List Step). agrees (step_form f) l (marks_at f text at)) (drop_more steps at d within)
     ∙ ap (agrees (step_form f) (get_or steps at d ∷ drop (at + 1) steps)) (marks_step f text at inside))
 
 agrees_nothing : (f : Rules) (steps : List Step) → agrees (step_form f) steps [] ≡ false
@@ -56,22 +57,16 @@ module _ (f : Rules) (steps : List Step) (text : List ℕ) (n : ℕ) (within : n
   -- at a place where step and byte agree the front goes on after both
   pub front_more : front (step_form f) (drop n steps) (marks_at f text n) ≡ 1 + front (step_form f) (drop (n + 1) steps) (marks_at f text (n + 1))
   front_more =
-      ap (λ (l : List Step). front (step_form f) l (marks_at f text n)) (drop_step steps n Never within)
+      ap (λ (l : List Step). front (step_form f) l (marks_at f text n)) (drop_more steps n Never within)
       ∙ ap (front (step_form f) (get_or steps n Never ∷ drop (n + 1) steps)) (marks_step f text n inside)
       ∙ front_cons f (get_or steps n Never) (drop (n + 1) steps) (mark_at f text n) (marks_at f text (n + 1)) here
 
   -- and the steps fit if those after it do
   pub fits_more : step_fits f (drop n steps) (marks_at f text n) ≡ step_fits f (drop (n + 1) steps) (marks_at f text (n + 1))
   fits_more =
-      ap (λ (l : List Step). step_fits f l (marks_at f text n)) (drop_step steps n Never within)
+      ap (λ (l : List Step). step_fits f l (marks_at f text n)) (drop_more steps n Never within)
       ∙ ap (step_fits f (get_or steps n Never ∷ drop (n + 1) steps)) (marks_step f text n inside)
       ∙ fits_cons f (get_or steps n Never) (drop (n + 1) steps) (mark_at f text n) (marks_at f text (n + 1)) here
-
--- if no byte agrees, the front ends
-pub front_stop : (f : Rules) (steps : List Step) (text : List Mark) → agrees (step_form f) steps text ≡ false → front (step_form f) steps text ≡ 0
-front_stop f [] text is = refl
-front_stop f (s ∷ later) [] is = refl
-front_stop f (s ∷ later) (x ∷ text) is = rw is refl
 
 -- and if a byte was to agree, the text does not fit
 pub differs_no : (f : Rules) (steps : List Step) (text : List Mark) → begins_literal (step_form f) steps ≡ true → agrees (step_form f) steps text ≡ false → step_fits f steps text ≡ false

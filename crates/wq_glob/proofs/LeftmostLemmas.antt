@@ -1,8 +1,9 @@
 -- A pattern that is tried from left to right.
 use Rattle.std.proofs.Common.{◌≡◌, ℕ, zero, suc, ◌+◌, ◌-◌, ◌<◌, ◌≤◌, Bool, true, false, not, ◌&&◌, ◌||◌, ◌==◌, ◌⊎◌, List, [], ◌∷◌, length, drop, get_or, refl, sym, ◌∙◌, ap, subst, inl, inr, arith}
 use Rattle.std.proofs.lemmas.Bool.{cases_eq, cases_lt, and_parts, and_from, and_left, or_cases, or_left, or_right, or_from, false≢true, true≢false}
-use Rattle.std.proofs.lemmas.List.{drop-drop}
+use Rattle.std.proofs.lemmas.List.{drop-drop, drop_more}
 use Rattle.std.specs.List.{list_all}
+use Rattle.std.specs.Cmp.{both_ways}
 use Rattle.wq_base.specs.Byte.{is_slash}
 use Rattle.wq_glob.specs.Byte.{lower_if}
 use Rattle.wq_glob.specs.Mark.{Mark}
@@ -12,16 +13,10 @@ use Rattle.wq_glob.specs.Step.{step_admits, step_reach}
 use Rattle.wq_glob.specs.Cell.{marks_of, marks_at, mark_at, may_be_empty, step_fits}
 use Rattle.wq_glob.specs.Leftmost.{AreTaken, HasNoName, IsKeptOff, IsNextName, IsSettled, are_shown, begins_below, begins_stars, begins_tail, first_takes, fits_from, single_takes}
 use Rattle.wq_glob.proofs.MarkLemmas.{marks_step, length-marks_from}
-use Rattle.wq_glob.proofs.RowLemmas.{drop_all, drop_step}
+use Rattle.wq_glob.proofs.RowLemmas.{drop_all}
 use Rattle.wq_glob.specs.declared.rules.Rules.{Rules}
 use Rattle.wq_glob.specs.declared.step.Step.{Step}
 use Rattle.wq_glob.specs.declared.step.Step.TheVariants.{Byte, AnyByte, Set, Stars, Below, Tail, Never}
-
--- two tests that follow from each other are the same
-same_from : (a b : Bool) → (a ≡ true → b ≡ true) → (b ≡ true → a ≡ true) → a ≡ b
-same_from true b to from = sym (to refl)
-same_from false true to from = from refl
-same_from false false to from = refl
 
 pub and_is : (a b : Bool) → a ≡ true → (a && b) ≡ b
 and_is true b is = refl
@@ -128,7 +123,7 @@ module _ (f : Rules) (steps : List Step) (text : List ℕ) where
   pub first_here : (k at : ℕ) (d : Step) → k < length steps → at < length text → single_takes f (get_or steps k d) (mark_at f text at) ≡ first_takes f (drop k steps) (marks_at f text at)
   first_here k at d within inside =
       sym
-      (ap (λ (l : List Step). first_takes f l (marks_at f text at)) (drop_step steps k d within)
+      (ap (λ (l : List Step). first_takes f l (marks_at f text at)) (drop_more steps k d within)
       ∙ ap (first_takes f (get_or steps k d ∷ drop (k + 1) steps)) (marks_step f text at inside))
 
   -- no step is left, or no byte
@@ -146,7 +141,7 @@ module _ (f : Rules) (steps : List Step) (text : List ℕ) where
   takes_more : (k at : ℕ) → first_takes f (drop k steps) (marks_at f text at) ≡ true → k < length steps → at < length text → fits_from f steps text k at ≡ fits_from f steps text (k + 1) (at + 1)
   takes_more k at is within inside =
       let s : Step = get_or steps k Never in
-      ap (λ (l : List Step). step_fits f l (marks_at f text at)) (drop_step steps k Never within)
+      ap (λ (l : List Step). step_fits f l (marks_at f text at)) (drop_more steps k Never within)
       ∙ ap (step_fits f (s ∷ drop (k + 1) steps)) (marks_step f text at inside)
       ∙ part_cons (step_reach s) (step_admits f s) (step_fits f (drop (k + 1) steps)) (mark_at f text at) (marks_at f text (at + 1))
       (first_here k at Never within inside ∙ is)
@@ -157,7 +152,7 @@ module _ (f : Rules) (steps : List Step) (text : List ℕ) where
       (and_parts (not (may_be_empty (step_reach (get_or steps k Never)))) (step_admits f (get_or steps k Never) (mark_at f text at)) (first_here k at Never within inside ∙ is)).0
 
   tail_fits : (k j : ℕ) → k < length steps → fits_from f steps text k j ≡ true → step_fits f (get_or steps k Never ∷ drop (k + 1) steps) (marks_at f text j) ≡ true
-  tail_fits k j within h = subst (λ (l : List Step). step_fits f l (marks_at f text j) ≡ true) (drop_step steps k Never within) h
+  tail_fits k j within h = subst (λ (l : List Step). step_fits f l (marks_at f text j) ≡ true) (drop_more steps k Never within) h
 
   -- and at each place at which the steps from it on fit, the rest fits at the next
   rest_more : (k at j : ℕ) → first_takes f (drop k steps) (marks_at f text at) ≡ true → k < length steps → at < length text → fits_from f steps text k j ≡ true → fits_from f steps text (k + 1) (j + 1) ≡ true
@@ -169,25 +164,11 @@ module _ (f : Rules) (steps : List Step) (text : List ℕ) where
   -- and it takes the byte there
   takes_there : (k at j : ℕ) → first_takes f (drop k steps) (marks_at f text at) ≡ true → k < length steps → at < length text → fits_from f steps text k j ≡ true → first_takes f (drop k steps) (marks_at f text j) ≡ true
   takes_there k at j is within inside h =
-      subst (λ (l : List Step). first_takes f l (marks_at f text j) ≡ true) (sym (drop_step steps k Never within))
+      subst (λ (l : List Step). first_takes f l (marks_at f text j) ≡ true) (sym (drop_more steps k Never within))
       (single_some f (get_or steps k Never) (drop (k + 1) steps) (marks_at f text j) (is_single k at is within inside) (tail_fits k j within h))
 
   moved : (k j i n : ℕ) → i ≡ n → fits_from f steps text (k + i) (j + i) ≡ fits_from f steps text (k + n) (j + n)
   moved k j i n same = ap (λ (m : ℕ). fits_from f steps text (k + m) (j + m)) same
-
-  -- no step has taken a byte yet
-  pub taken_none : (k at : ℕ) → k ≤ length steps → at ≤ length text → AreTaken f steps text k at 0
-  taken_none k at within inside =
-      let e : k ≡ k + 0 = omega arith in
-      let here : (j : ℕ) → fits_from f steps text k j ≡ fits_from f steps text (k + 0) (j + 0) =
-      λ j. let i : j ≡ j + 0 = omega arith in ap (λ (n : ℕ). fits_from f steps text n j) e ∙ ap (fits_from f steps text (k + 0)) i in
-      record {
-        enough_steps = omega arith;
-        enough_text = omega arith;
-        same = here at;
-        later = λ i j none h. let z : i ≡ 0 = omega arith in moved k j i 0 z ∙ sym (here j) ∙ h;
-        takes = λ i j none h. absurd (omega arith);
-      }
 
   -- one step more
   pub taken_more : (k at n : ℕ) → AreTaken f steps text k at n → first_takes f (drop (k + n) steps) (marks_at f text (at + n)) ≡ true → k + n < length steps → at + n < length text → AreTaken f steps text k at (n + 1)
@@ -220,7 +201,7 @@ module _ (f : Rules) (steps : List Step) (text : List ℕ) where
   -- a step that takes one byte, and not the next one
   pub turn_differs : (k at : ℕ) (s d : Step) → k < length steps → get_or steps k d ≡ s → not (may_be_empty (step_reach s)) ≡ true → first_takes f (drop k steps) (marks_at f text at) ≡ false → fits_from f steps text k at ≡ false
   turn_differs k at s d within is one none =
-      let tail : drop k steps ≡ s ∷ drop (k + 1) steps = drop_step steps k d within ∙ ap (λ (h : Step). h ∷ drop (k + 1) steps) is in
+      let tail : drop k steps ≡ s ∷ drop (k + 1) steps = drop_more steps k d within ∙ ap (λ (h : Step). h ∷ drop (k + 1) steps) is in
       ap (λ (l : List Step). step_fits f l (marks_at f text at)) tail
       ∙ single_none f s (drop (k + 1) steps) (marks_at f text at) one
       (subst (λ (l : List Step). first_takes f l (marks_at f text at) ≡ false) tail none)
@@ -239,10 +220,6 @@ module _ (f : Rules) (steps : List Step) (text : List ℕ) where
         | inl inside ↦ byte_differs k j b d within is inside (other j from inside)
         | inr past ↦ turn_differs k j (Byte b) d within is refl (sym (first_end k j past))
       ]
-
-  -- a star
-  pub turn_star : (k : ℕ) (d : Step) → k < length steps → get_or steps k d ≡ Stars → begins_stars (drop k steps) ≡ true
-  turn_star k d within is = ap begins_stars (drop_step steps k d within ∙ ap (λ (h : Step). h ∷ drop (k + 1) steps) is)
 
   module _ (star : ℕ) (stars : begins_stars (drop star steps) ≡ true) where
     tail_is : drop star steps ≡ Stars ∷ drop (star + 1) steps
@@ -408,7 +385,7 @@ module _ (f : Rules) (steps : List Step) (text : List ℕ) where
 
     pub stars_more : fits_from f steps text star begin ≡ fits_from f steps text (star + 1 + n) (begin + n)
     stars_more =
-        same_from _ _
+        both_ways _ _
         (λ h. fits_there (stars_found star stars (length text - begin) begin (omega (arith, taken.enough_text)) h))
         (λ h. stars_fit star stars begin (taken.same ∙ h))
 

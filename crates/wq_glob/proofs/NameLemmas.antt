@@ -2,6 +2,7 @@
 use Rattle.std.proofs.Common.{◌≡◌, ℕ, zero, suc, ◌+◌, ◌-◌, ◌<◌, ◌≤◌, Bool, true, false, not, ◌&&◌, ◌||◌, ◌==◌, List, [], ◌∷◌, length, drop, get_or, refl, sym, ◌∙◌, ap, inl, inr, arith}
 use Rattle.std.proofs.lemmas.Bool.{and_from, and_left, and_parts, and_right, cases_eq, eq-eqb, eqb-true, false≢true, ne_eqb, not-true, or_cases, or_from, or_left, or_right}
 use Rattle.std.specs.List.{list_any}
+use Rattle.std.proofs.lemmas.List.{drop_more}
 use Rattle.wq_base.specs.Byte.{is_slash}
 use Rattle.wq_glob.specs.Byte.{lower_if}
 use Rattle.wq_glob.specs.Mark.{Mark}
@@ -15,7 +16,7 @@ use Rattle.wq_glob.specs.declared.step.Step.{Step}
 use Rattle.wq_glob.specs.declared.step.Step.TheVariants.{Byte, AnyByte, Set, Stars, Below, Tail, Never}
 use Rattle.wq_glob.proofs.LeftmostLemmas.{and_is, below_fit, from_below, marks_past}
 use Rattle.wq_glob.proofs.MarkLemmas.{marks_step}
-use Rattle.wq_glob.proofs.RowLemmas.{drop_all, drop_step}
+use Rattle.wq_glob.proofs.RowLemmas.{drop_all}
 use Rattle.wq_glob.proofs.StepLemmas.{slash_folded}
 
 -- some byte is a slash
@@ -82,7 +83,7 @@ module _ (f : Rules) where
 
   -- a step that stays leaves the answer to the later ones
   pub stay_more : (steps : List Step) (i : ℕ) (d : Step) → i < length steps → stays_in_name f (get_or steps i d) ≡ true → all_stay f (drop i steps) ≡ all_stay f (drop (i + 1) steps)
-  stay_more steps i d within stays = ap (all_stay f) (drop_step steps i d within) ∙ and_is _ _ stays
+  stay_more steps i d within stays = ap (all_stay f) (drop_more steps i d within) ∙ and_is _ _ stays
 
   pub stay_end : (steps : List Step) (i : ℕ) → length steps ≤ i → all_stay f (drop i steps) ≡ true
   stay_end steps i past = ap (all_stay f) (drop_all steps i past)

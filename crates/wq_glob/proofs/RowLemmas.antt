@@ -1,6 +1,7 @@
 -- The cells of a row, from those after the byte.
-use Rattle.std.proofs.Common.{◌≡◌, ℕ, zero, suc, ◌+◌, ◌-◌, ◌<◌, ◌≤◌, Bool, true, false, List, [], ◌∷◌, length, drop, get_or, refl, sym, ◌∙◌, ap, subst, inl, inr, arith, add-one, drop-cons}
+use Rattle.std.proofs.Common.{◌≡◌, ℕ, zero, suc, ◌+◌, ◌-◌, ◌<◌, ◌≤◌, Bool, true, false, List, [], ◌∷◌, length, drop, get_or, refl, sym, ◌∙◌, ap, subst, inl, inr, arith, drop-cons}
 use Rattle.std.proofs.lemmas.Bool.{cases_eq}
+use Rattle.std.proofs.lemmas.List.{drop_more}
 use Rattle.wq_base.specs.Byte.{is_slash}
 use Rattle.wq_glob.specs.Mark.{Mark}
 use Rattle.wq_glob.specs.FitsTest.{Reach, Single, Many, Directories}
@@ -22,17 +23,13 @@ cell_step f Below later x text = refl
 cell_step f Tail later x text = refl
 cell_step f Never later x text = refl
 
--- the first step of a tail, and the rest
-pub drop_step : {A : Type 0} (steps : List A) (k : ℕ) (d : A) → k < length steps → drop k steps ≡ get_or steps k d ∷ drop (k + 1) steps
-drop_step steps k d within = drop-cons steps k d within ∙ ap (λ (n : ℕ). get_or steps k d ∷ drop n steps) (sym (add-one k))
-
 -- the cell at a step, from the cells round it
 pub cell_at_step : (f : Rules) (steps : List Step) (k : ℕ) (d : Step) (seen : Seen) (x : Mark) (text : List Mark) (old : Cell) (old_next new_next : Bool) →
     k < length steps → seen ≡ seen_of f x → old ≡ cell_of f (drop k steps) text →
     old_next ≡ step_fits f (drop (k + 1) steps) text → new_next ≡ step_fits f (drop (k + 1) steps) (x ∷ text) →
     next_cell (step_reach (get_or steps k d)) (step_takes f (get_or steps k d) seen) seen.slash old old_next new_next ≡ cell_of f (drop k steps) (x ∷ text)
 cell_at_step f steps k d seen x text old old_next new_next within seen_is old_is old_next_is new_next_is =
-    rw (seen_is, old_is, old_next_is, new_next_is, drop_step steps k d within)
+    rw (seen_is, old_is, old_next_is, new_next_is, drop_more steps k d within)
     (sym (cell_step f (get_or steps k d) (drop (k + 1) steps) x text))
 
 -- after the last step there is no cell but a dead one at a byte

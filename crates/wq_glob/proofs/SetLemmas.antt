@@ -1,19 +1,10 @@
 -- A set that is filled byte by byte, from one byte to another.
-use Rattle.std.proofs.Common.{◌≡◌, ℕ, ◌+◌, ◌<◌, ◌≤◌, ◌⊎◌, Bool, true, false, not, ◌&&◌, ◌||◌, ◌==◌, nat_lt, nat_le, if◌then◌else◌, List, [], ◌∷◌, ◌++◌, refl, sym, ◌∙◌, ap, inl, inr, arith}
-use Rattle.std.specs.List.{list_any}
-use Rattle.std.proofs.lemmas.Bool.{cases_order, cases_eq, lt-ltb, le-ltb, lt-leb, le-leb, eq-eqb, ne_eqb}
+use Rattle.std.proofs.Common.{◌≡◌, ℕ, ◌+◌, ◌<◌, ◌≤◌, Bool, true, false, ◌&&◌, ◌||◌, ◌==◌, nat_lt, nat_le, List, refl, sym, ◌∙◌, ap, inl, inr, arith}
+use Rattle.std.proofs.lemmas.Bool.{cases_order, cases_eq, lt-ltb, le-ltb, lt-leb, le-leb, eq-eqb, ne_eqb, cases_lt}
+use Rattle.std.proofs.Math.Bool.{or-false, and-false}
 use Rattle.wq_glob.specs.Byte.{is_between, is_upper, is_lower, lower_of, upper_of}
 use Rattle.wq_glob.specs.Class.{in_items, in_either_case}
 use Rattle.wq_glob.specs.declared.class.Item.{Item}
-
--- nothing is added
-pub or_false : (x : Bool) → (x || false) ≡ x
-or_false true = refl
-or_false false = refl
-
-and_false : (x : Bool) → (x && false) ≡ false
-and_false true = refl
-and_false false = refl
 
 or_assoc : (a b c : Bool) → ((a || b) || c) ≡ (a || (b || c))
 or_assoc true b c = refl
@@ -41,7 +32,7 @@ spread : (x p q t u : Bool) → (q && t) ≡ (q && u) → (x || ((p || q) && t))
 spread true p q t u e = refl
 spread false true true true u e = refl
 spread false true true false u e = e
-spread false true false t u e = sym (or_false t)
+spread false true false t u e = sym (or-false t)
 spread false false true t u e = e
 spread false false false t u e = refl
 
@@ -61,29 +52,17 @@ put_more old held new test b n was passes is =
 pub skip_more : (old held : Bool) (test : ℕ → Bool) (b n : ℕ) → held ≡ (old || (nat_lt b n && test b)) → test n ≡ false → held ≡ (old || (nat_lt b (n + 1) && test b))
 skip_more old held test b n was fails =
     was
-    ∙ sym (or_false (old || (nat_lt b n && test b)))
-    ∙ ap (λ (q : Bool). (old || (nat_lt b n && test b)) || q) (sym (and_false (b == n)))
+    ∙ sym (or-false (old || (nat_lt b n && test b)))
+    ∙ ap (λ (q : Bool). (old || (nat_lt b n && test b)) || q) (sym (and-false (b == n)))
     ∙ sym (spread old (nat_lt b n) (b == n) (test b) false (at_here b n test false fails))
     ∙ ap (λ (p : Bool). old || (p && test b)) (sym (below_next b n))
-
--- after the last byte every one that passes is in
-pub put_all : (old held : Bool) (test : ℕ → Bool) (b n : ℕ) → b < n → held ≡ (old || (nat_lt b n && test b)) → held ≡ (old || test b)
-put_all old held test b n below is = is ∙ rw (lt-ltb b n below) refl
-
-below_or : (b n : ℕ) → (b < n) ⊎ (n ≤ b)
-below_or b n =
-    elim (cases_order b n) [
-      | inl same ↦ inr (omega arith)
-      | inr (inl below) ↦ inl below
-      | inr (inr above) ↦ inr (omega arith)
-    ]
 
 -- below a range no byte is in it
 pub range_begin : (old held : Bool) (first last b n : ℕ) → n ≡ first → held ≡ old → held ≡ (old || (nat_lt b n && is_between first last b))
 range_begin old held first last b n same is =
-    elim (below_or b first) [
-      | inr from ↦ is ∙ rw (same, le-ltb b first from) (sym (or_false old))
-      | inl below ↦ is ∙ rw (same, lt-ltb b first below, lt-leb first b below) (sym (or_false old))
+    elim (cases_lt b first) [
+      | inr from ↦ is ∙ rw (same, le-ltb b first from) (sym (or-false old))
+      | inl below ↦ is ∙ rw (same, lt-ltb b first below, lt-leb first b below) (sym (or-false old))
     ]
 
 -- a byte of a range is put into the set
@@ -99,8 +78,8 @@ range_end old held first last b n past is = is ∙ ap (λ (r : Bool). (old || b 
   where
     inside : (nat_lt b n && is_between first last b) ≡ is_between first last b
     inside =
-        elim (below_or b n) [
-          | inr above ↦ rw (le-ltb b n above, lt-leb b last (omega arith)) (sym (and_false (nat_le first b)))
+        elim (cases_lt b n) [
+          | inr above ↦ rw (le-ltb b n above, lt-leb b last (omega arith)) (sym (and-false (nat_le first b)))
           | inl below ↦ rw (lt-ltb b n below) refl
         ]
 
@@ -118,13 +97,13 @@ below_letters items b below = no_letter items b (rw (lt-leb 65 b below) refl) (r
 
 above_letters : (items : List Item) (b : ℕ) → 122 < b → in_either_case true items b ≡ in_items items b
 above_letters items b above =
-    no_letter items b (rw (lt-leb b 90 (omega arith)) (and_false (nat_le 65 b))) (rw (lt-leb b 122 above) (and_false (nat_le 97 b)))
+    no_letter items b (rw (lt-leb b 90 (omega arith)) (and-false (nat_le 65 b))) (rw (lt-leb b 122 above) (and-false (nat_le 97 b)))
 
 -- below the letters nothing is added
 pub cases_begin : (old : Bool) (items : List Item) (b : ℕ) → old ≡ in_items items b → old ≡ (old || (nat_lt b 65 && in_either_case true items b))
 cases_begin old items b is =
-    elim (below_or b 65) [
-      | inr from ↦ rw (le-ltb b 65 from) (sym (or_false old))
+    elim (cases_lt b 65) [
+      | inr from ↦ rw (le-ltb b 65 from) (sym (or-false old))
       | inl below ↦ rw (lt-ltb b 65 below, below_letters items b below, ← is) (sym (twice old))
     ]
   where
@@ -135,21 +114,11 @@ cases_begin old items b is =
 -- and after them all are in
 pub cases_end : (old held : Bool) (items : List Item) (b n : ℕ) → n ≡ 123 → old ≡ in_items items b → held ≡ (old || (nat_lt b n && in_either_case true items b)) → held ≡ in_either_case true items b
 cases_end old held items b n last is all =
-    elim (below_or b 123) [
-      | inr above ↦ all ∙ rw (last, le-ltb b 123 above) (or_false old ∙ is ∙ sym (above_letters items b above))
+    elim (cases_lt b 123) [
+      | inr above ↦ all ∙ rw (last, le-ltb b 123 above) (or-false old ∙ is ∙ sym (above_letters items b above))
       | inl below ↦ all ∙ rw (last, lt-ltb b 123 below, is) (within (in_items items b) (in_items items (lower_of b) || in_items items (upper_of b)))
     ]
   where
     within : (x y : Bool) → (x || (x || y)) ≡ (x || y)
     within true y = refl
     within false y = refl
-
--- one item more
-pub any_push : {A : Type 0} (test : A → Bool) (items : List A) (item : A) → list_any test (items ++ item ∷ []) ≡ (list_any test items || test item)
-any_push test [] item = or_false (test item)
-any_push test (x ∷ xs) item = ap (λ (b : Bool). test x || b) (any_push test xs item) ∙ sym (or_assoc (test x) (list_any test xs) (test item))
-
--- no unknown item among them, and none after
-pub none_push : (a b : Bool) → (not a && not b) ≡ not (a || b)
-none_push true b = refl
-none_push false b = refl

@@ -1,5 +1,6 @@
 -- An event of a session that is served alone is a run of the world.
 use Rattle.std.proofs.Common.{◌≡◌, ◌⊎◌, ℕ, ℤ, true, false, List, [], ◌∷◌, ◌++◌, Some, None, inl, inr, refl, ap, sym, subst, ◌∙◌}
+use Rattle.std.proofs.lemmas.Option.{same_Some}
 use Rattle.wq_clock.specs.declared.run.Run.{Run}
 use Rattle.wq_crawl.specs.Crawl.{CrawlerData}
 use Rattle.wq_live.specs.Table.{IsTableOf, TableData}
@@ -27,7 +28,6 @@ use Rattle.wq_headline.specs.Alone.{EventsAreRuns, HasGone, HappensFirst, Happen
 use Rattle.wq_headline.proofs.Asked.{asks_well, exact_or_short, short_of_watch}
 use Rattle.wq_headline.proofs.Gone.{LeftList, stayed_reply}
 use Rattle.wq_headline.proofs.Idled.{own_follows}
-use Rattle.wq_headline.proofs.Lists.{some_same}
 use Rattle.wq_headline.proofs.Looks.{numbers_find_roots}
 use Rattle.wq_headline.proofs.Needs.{IsReadyAs, IsReadyThere, MayRunOut, ShowsRoots, readies_well}
 use Rattle.wq_view.specs.View.{HasOneView}
@@ -74,7 +74,7 @@ idle_run one_view basis client before after root out world shows (roots, shelf, 
     )
   where
     here : world.events ≡ (after.known).seen
-    here = shows.events ∙ (shows.current).3 ∙ ap (λ (c : CrawlerData). c.events) (some_same (sym (shows.current).2 ∙ sym roots ∙ current.2)) ∙ sym current.3
+    here = shows.events ∙ (shows.current).3 ∙ ap (λ (c : CrawlerData). c.events) (same_Some _ _ (sym (shows.current).2 ∙ sym roots ∙ current.2)) ∙ sym current.3
 
     idles_there : (table : TableData) → IsTableOf world.events table → Idles root (numbered root world.run table) (world.follows client) out after.follows
     idles_there table is =

@@ -5,6 +5,7 @@ use Rattle.std.specs.List.{AllByRecursion}
 use Rattle.std.specs.Option.{option_map_or}
 use Rattle.std.proofs.lemmas.Bool.Decides.{Decides-int_eq}
 use Rattle.std.proofs.lemmas.List.Elements.{All-from_recursion}
+use Rattle.std.proofs.lemmas.Option.{same_Some}
 use Rattle.serde_json.specs.Data.{Data}
 use Rattle.serde_json.specs.Written.{compact_text}
 use Rattle.wq_crawl.specs.Need.{NeedData, crawl as crawl_of, look, none, unwatch, watch}
@@ -23,6 +24,7 @@ use Rattle.wq_follow.specs.Subscription.{SubscriptionData, caught_up, list_of, n
 use Rattle.wq_live.specs.Event.{number_of, passes_over}
 use Rattle.wq_live.specs.Table.{IsTableOf, RootView, TableData, has_number, has_text, root_by_text}
 use Rattle.wq_live.specs.declared.event.RootEvent.{RootEvent}
+use Rattle.wq_live.proofs.Roots.{found_number}
 use Rattle.wq_code.specs.declared.raw.Raw.{Raw}
 use Rattle.wq_query.specs.Query.{QueryData}
 use Rattle.wq_reply.specs.Plan.{PlanData}
@@ -51,7 +53,7 @@ use Rattle.wq_headline.specs.Followers.{AreViewsOf, IsFollowed, SubscriptionsAre
 use Rattle.wq_headline.proofs.Accounts.{Account, begun_account, caught, grown}
 use Rattle.wq_headline.proofs.Begins.{BeginsSo, begins_so}
 use Rattle.wq_headline.proofs.Growth.{begins_itself, happens, meets}
-use Rattle.wq_headline.proofs.Lists.{found_number, found_view, shown_by, some_same}
+use Rattle.wq_headline.proofs.Lists.{found_view, shown_by}
 use Rattle.wq_headline.proofs.Moments.{IsShownAs, same_number, told_if}
 use Rattle.wq_headline.proofs.Sent.{SaysAll, Sent, says_first, says_later, sent_after}
 
@@ -125,7 +127,7 @@ module _ (run : RunData) (client : ℤ) where
     where
       by : (found : Option RootView) → root_by_text text table ≡ found → IsSeen events (option_map (at_root run) found)
       by None absent = tt
-      by (Some r) found = λ view shown. (refl, subst (IsViewOf (passes_over r.number events)) (some_same shown) (found_view events table is (has_text text) r found))
+      by (Some r) found = λ view shown. (refl, subst (IsViewOf (passes_over r.number events)) (same_Some _ _ shown) (found_view events table is (has_text text) r found))
 
   looked_seen : (need : NeedData) (events : List RootEvent) (table : TableData) → IsTableOf events table → IsSeen events (looked need run table)
   looked_seen (look root) events table is = root_seen root events table is

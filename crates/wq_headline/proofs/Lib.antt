@@ -1,10 +1,5 @@
 mod Runs
 mod Parts
-mod Contents
-mod Lexemes
-mod Values
-mod Terms
-mod Lines
 mod Lists
 mod Looks
 mod Faults

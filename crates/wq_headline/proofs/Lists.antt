@@ -1,51 +1,19 @@
 -- Lists of events and of roots: a root by its text and by its number, and the end of a root.
-use Rattle.std.proofs.Common.{◌≡◌, ◌==◌, ◌⊎◌, ◌||◌, not, cond, ℕ, Bool, true, false, is_some, List, [], ◌∷◌, ◌++◌, map, filter, bytes_eq, Option, Some, None, option_map, inl, inr, refl, ap, sym, subst, ◌∙◌, arith}
+use Rattle.std.proofs.Common.{◌≡◌, ◌==◌, ◌⊎◌, ◌||◌, not, cond, ℕ, Bool, true, false, is_some, List, [], ◌∷◌, ◌++◌, filter, bytes_eq, Option, Some, None, option_map, inl, inr, refl, ap, sym, subst, ◌∙◌}
 use mathlib.Core.Bool.{false≢true}
 use mathlib.Core.List.{IsPrefix}
 use Rattle.std.specs.List.{AllByRecursion, find, list_any}
-use Rattle.std.proofs.lemmas.Bool.Decides.{nat_tests}
 use Rattle.std.proofs.lemmas.List.Elements.{recursion_from_All}
 use Rattle.std.proofs.lemmas.List.Folds.{list_any-append}
+use Rattle.std.proofs.lemmas.Option.{same_Some}
+use Rattle.std.proofs.lemmas.Bool.{eq-eqb, eqb-true, or_right}
 use Rattle.wq_crawl.specs.Publish.{EndsRoot}
 use Rattle.wq_live.specs.Event.{Root, has_ended, is_end_of, is_shown, number_of, passes_over, shown, shown_root, started}
-use Rattle.wq_live.specs.Table.{IsTableOf, RootView, TableData, has_number, has_text, number_by_text, root_by_text, root_of}
+use Rattle.wq_live.specs.Table.{IsTableOf, RootView, TableData, has_number, number_by_text, root_by_text, root_of}
 use Rattle.wq_live.specs.declared.event.RootEvent.{RootEvent}
 use Rattle.wq_live.specs.declared.event.RootEvent.TheVariants.{Ended}
+use Rattle.wq_live.proofs.Roots.{any_of_number, root_of_text}
 use Rattle.wq_view.specs.View.{IsViewOf}
-
-pub some_same : {X : Type 0} {x y : X} → Some x ≡ Some y → x ≡ y
-some_same h = cc h
-
--- the test of numbers is right
-same_number : (m n : ℕ) → (m == n) ≡ true → m ≡ n
-same_number m n h = grind (arith, nat_tests)
-
-number_itself : (n : ℕ) → (n == n) ≡ true
-number_itself n = grind (arith, nat_tests)
-
-or_true : (b : Bool) → (b || true) ≡ true
-or_true true = refl
-or_true false = refl
-
--- a root is shown under a number exactly if one of these roots has it
-any_of_number : (number : ℕ) (roots : List RootView) → list_any (λ (root : Root). root.number == number) (map root_of roots) ≡ is_some (find (has_number number) roots)
-any_of_number number [] = refl
-any_of_number number (r ∷ roots) = by (r.number == number) (any_of_number number roots)
-  where
-    by : (b : Bool) → list_any (λ (root : Root). root.number == number) (map root_of roots) ≡ is_some (find (has_number number) roots)
-        → (b || list_any (λ (root : Root). root.number == number) (map root_of roots)) ≡ is_some (cond b (Some r) (find (has_number number) roots))
-    by true later = refl
-    by false later = later
-
--- a root is found by its text with and without its view
-root_of_text : (text : List ℕ) (roots : List RootView) → find (λ (root : Root). bytes_eq root.text text) (map root_of roots) ≡ option_map root_of (find (has_text text) roots)
-root_of_text text [] = refl
-root_of_text text (r ∷ roots) = by (bytes_eq r.text text) (root_of_text text roots)
-  where
-    by : (b : Bool) → find (λ (root : Root). bytes_eq root.text text) (map root_of roots) ≡ option_map root_of (find (has_text text) roots)
-        → cond b (Some (root_of r)) (find (λ (root : Root). bytes_eq root.text text) (map root_of roots)) ≡ option_map root_of (cond b (Some r) (find (has_text text) roots))
-    by true later = refl
-    by false later = later
 
 -- an element that is found has each fact that holds of all
 pub found_holds : {X : Type 0} (p : X → Bool) (P : X → Type 0) (xs : List X) (x : X) → find p xs ≡ Some x → AllByRecursion P xs → P x
@@ -53,18 +21,8 @@ found_holds p P [] x is all = absurd cc
 found_holds p P (y ∷ ys) x is all = by (p y) is (λ later. found_holds p P ys x later all.1)
   where
     by : (b : Bool) → cond b (Some y) (find p ys) ≡ Some x → (find p ys ≡ Some x → P x) → P x
-    by true is later = subst P (some_same is) all.0
+    by true is later = subst P (same_Some _ _ is) all.0
     by false is later = later is
-
--- a root that is found by a number has it
-pub found_number : (number : ℕ) (roots : List RootView) (r : RootView) → find (has_number number) roots ≡ Some r → r.number ≡ number
-found_number number [] r is = absurd cc
-found_number number (y ∷ roots) r is = by (y.number == number) refl is (found_number number roots r)
-  where
-    by : (b : Bool) → (y.number == number) ≡ b → cond b (Some y) (find (has_number number) roots) ≡ Some r
-        → (find (has_number number) roots ≡ Some r → r.number ≡ number) → r.number ≡ number
-    by true same is later = subst (λ (z : RootView). z.number ≡ number) (some_same is) (same_number y.number number same)
-    by false other is later = later is
 
 module _ (events : List RootEvent) (table : TableData) (is : IsTableOf events table) where
   -- the root of a text, in the list and in the table
@@ -99,10 +57,10 @@ find_listed text (r ∷ roots) root is = by (bytes_eq r.text text) is (find_list
         → (find (λ (root : Root). bytes_eq root.text text) roots ≡ Some root → list_any (λ (r : Root). r.number == root.number) roots ≡ true)
         → list_any (λ (r : Root). r.number == root.number) (r ∷ roots) ≡ true
     by true is later =
-        let same : r ≡ root = some_same is in
+        let same : r ≡ root = same_Some _ _ is in
         ap (λ b. b || list_any (λ (r : Root). r.number == root.number) roots)
-        (ap (λ (s : Root). s.number == root.number) same ∙ number_itself root.number)
-    by false is later = ap (λ b. (r.number == root.number) || b) (later is) ∙ or_true (r.number == root.number)
+        (ap (λ (s : Root). s.number == root.number) same ∙ eq-eqb root.number root.number refl)
+    by false is later = ap (λ b. (r.number == root.number) || b) (later is) ∙ or_right (r.number == root.number) true refl
 
 shown_there : (text : List ℕ) (events : List RootEvent) (root : Root) → shown_root text events ≡ Some root → is_shown events root.number ≡ true
 shown_there text events root is = find_listed text (shown events) root is
@@ -118,7 +76,7 @@ gone events number (r ∷ roots) over = by (r.number == number) (has_ended event
         → list_any (λ (r : Root). r.number == number)
         (cond (not past) (r ∷ filter (λ (r : Root). not (has_ended events r.number)) roots) (filter (λ (r : Root). not (has_ended events r.number)) roots)) ≡ false
     by same true is ends later = later
-    by true false is lives later = absurd (false≢true (sym lives ∙ ap (has_ended events) (same_number r.number number is) ∙ over))
+    by true false is lives later = absurd (false≢true (sym lives ∙ ap (has_ended events) (eqb-true r.number number is) ∙ over))
     by false false is lives later =
         ap (λ b. b || list_any (λ (r : Root). r.number == number) (filter (λ (r : Root). not (has_ended events r.number)) roots)) is ∙ later
 
@@ -126,7 +84,7 @@ gone_after_end : (events : List RootEvent) (number : ℕ) → is_shown (events +
 gone_after_end events number =
     gone (events ++ Ended number ∷ []) number (started (events ++ Ended number ∷ []))
     (list_any-append (is_end_of number) events (Ended number ∷ [])
-    ∙ ap (λ b. has_ended events number || (b || false)) (number_itself number) ∙ or_true (has_ended events number))
+    ∙ ap (λ b. has_ended events number || (b || false)) (eq-eqb number number refl) ∙ or_right (has_ended events number) true refl)
 
 -- two lists that begin one another are one
 begins_both : {A : Type 0} (xs ys : List A) → IsPrefix xs ys → IsPrefix ys xs → ys ≡ xs

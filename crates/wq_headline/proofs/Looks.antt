@@ -1,5 +1,6 @@
 -- The root that a look finds in a list, and the root that its table has.
 use Rattle.std.proofs.Common.{◌≡◌, ◌⊎◌, ℕ, is_some, List, find, Option, Some, None, option_map, inl, inr, refl, ap, sym, subst, ◌∙◌}
+use Rattle.std.proofs.lemmas.Option.{same_Some}
 use mathlib.Core.Bool.{false≢true}
 use Rattle.wq_clock.specs.Instance.{InstanceData}
 use Rattle.wq_clock.specs.Run.{RunData, instance_of, run_data}
@@ -7,12 +8,13 @@ use Rattle.wq_clock.specs.declared.run.Run.{Run}
 use Rattle.wq_live.specs.Event.{Root, number_of, passes_over}
 use Rattle.wq_live.specs.Table.{IsTableOf, RootView, TableData, has_number, has_text, root_by_text, root_of}
 use Rattle.wq_live.specs.declared.event.RootEvent.{RootEvent}
+use Rattle.wq_live.proofs.Roots.{found_number}
 use Rattle.wq_crawl.specs.Meets.{at_root}
 use Rattle.wq_crawl.specs.Run.{ShowsAt}
 use Rattle.wq_crawl.specs.At.{AtData}
 use Rattle.wq_view.specs.View.{HasOneView, IsViewOf, ViewData}
 use Rattle.wq_headline.specs.Lists.{LooksFindRoots, NumbersFindRoots}
-use Rattle.wq_headline.proofs.Lists.{found_number, found_view, named, number_by, shown_by, some_same}
+use Rattle.wq_headline.proofs.Lists.{found_view, named, number_by, shown_by}
 
 -- the root that is looked at, of its parts
 abbrev at_of : InstanceData → Option ViewData → AtData
@@ -42,7 +44,7 @@ looks_find_roots one_view run text events table (Some at) is (lawful, (root, fou
         → Some at ≡ option_map (at_root (run_data run)) found
     by None here same = absurd cc
     by (Some r) here same =
-        let numbers : root.number ≡ r.number = ap (λ (root : Root). root.number) (some_same same) in
+        let numbers : root.number ≡ r.number = ap (λ (root : Root). root.number) (same_Some _ _ same) in
         ap Some (one_root one_view (run_data run) events r at root.number view (sym numbers) (found_view events table is (has_text text) r here) instance there views)
 
 pub numbers_find_roots : HasOneView → NumbersFindRoots

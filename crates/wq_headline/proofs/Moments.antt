@@ -1,7 +1,6 @@
 -- The lists of an idle moment: those of the subscriptions of its root, none of which is left out.
-use Rattle.std.proofs.Common.{◌≡◌, ℕ, Bool, true, false, cond, nat_eq, List, [], ◌∷◌, ◌++◌, Option, Some, None, inl, inr, refl, ap, sym, subst, ◌∙◌, arith}
+use Rattle.std.proofs.Common.{◌≡◌, ℕ, Bool, true, false, cond, nat_eq, List, [], ◌∷◌, Option, Some, None, inl, inr, refl, ap, sym, subst, ◌∙◌, arith}
 use mathlib.Core.Bool.{false≢true}
-use Rattle.std.specs.List.{AllByRecursion}
 use Rattle.std.proofs.lemmas.Bool.Decides.{nat_tests}
 use Rattle.wq_session.specs.Out.{OutData}
 use Rattle.wq_clock.specs.Run.{RunData, instance_of, run_data}
@@ -18,11 +17,6 @@ use Rattle.wq_session.specs.Moment.{AreLeft, Idles, MayRunOut, Shown, ToldListDa
 use Rattle.wq_view.specs.View.{IsViewOf}
 use Rattle.wq_headline.specs.Exact.{AreListsOf}
 use Rattle.wq_headline.specs.Moments.{GetInTurn, GetsLists, HasNews, TellsAll, Wait}
-
--- a fact of all elements of two lists
-pub all_both : {A : Type 0} (P : A → Type 0) (xs ys : List A) → AllByRecursion P xs → AllByRecursion P ys → AllByRecursion P (xs ++ ys)
-all_both P [] ys first later = later
-all_both P (x ∷ xs) ys first later = (first.0, all_both P xs ys first.1 later)
 
 -- the test of numbers is right
 pub same_number : (m n : ℕ) → nat_eq m n ≡ true → n ≡ m

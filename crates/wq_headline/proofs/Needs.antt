@@ -1,5 +1,6 @@
 -- The roots of a session that is served alone are ready for an ask, and those of the world are too.
 use Rattle.std.proofs.Common.{◌≡◌, ◌⊎◌, ℕ, List, [], ◌∷◌, ◌++◌, Option, Some, None, option_map, Result, Ok, Err, inl, inr, refl, ap, sym, subst, ◌∙◌}
+use Rattle.std.proofs.lemmas.Option.{same_Some}
 use mathlib.Core.List.{IsPrefix}
 use Rattle.wq_clock.specs.Instance.{InstanceData}
 use Rattle.wq_clock.specs.Run.{RunData, instance_of, run_data}
@@ -30,7 +31,7 @@ use Rattle.wq_view.specs.Listing.{PassData}
 use Rattle.wq_view.specs.View.{HasOneView}
 use Rattle.wq_headline.specs.Alone.{HappensFirst, IsCurrent, root_needed}
 use Rattle.wq_headline.proofs.Faults.{crawl_fault, no_fault, refusal, watch_fault}
-use Rattle.wq_headline.proofs.Lists.{list_before, number_by, some_same}
+use Rattle.wq_headline.proofs.Lists.{list_before, number_by}
 use Rattle.wq_headline.proofs.Looks.{root_at}
 
 -- the roots of a world are those that a session knows
@@ -76,7 +77,7 @@ module _ (one_view : HasOneView) (basis : Basis) (before after : KnownData) (wor
 
   -- the list that is published after the event is the session's last
   now_seen : (left : CrawlerData) → after.roots ≡ Some left → after.seen ≡ left.events
-  now_seen left there = current.3 ∙ ap (λ (c : CrawlerData). c.events) (some_same (sym current.2 ∙ there))
+  now_seen left there = current.3 ∙ ap (λ (c : CrawlerData). c.events) (same_Some _ _ (sym current.2 ∙ there))
 
   -- the history of the world is the list of the crawler
   listed : world.events ≡ ((shows.current).0).events

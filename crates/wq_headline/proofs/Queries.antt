@@ -1,5 +1,5 @@
 -- The reply to a query, at the root that is looked at and a shelf.
-use Rattle.std.proofs.Common.{◌≡◌, ℕ, Bool, true, false, not, cond, List, Option, Some, None, Result, Ok, Err, IfSome, inl, inr, refl, ap, sym, subst, ◌∙◌}
+use Rattle.std.proofs.Common.{◌≡◌, ℕ, Bool, true, false, not, List, Option, Some, None, Result, Ok, Err, IfSome, inl, inr, refl, ap, sym, subst, ◌∙◌}
 use Rattle.serde_json.specs.Data.{Data}
 use Rattle.serde_json.specs.View.{view as data_of}
 use Rattle.serde_json.specs.declared.value.Value.{Value}
@@ -20,10 +20,11 @@ use Rattle.wq_query.specs.declared.fault.QueryFault.{QueryFault}
 use Rattle.wq_registry.specs.ByName.{under}
 use Rattle.wq_session.specs.Answer.{AnswersAsk, finished}
 use Rattle.wq_crawl.specs.At.{AtData}
-use Rattle.wq_session.specs.At.{ShelfNow, is_watched, watched}
+use Rattle.wq_session.specs.At.{ShelfNow, watched}
 use Rattle.wq_session.specs.Begun.{or_refused}
 use Rattle.wq_session.specs.Query.{begun_read_query, has_place, moved_cursor, plan_at, program_for, program_named, begun_query, used_at}
 use Rattle.wq_session.specs.Work.{BegunData, evaluates}
+use Rattle.wq_session.proofs.Before.{there}
 use Rattle.wq_verify.specs.Typing.{IsValid}
 use Rattle.wq_view.specs.View.{ViewData}
 use Rattle.wq_headline.specs.Exact.{IsReplyAt, ListsExactly}
@@ -34,15 +35,6 @@ begun_of root tick q program shelf = record {
   work = evaluates (plan_at root q program shelf) (moved_cursor root q.since);
   shelf = used_at root q.since tick shelf;
 }
-
--- a root that is watched is the one that is looked at
-watched_here : (root : List ℕ) (at : Option AtData) (shelf : ShelfNow) (here : AtData) → watched root at shelf ≡ Some here → at ≡ Some here
-watched_here root None shelf here is = absurd cc
-watched_here root (Some at) shelf here is = by (is_watched root at shelf) is
-  where
-    by : (b : Bool) → cond b (Some at) None ≡ Some here → Some at ≡ Some here
-    by true is = is
-    by false is = absurd cc
 
 module _ (shelf : ShelfNow) (valid : (name : List ℕ) (raw : Raw) → under name shelf.programs ≡ Some raw → IsValid raw) where
   -- the program that a query names may run
@@ -78,7 +70,7 @@ module _ (shelf : ShelfNow) (valid : (name : List ℕ) (raw : Raw) → under nam
       named = named;
       valid = named_valid query.program query program named;
       told = gives ∙ ap (λ (b : BegunData). (finished b.work at follows).out) (sym is)
-          ∙ ap (λ a. (finished (evaluates (plan_at (here.instance).root query program shelf) (moved_cursor (here.instance).root query.since)) a follows).out) (watched_here root at shelf here there)
+          ∙ ap (λ a. (finished (evaluates (plan_at (here.instance).root query program shelf) (moved_cursor (here.instance).root query.since)) a follows).out) (there root at shelf here there)
           ∙ ap (λ v. option_map_or (λ view. replies (reply_of (plan_at (here.instance).root query program shelf) here.instance view)) v (silence true)) shown;
     }
 

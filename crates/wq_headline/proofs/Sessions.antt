@@ -9,15 +9,11 @@ use Rattle.wq_replay.specs.World.{HappeningData, SentData, WorldData}
 use Rattle.wq_crawl.specs.Basis.{Basis}
 use Rattle.wq_session.specs.Serving.{PlaceData, line_for, lines_for, written_for}
 use Rattle.wq_session.specs.Out.{OutData}
+use Rattle.wq_session.proofs.Lines.{lines_both}
 use Rattle.wq_stream.specs.declared.event.Event.{Event}
 use Rattle.wq_view.specs.View.{HasOneView}
 use Rattle.wq_headline.specs.Alone.{AloneGoesOn, EndsShowAWorld, GoingOnIsARun, HasGone, HappensFor, HappensInTurn, IsRunFor, IsRunOf, ServedAloneIsARun, ShowsWorld, WasBlind, WasBlindOnce, written_of}
 use Rattle.wq_headline.proofs.Events.{events_are_runs}
-
-lines_both : (texts more : List (List ℕ)) → lines_for (texts ++ more) ≡ lines_for texts ++ lines_for more
-lines_both [] more = refl
-lines_both (text ∷ texts) more =
-    ap (λ l. (text ++ codes "\n") ++ l) (lines_both texts more) ∙ sym (append_assoc (text ++ codes "\n") (lines_for texts) (lines_for more))
 
 written_then : (first rest : List SentData) → written_of (first ++ rest) ≡ written_of first ++ written_of rest
 written_then first rest =

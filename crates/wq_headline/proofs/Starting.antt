@@ -5,6 +5,7 @@ use mathlib.Core.List.{IsPrefix}
 use Rattle.std.specs.List.{AllByRecursion, list_any}
 use Rattle.std.proofs.lemmas.Bool.Decides.{not_from_Decides}
 use Rattle.std.proofs.lemmas.Slice.Eq.{bytes_eq-Decides}
+use Rattle.std.proofs.lemmas.Option.{same_Some}
 use Rattle.serde_json.specs.Data.{Data, Members, no_members}
 use Rattle.serde_json.specs.Find.{get, get_member}
 use Rattle.serde_json.proofs.Views.{get_member-put_other}
@@ -135,21 +136,18 @@ abbrev pub tried_of : List TriggerTurnData → List TriedData
 tried_of [] = []
 tried_of (turn ∷ turns) = tried_in turn.fired ++ tried_of turns
 
-some_same : {X : Type 0} {x y : X} → Some x ≡ Some y → x ≡ y
-some_same h = cc h
-
 -- a launcher that is shown after a turn was shown before it
 turn_tried : (fired : FiredData) (running : Option ℕ) (shown : Option LauncherData) (m : LauncherData) → Agrees fired running shown (Some m)
     → (l : LauncherData) × (shown ≡ Some l) × (m.tried ≡ l.tried ++ tried_in fired)
 turn_tried fired running None m agrees = absurd cc
-turn_tried (runs r) running (Some l) m agrees = (l, refl, ap (λ x. x.tried) (some_same agrees.1) ∙ sym (append-nil l.tried))
-turn_tried quiet running (Some l) m agrees = (l, refl, ap (λ x. x.tried) (some_same agrees.1) ∙ sym (append-nil l.tried))
-turn_tried short running (Some l) m agrees = (l, refl, ap (λ x. x.tried) (some_same agrees.1) ∙ sym (append-nil l.tried))
+turn_tried (runs r) running (Some l) m agrees = (l, refl, ap (λ x. x.tried) (same_Some _ _ agrees.1) ∙ sym (append-nil l.tried))
+turn_tried quiet running (Some l) m agrees = (l, refl, ap (λ x. x.tried) (same_Some _ _ agrees.1) ∙ sym (append-nil l.tried))
+turn_tried short running (Some l) m agrees = (l, refl, ap (λ x. x.tried) (same_Some _ _ agrees.1) ∙ sym (append-nil l.tried))
 turn_tried (started r start) running (Some l) m (free, inl (given, is)) =
-    (l, refl, ap (λ x. x.tried) (some_same is) ∙ ap (λ answer. l.tried ++ record { start = start; run = answer } ∷ []) (sym given))
+    (l, refl, ap (λ x. x.tried) (same_Some _ _ is) ∙ ap (λ answer. l.tried ++ record { start = start; run = answer } ∷ []) (sym given))
 turn_tried (started r start) running (Some l) m (free, inr none) = absurd cc
 turn_tried (failed start) running (Some l) m (free, inl (given, is)) =
-    (l, refl, ap (λ x. x.tried) (some_same is) ∙ ap (λ answer. l.tried ++ record { start = start; run = answer } ∷ []) (sym given))
+    (l, refl, ap (λ x. x.tried) (same_Some _ _ is) ∙ ap (λ answer. l.tried ++ record { start = start; run = answer } ∷ []) (sym given))
 turn_tried (failed start) running (Some l) m (free, inr none) = absurd cc
 
 module _ (instance : InstanceData) (view : ViewData) where
@@ -168,7 +166,7 @@ module _ (instance : InstanceData) (view : ViewData) where
       → left.tried ≡ tried_of turns
   round_tried ts turns l left none had =
       let all = turns_tried ts turns (Some l) left had in
-      all.2 ∙ ap (λ x. x.tried ++ tried_of turns) (sym (some_same all.1)) ∙ ap (λ tried. tried ++ tried_of turns) none
+      all.2 ∙ ap (λ x. x.tried ++ tried_of turns) (sym (same_Some _ _ all.1)) ∙ ap (λ tried. tried ++ tried_of turns) none
 
 -- the line about a start that was tried
 abbrev pub note_of : TriedData → SentData

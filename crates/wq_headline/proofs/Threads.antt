@@ -34,7 +34,6 @@ use Rattle.wq_session.specs.Desk.{AnswersShelf, StandData}
 use Rattle.wq_session.specs.Reached.{IsReached, ReachedProgramsAreValid}
 use Rattle.wq_crawl.specs.Views.{ReadyData}
 use Rattle.wq_session.specs.Desk.{Replies}
-use Rattle.wq_session.specs.Work.{BegunData, WorkData}
 use Rattle.wq_stream.specs.declared.event.Event.{Event}
 use Rattle.wq_stream.specs.declared.event.Event.TheVariants.{Line, Long, Binary, Idle, End, Fault}
 use Rattle.wq_view.specs.View.{ViewData}
@@ -44,10 +43,6 @@ use Rattle.wq_headline.proofs.Gone.{stayed}
 use Rattle.wq_headline.proofs.Moments.{lists_exact}
 use Rattle.wq_headline.proofs.Queries.{query_reply}
 use Rattle.wq_headline.proofs.Worldly.{AsksFiles, line_asks, short_reply}
-
--- work that was begun, of its parts
-abbrev begun_with : WorkData → ShelfNow → BegunData
-begun_with work shelf = record { work = work; shelf = shelf }
 
 -- the root that is looked at, of its parts
 abbrev at_of : InstanceData → Option ViewData → AtData

@@ -3,10 +3,12 @@ use Rattle.std.proofs.Common.{◌≡◌, ℕ, Bool, true, false, not, cond, nat_
 use mathlib.Core.List.{IsPrefix}
 use Rattle.std.specs.List.{AllByRecursion, list_any}
 use Rattle.std.proofs.lemmas.List.Elements.{All-from_recursion}
+use Rattle.std.proofs.lemmas.Option.{same_Some}
 use Rattle.serde_json.specs.Data.{Data}
 use Rattle.serde_json.specs.Find.{get}
 use Rattle.serde_json.specs.View.{view as data_of}
 use Rattle.wq_base.proofs.Fault.{or_its_fault-ok, or_own_fault-ok, unless_fault-ok}
+use Rattle.wq_base.proofs.Facts.{all_both, all_so}
 use Rattle.wq_crawl.specs.Need.{NeedData, crawl as crawl_of, look, none, unwatch, watch}
 use Rattle.wq_session.specs.Need.{need_of}
 use Rattle.wq_session.specs.Out.{OutData}
@@ -57,15 +59,10 @@ use Rattle.wq_view.specs.View.{ViewData}
 use Rattle.wq_headline.specs.Triggers.{IsTriggered, TriggersAreExact}
 use Rattle.wq_headline.proofs.Followed.{crawl_leaves, watch_leaves}
 use Rattle.wq_headline.proofs.Growth.{begins_itself, happens, meets}
-use Rattle.wq_headline.proofs.Lists.{found_view, some_same}
-use Rattle.wq_headline.proofs.Moments.{all_both, same_number}
+use Rattle.wq_headline.proofs.Lists.{found_view}
+use Rattle.wq_headline.proofs.Moments.{same_number}
 use Rattle.wq_headline.proofs.Sent.{Sent}
 use Rattle.wq_headline.proofs.Starting.{Tallies, Tally, all_triggered, kept_tally, known_plain, note_of, round_tried, tried_of, turns_tally}
-
--- each of these fits, if each fitted in another way
-weaken : {X : Type 0} (P Q : X → Type 0) → ((x : X) → P x → Q x) → (xs : List X) → AllByRecursion P xs → AllByRecursion Q xs
-weaken P Q weaker [] all = tt
-weaken P Q weaker (x ∷ xs) all = (weaker x all.0, weaken P Q weaker xs all.1)
 
 filtered : {X : Type 0} (P : X → Type 0) (p : X → Bool) (xs : List X) → AllByRecursion P xs → AllByRecursion P (filter p xs)
 filtered P p [] all = tt
@@ -83,7 +80,7 @@ changed_all P Q number change weaker to [] all = tt
 changed_all P Q number change weaker to (r ∷ rs) all = by (nat_eq number r.number) refl (changed_all P Q number change weaker to rs all.1)
   where
     by : (b : Bool) → nat_eq number r.number ≡ b → AllByRecursion Q (changed number change rs) → AllByRecursion Q (cond b (change r ∷ rs) (r ∷ changed number change rs))
-    by true same rest = (to r (same_number number r.number same) all.0, weaken P Q weaker rs all.1)
+    by true same rest = (to r (same_number number r.number same) all.0, all_so P Q weaker rs all.1)
     by false other rest = (weaker r all.0, rest)
 
 -- things under names
@@ -124,7 +121,7 @@ module _ (run : RunData) where
   roots_kept : (events later : List RootEvent) (said sent : List SentData) → IsPrefix events later → (rs : List (RootData TriggerData)) → OnRoots events said rs
       → OnRoots later (said ++ sent) rs
   roots_kept events later said sent goes rs all =
-      weaken (OfRootNow events said) (OfRootNow later (said ++ sent)) (λ r tallies. tallies_kept r.number events later said sent goes r.triggers tallies) rs all
+      all_so (OfRootNow events said) (OfRootNow later (said ++ sent)) (λ r tallies. tallies_kept r.number events later said sent goes r.triggers tallies) rs all
 
   -- the triggers of the root of a number
   of_number : (events : List RootEvent) (sent : List SentData) (number : ℕ) (rs : List (RootData TriggerData)) → OnRoots events sent rs
@@ -135,7 +132,7 @@ module _ (run : RunData) where
       by : (b : Bool) → nat_eq number x.number ≡ b → cond b (Some x) (numbered number rs) ≡ found → (numbered number rs ≡ found → Tallies run number events sent r.triggers)
           → Tallies run number events sent r.triggers
       by true same is later =
-          let here : x ≡ r = some_same (is ∙ there) in
+          let here : x ≡ r = same_Some _ _ (is ∙ there) in
           subst (λ (y : RootData TriggerData). Tallies run number events sent y.triggers) here
           (subst (λ n. Tallies run n events sent x.triggers) (same_number number x.number same) all.0)
       by false other is later = later is
@@ -282,10 +279,10 @@ module _ (run : RunData) where
       replies_keep : AnswersAreCalls → (ask : Ask) (ready : ReadyData) (shelf left : ShelfNow) (follows kept : List SubscriptionData) (out : OutData)
           → ((at : Option AtData) → ready ≡ Ok at → IsPlaced at) → Replies false ready ask (stand (Some shelf) follows) out (stand (Some left) kept) → Now shelf.roots → Now left.roots
       replies_keep answers ask (Err fault) shelf left follows kept out placed (may, same) all =
-          subst (λ (s : ShelfNow). Now s.roots) (sym (some_same (ap (λ (s : StandData). s.shelf) same))) all
+          subst (λ (s : ShelfNow). Now s.roots) (sym (same_Some _ _ (ap (λ (s : StandData). s.shelf) same))) all
       replies_keep answers ask (Ok at) shelf left follows kept out placed (next, is, same) all =
           let made = answers false ask at shelf follows out next kept is in
-          subst (λ (s : ShelfNow). Now s.roots) (sym (some_same same ∙ made.2))
+          subst (λ (s : ShelfNow). Now s.roots) (sym (same_Some _ _ same ∙ made.2))
           (all_calls made.0 shelf (accepts_fit ask at shelf follows out made.0 (placed at refl) made.1) all)
 
   -- where an ask is ready

@@ -1,6 +1,4 @@
 pub mod Headline
-pub mod TextBytes
-pub mod LineCost
 pub mod Lists
 pub mod Gone
 pub mod Alone

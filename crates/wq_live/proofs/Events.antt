@@ -5,6 +5,7 @@ use Rattle.std.specs.List.{AllByRecursion}
 use Rattle.std.proofs.lemmas.List.Elements.{filter_map-append, filter-append, filter_agree}
 use Rattle.std.proofs.lemmas.List.Folds.{list_any-append}
 use Rattle.std.proofs.lemmas.Bool.Decides.{nat_tests}
+use Rattle.std.proofs.Math.Bool.{or-false}
 use Rattle.wq_record.specs.Seen.{Stat}
 use Rattle.wq_record.specs.Name.{name_cmp}
 use Rattle.wq_view.specs.Listing.{PassData}
@@ -45,16 +46,12 @@ known_starts k (Ended m ∷ es) all = known_starts k es all.1
 pub started_after_pass : (events : List RootEvent) (n : ℕ) (p : PassData) → started (events ++ Passed n p ∷ []) ≡ started events
 started_after_pass events n p = filter_map-append start_in events (Passed n p ∷ []) ∙ append-nil (started events)
 
-or_false : (b : Bool) → (b || false) ≡ b
-or_false true = refl
-or_false false = refl
-
 -- an event that neither starts nor ends a root shows the same roots
 pub shown_after_pass : (events : List RootEvent) (n : ℕ) (p : PassData) → shown (events ++ Passed n p ∷ []) ≡ shown events
 shown_after_pass events n p =
     ap (λ l. filter (λ (root : Root). not (has_ended (events ++ Passed n p ∷ []) root.number)) l) (started_after_pass events n p)
     ∙ filter_agree (λ (root : Root). not (has_ended (events ++ Passed n p ∷ []) root.number)) (λ (root : Root). not (has_ended events root.number))
-    (λ root. ap not (list_any-append (is_end_of root.number) events (Passed n p ∷ []) ∙ or_false (has_ended events root.number))) (started events)
+    (λ root. ap not (list_any-append (is_end_of root.number) events (Passed n p ∷ []) ∙ or-false (has_ended events root.number))) (started events)
 
 -- a start shows one more root, if its number is new
 pub shown_after_start : (events : List RootEvent) (n k : ℕ) (text : List ℕ) → k < n → AllByRecursion (λ e. number_in e ≤ k) events
@@ -62,7 +59,7 @@ pub shown_after_start : (events : List RootEvent) (n k : ℕ) (text : List ℕ) 
 shown_after_start events n k text lt known =
     let root : Root = record { number = n; text = text } in
     let same : (r : Root) → not (has_ended (events ++ Started n text ∷ []) r.number) ≡ not (has_ended events r.number)
-    = λ r. ap not (list_any-append (is_end_of r.number) events (Started n text ∷ []) ∙ or_false (has_ended events r.number)) in
+    = λ r. ap not (list_any-append (is_end_of r.number) events (Started n text ∷ []) ∙ or-false (has_ended events r.number)) in
     let new : filter (λ (r : Root). not (has_ended events r.number)) (root ∷ []) ≡ root ∷ [] = rw (unknown_end n k events lt known) refl in
     ap (λ l. filter (λ (r : Root). not (has_ended (events ++ Started n text ∷ []) r.number)) l) (filter_map-append start_in events (Started n text ∷ []))
     ∙ filter_agree (λ (r : Root). not (has_ended (events ++ Started n text ∷ []) r.number)) (λ (r : Root). not (has_ended events r.number)) same (started events ++ root ∷ [])

@@ -1,13 +1,13 @@
 mod Finding
-mod Roots
-mod Events
+pub mod Roots
+pub mod Events
 mod Starts
-mod Passes
+pub mod Passes
 mod Since
 mod Ends
 mod FirstView
 mod FirstPasses
-mod Beginnings
+pub mod Beginnings
 mod Adding
 mod Comparing
 mod Sharing

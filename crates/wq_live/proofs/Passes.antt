@@ -1,8 +1,8 @@
 -- The table after a pass, and the root that a number finds.
-use Rattle.std.proofs.Common.{◌≡◌, ◌≢◌, ◌==◌, ℕ, ℤ, ◌≤◌, Bool, true, false, List, [], ◌∷◌, ◌++◌, map, length, Option, Some, None, is_some, IfSome, MatchOption, option_map, refl, ap, sym, subst, ◌∙◌, append-nil}
-use mathlib.Core.Bool.{false≢true}
+use Rattle.std.proofs.Common.{◌≡◌, ◌≢◌, ◌==◌, ℕ, ℤ, ◌≤◌, Bool, true, false, List, [], ◌∷◌, ◌++◌, map, length, Option, Some, None, is_some, IfSome, refl, ap, sym, subst, ◌∙◌, append-nil}
 use Rattle.std.specs.List.{find}
 use Rattle.std.proofs.lemmas.List.Elements.{All-weaker, All-push, All-map, recursion_from_All}
+use Rattle.std.proofs.lemmas.Bool.{eqb-true}
 use Rattle.wq_view.specs.Listing.{PassData}
 use Rattle.wq_view.specs.Change.{pass_by}
 use Rattle.wq_view.specs.History.{Differ, History, last_stats}
@@ -12,7 +12,7 @@ use Rattle.wq_live.specs.declared.event.RootEvent.{RootEvent}
 use Rattle.wq_live.specs.declared.event.RootEvent.TheVariants.{Passed}
 use Rattle.wq_live.specs.Event.{number_in, started, is_shown, passes_over, IsLawfulList}
 use Rattle.wq_live.specs.Table.{RootView, TableData, IsTableOf, has_number, with_view}
-use Rattle.wq_live.proofs.Roots.{same_number, turned, any_of_number, found_passes, same_roots}
+use Rattle.wq_live.proofs.Roots.{turned, any_of_number, found_passes, same_roots}
 use Rattle.wq_live.proofs.Events.{started_after_pass, shown_after_pass, passes_after, differ_more}
 use Rattle.wq_live.proofs.Starts.{roots_known}
 
@@ -33,21 +33,13 @@ module _ (events : List RootEvent) (table : TableData) (is : IsTableOf events ta
   found_view root found =
       let it = found_passes (has_number n) (λ (root : RootView). IsViewOf (passes_over root.number events) root.view) table.roots root found
       (recursion_from_All (λ (root : RootView). IsViewOf (passes_over root.number events) root.view) table.roots is.views) in
-      subst (λ m. IsViewOf (passes_over m events) root.view) (same_number root.number n it.0) it.1
+      subst (λ m. IsViewOf (passes_over m events) root.view) (eqb-true root.number n it.0) it.1
 
   -- the number of the root that is found was given
   pub found_known : (root : RootView) → find (has_number n) table.roots ≡ Some root → n ≤ table.given
   found_known root found =
       let it = found_passes (has_number n) (λ (root : RootView). root.number ≤ table.given) table.roots root found (roots_known events table is) in
-      subst (λ m. m ≤ table.given) (same_number root.number n it.0) it.1
-
-  -- so was the number of each root that is shown
-  pub shown_known : is_shown events n ≡ true → n ≤ table.given
-  shown_known shown = by (find (has_number n) table.roots) refl (sym in_table ∙ shown)
-    where
-      by : (root : Option RootView) → find (has_number n) table.roots ≡ root → is_some root ≡ true → n ≤ table.given
-      by None is e = absurd (false≢true e)
-      by (Some root) is e = found_known root is
+      subst (λ m. m ≤ table.given) (eqb-true root.number n it.0) it.1
 
   module _ (pass : PassData) where
     abbrev passed : RootEvent
@@ -67,7 +59,7 @@ module _ (events : List RootEvent) (table : TableData) (is : IsTableOf events ta
     }
       where
         differs : (m : ℕ) (b : Bool) → (n == m) ≡ b → Differ (passes_over m (events ++ passed ∷ []))
-        differs m true e = rw (own m e) (differ_more (passes_over m events) pass (is.lawful.differ m) (subst (λ k. last_stats (passes_over k events) ≢ pass.stats) (same_number n m e) new))
+        differs m true e = rw (own m e) (differ_more (passes_over m events) pass (is.lawful.differ m) (subst (λ k. last_stats (passes_over k events) ≢ pass.stats) (eqb-true n m e) new))
         differs m false e = rw (other m e) (is.lawful.differ m)
 
     -- a pass that saw something else than the last one over its root
@@ -84,7 +76,7 @@ module _ (events : List RootEvent) (table : TableData) (is : IsTableOf events ta
       where
         shows : (root : RootView) → IsViewOf (passes_over root.number events) root.view → (b : Bool) → (root.number == n) ≡ b
             → IsViewOf (passes_over (with_view n view root).number (events ++ passed ∷ [])) (with_view n view root).view
-        shows root v true e = rw (e, own root.number (turned root.number n true e)) (subst (λ k. IsViewOf (passes_over k events ++ pass ∷ []) view) (sym (same_number root.number n e)) of)
+        shows root v true e = rw (e, own root.number (turned root.number n true e)) (subst (λ k. IsViewOf (passes_over k events ++ pass ∷ []) view) (sym (eqb-true root.number n e)) of)
         shows root v false e = rw (e, other root.number (turned root.number n false e)) v
 
 -- a root of a table has the view of the passes over it

@@ -2,6 +2,8 @@
 use Rattle.std.proofs.Common.{◌≡◌, ◌==◌, ℕ, ◌<◌, ◌≤◌, Bool, true, false, cond, not, ◌&&◌, List, [], ◌∷◌, map, filter, Some, is_some, refl, ap, subst, arith, option_map, bytes_eq}
 use Rattle.std.specs.List.{find, list_any, AllByRecursion}
 use Rattle.std.proofs.lemmas.Bool.Decides.{nat_tests}
+use Rattle.std.proofs.lemmas.Option.{same_Some}
+use Rattle.std.proofs.lemmas.Bool.{eqb-true}
 use Rattle.wq_view.specs.View.{ViewData}
 use Rattle.wq_live.specs.Event.{Root}
 use Rattle.wq_live.specs.Table.{RootView, root_of, has_number, has_text, with_view}
@@ -9,10 +11,6 @@ use Rattle.wq_live.specs.Table.{RootView, root_of, has_number, has_text, with_vi
 -- different numbers are told apart
 pub less_differs : (m n : ℕ) → m < n → (m == n) ≡ false
 less_differs m n lt = grind (arith, nat_tests)
-
--- the test of numbers is right
-pub same_number : (m n : ℕ) → (m == n) ≡ true → m ≡ n
-same_number m n h = grind (arith, nat_tests)
 
 pub number_itself : (n : ℕ) → (n == n) ≡ true
 number_itself n = grind (arith, nat_tests)
@@ -32,9 +30,6 @@ any_of_number n (r ∷ rs) = at (r.number == n) refl (any_of_number n rs)
     at true e ih = rw e refl
     at false e ih = rw e ih
 
-some_same : {X : Type 0} {x y : X} → Some x ≡ Some y → x ≡ y
-some_same h = cc h
-
 -- a root is found by its text with and without views
 pub root_of_text : (text : List ℕ) (roots : List RootView) → find (λ (root : Root). bytes_eq root.text text) (map root_of roots) ≡ option_map root_of (find (has_text text) roots)
 root_of_text text [] = refl
@@ -51,7 +46,7 @@ found_passes p P [] x h all = absurd cc
 found_passes p P (y ∷ ys) x h all = at (p y) refl (λ k. found_passes p P ys x k all.1)
   where
     at : (b : Bool) → p y ≡ b → (find p ys ≡ Some x → (p x ≡ true) × P x) → (p x ≡ true) × P x
-    at true e later = let same : y ≡ x = some_same (subst (λ c. cond c (Some y) (find p ys) ≡ Some x) e h) in (subst (λ z. p z ≡ true) same e, subst P same all.0)
+    at true e later = let same : y ≡ x = same_Some _ _ (subst (λ c. cond c (Some y) (find p ys) ≡ Some x) e h) in (subst (λ z. p z ≡ true) same e, subst P same all.0)
     at false e later = later (subst (λ c. cond c (Some y) (find p ys) ≡ Some x) e h)
 
 -- a root that is found by a number has it
@@ -61,8 +56,8 @@ found_number n (y ∷ ys) r h = at (y.number == n) refl (λ k. found_number n ys
   where
     at : (b : Bool) → (y.number == n) ≡ b → (find (has_number n) ys ≡ Some r → r.number ≡ n) → r.number ≡ n
     at true e later =
-        let same : y ≡ r = some_same (subst (λ c. cond c (Some y) (find (has_number n) ys) ≡ Some r) e h) in
-        subst (λ (z : RootView). z.number ≡ n) same (same_number y.number n e)
+        let same : y ≡ r = same_Some _ _ (subst (λ c. cond c (Some y) (find (has_number n) ys) ≡ Some r) e h) in
+        subst (λ (z : RootView). z.number ≡ n) same (eqb-true y.number n e)
     at false e later = later (subst (λ c. cond c (Some y) (find (has_number n) ys) ≡ Some r) e h)
 
 -- another view changes neither numbers nor texts

@@ -1,6 +1,6 @@
 -- Steps that only add to the list keep the knowledge of threads.
-use Rattle.std.proofs.Common.{◌≡◌, ◌≢◌, ℕ, List, [], ◌∷◌, Option, Some, None, set, refl, sym, subst, ◌∙◌, ⊎_elim}
-use mathlib.Core.Option.{some, some-ne-none}
+use Rattle.std.proofs.Common.{◌≡◌, ◌≢◌, ℕ, List, Option, Some, None, set, refl, subst, ◌∙◌, ⊎_elim}
+use mathlib.Core.Option.{some}
 use lib.ListN.{get_elem?}
 use Rattle.left_right.specs.Register.{Admits, TurnsAt, Forks, Merges}
 use Rattle.atomic_table.proofs.Lists.{at_set, at_snoc}
@@ -20,10 +20,6 @@ knows_more (Some s) x y up k = (k.0 ∙ up.0, prefix_trans s.log x.log y.log k.1
 -- a new seat may be added
 pub admits : Admits AllBegin None
 admits x views h seat v at = ⊎_elim (h seat v) (λ (e : None ≡ v). subst (λ z. Knows z x) e tt) (at_snoc views None v seat at)
-
--- the first seat knows nothing
-pub begins : (x : LogData) → AllBegin x (None ∷ [])
-begins x = admits x [] (λ seat v at. absurd (some-ne-none v (sym at)))
 
 -- a step that only adds
 pub turns : (seat : ℕ) (v : Option LogData) (x y : LogData) → BeginsLog x y → TurnsAt AllBegin seat v x y (λ before _ shown after. Sees before shown after)

@@ -204,11 +204,6 @@ pub within_new : (made : PatchMaker) → made.done.items ≡ [] → made.last.ke
 within_new made done kept replaced rows tail records =
     open_within records made tail (subst (AreInside records) (sym done) tt) (omega (arith, kept, replaced))
 
--- a list of no length
-pub none_of : {X : Type 0} (xs : List X) → length xs ≡ 0 → xs ≡ []
-none_of [] none = refl
-none_of (x ∷ xs) none = absurd (omega (arith, none))
-
 -- what holds anyway holds after an error
 pub on_err : {A E : Type 0} (result : Result A E) (P : Type 0) → P → OnErr result P
 on_err (Ok a) P p = tt

@@ -1,6 +1,6 @@
 -- `glob` says exactly the patterns that the grammar has written by it.
 use Rattle.std.proofs.Common.{◌≡◌, Bool, true, ◌&&◌, List, [], ◌∷◌, length}
-use Rattle.std.proofs.Common.{Option, Some, None, Result, Ok, refl, sym, ap, subst, ◌∙◌}
+use Rattle.std.proofs.Common.{Option, Some, None, Ok, refl, sym, ap, subst, ◌∙◌}
 use Rattle.std.specs.Option.{MatchOption, is_some}
 use Rattle.std.proofs.lemmas.Bool.{leb-true, le-leb, cond-true}
 use Rattle.std.proofs.lemmas.Option.{cond_some, same_Some}
@@ -8,6 +8,7 @@ use Rattle.serde_json.specs.Data.{Data, boolean, string, array, Items, no_items,
 use Rattle.serde_json.specs.Find.{as_bool}
 use Rattle.wq_base.specs.Fault.{or_fault}
 use Rattle.wq_base.proofs.Fault.{or_fault-ok, unless_fault-ok, with_first-some}
+use Rattle.wq_base.proofs.Facts.{same_Ok}
 use Rattle.wq_glob.specs.Limit.{max_pattern_length}
 use Rattle.wq_glob.specs.Pattern.{PatternData}
 use Rattle.wq_glob.specs.declared.flag.Flags.{Flags}
@@ -15,10 +16,6 @@ use Rattle.wq_query.specs.declared.fault.QueryFault.TheVariants.{BadGenerator, P
 use Rattle.wq_query.specs.Glob.{are_texts, globs_of, is_text, pattern_in, patterns_in}
 use Rattle.wq_query.specs.Grammar.{AreGlobs, IsGlob, ListGlobs}
 use Rattle.wq_query.specs.Reading.{is_flag_or_absent}
-
--- a right result is one value
-same_Ok : {A E : Type 0} (x y : A) → ◌≡◌ {A = Result A E} (Ok x) (Ok y) → x ≡ y
-same_Ok x y e = cc
 
 -- a pattern
 pattern-found : (f : Flags) (d : Data) (p : PatternData) → pattern_in f d ≡ Some p → IsGlob f p d

@@ -11,6 +11,7 @@ use Rattle.serde_json.specs.Find.{get, as_bool}
 use Rattle.wq_base.specs.Fault.{is_true}
 use Rattle.wq_base.proofs.Fault.{or_fault-ok, or_its_fault-ok, or_own_fault-ok, unless_fault-ok, with_first-some}
 use Rattle.wq_base.proofs.Named.{named-name}
+use Rattle.wq_base.proofs.Facts.{same_Ok}
 use Rattle.wq_clock.specs.Instance.{InstanceData}
 use Rattle.wq_clock.specs.ClockSpec.{SpecData, clock_id, old_clock_id, named_cursor, clock_spec_of}
 use Rattle.wq_clock.specs.Spelling.{IsClockSpelling}
@@ -42,10 +43,6 @@ use Rattle.wq_query.specs.Grammar.{IsSinceKey, IsProgram, IsWrittenBy}
 use Rattle.wq_query.proofs.Paths.{paths-found, paths-read}
 use Rattle.wq_query.proofs.Globs.{glob-found, glob-reads, dotfiles-found, dotfiles-reads}
 use Rattle.wq_query.specs.Law.{ValuesAskWhatTheyWrite}
-
--- a right result is one value
-same_Ok : {A E : Type 0} (x y : A) → ◌≡◌ {A = Result A E} (Ok x) (Ok y) → x ≡ y
-same_Ok x y e = cc
 
 -- keys that are not there
 none-found : (keys : List (List ℕ)) (d : Data) → has_key_of keys d ≡ false

@@ -1,26 +1,16 @@
 -- The part after the last dot of a basename, if the last dot or slash of a name is known.
-use Rattle.std.proofs.Common.{◌≡◌, ℕ, zero, suc, ◌+◌, ◌-◌, ◌<◌, Bool, true, false, not, ◌||◌, List, [], ◌∷◌, ◌++◌, length, drop, take, refl, sym, ap, ◌∙◌, arith}
+use Rattle.std.proofs.Common.{◌≡◌, ℕ, zero, suc, ◌+◌, ◌-◌, ◌<◌, Bool, true, false, not, List, [], ◌∷◌, ◌++◌, length, drop, take, refl, sym, ap, ◌∙◌, arith}
 use Rattle.std.specs.Prelude.{slice_index}
 use Rattle.std.specs.List.{after_last, list_any, suffix_len}
-use Rattle.std.proofs.lemmas.Bool.{eqb-true}
+use Rattle.std.proofs.lemmas.Bool.{eqb-true, or_parts, false_from_ne_true, or_right}
 use Rattle.std.proofs.lemmas.List.{reverse-append, drop-append-le, take-append-drop, append_assoc, append-nil, length-append}
 use Rattle.std.proofs.lemmas.List.Sums.{suffix_len-le-length}
 use Rattle.std.proofs.lemmas.List.Folds.{list_any-append}
-use Rattle.std.proofs.Math.Seq.{drop-cons}
+use Rattle.std.proofs.Math.Seq.{drop-cons, drop-length}
 use Rattle.std.specs.Str.{byte}
 use Rattle.memchr.specs.Find.{NoneAfter, Nowhere, Passes, is_byte2}
 use Rattle.wq_base.specs.Byte.{is_slash, is_dot}
 use Rattle.wq_base.specs.Name.{basename_of, suffix_of}
-
--- neither fact holds
-neither : (a b : Bool) → (a || b) ≡ false → (a ≡ false) × (b ≡ false)
-neither true b h = absurd cc
-neither false b h = (refl, h)
-
--- a test whose fact does not hold fails
-fails : (b : Bool) → (b ≡ true → ⊥) → b ≡ false
-fails true isnt = absurd (isnt refl)
-fails false isnt = refl
 
 -- bytes that all fail a test are counted first
 tail_counts : (p : ℕ → Bool) (front tail : List ℕ) → list_any p tail ≡ false
@@ -30,7 +20,7 @@ tail_counts p front [] none =
     arith in
     rw (append-nil front, e) refl
 tail_counts p front (x ∷ tail) none =
-    let parts = neither (p x) (list_any p tail) none in
+    let parts = or_parts (p x) (list_any p tail) none in
     let last : suffix_len (λ x. not (p x)) (front ++ x ∷ []) ≡ 1 + suffix_len (λ x. not (p x))
     front =
     rw (reverse-append front (x ∷ []), parts.0) refl in
@@ -49,11 +39,6 @@ after_last-front p front tail none =
     omega (arith, tail_counts p front tail none, length-append front tail, low) in
     rw count (drop-append-le (length front - s) front tail (omega arith))
 
--- the part after the end is empty
-past : (xs : List ℕ) → drop (length xs) xs ≡ []
-past [] = refl
-past (x ∷ xs) = past xs
-
 -- the part after a byte that passes, if no later byte does
 after_last-here : (p : ℕ → Bool) (front tail : List ℕ) (x : ℕ) → p x ≡ true
     → list_any p tail ≡ false
@@ -63,7 +48,7 @@ after_last-here p front tail x here none =
     (reverse-append front (x ∷ []), here) refl in
     let all = front ++ x ∷ [] in
     let e : length all - 0 ≡ length all = omega arith in
-    let gone : after_last p (front ++ x ∷ []) ≡ [] = rw (last, e) (past (front ++ x ∷ [])) in
+    let gone : after_last p (front ++ x ∷ []) ≡ [] = rw (last, e) (drop-length (front ++ x ∷ [])) in
     let parts = after_last-front p (front ++ x ∷ []) tail none in
     rw (append_assoc front (x ∷ []) tail, gone) at parts
 
@@ -78,7 +63,7 @@ rest_fails : (test : ℕ → Bool) (bytes : List ℕ) (n : ℕ)
 rest_fails test [] zero none = refl
 rest_fails test [] (suc n) none = refl
 rest_fails test (b ∷ bytes) zero none =
-    rw (fails (test b) (none 0 (omega arith) (omega arith)))
+    rw (false_from_ne_true (test b) (none 0 (omega arith) (omega arith)))
     (rest_fails test bytes zero (λ k low high. none (suc k) (omega arith) (omega arith)))
 rest_fails test (b ∷ bytes) (suc n) none =
     rest_fails test bytes n (λ k low high. none (suc k) (omega arith) (omega arith))
@@ -88,17 +73,17 @@ no_dot : (bytes : List ℕ) → list_any (is_byte2 (byte ".") (byte "/")) bytes 
     → list_any is_dot bytes ≡ false
 no_dot [] none = refl
 no_dot (b ∷ bytes) none =
-    let parts = neither (is_byte2 (byte ".") (byte "/") b)
+    let parts = or_parts (is_byte2 (byte ".") (byte "/") b)
     (list_any (is_byte2 (byte ".") (byte "/")) bytes) none in
-    rw ((neither (is_dot b) (is_slash b) parts.0).0) (no_dot bytes parts.1)
+    rw ((or_parts (is_dot b) (is_slash b) parts.0).0) (no_dot bytes parts.1)
 
 no_slash : (bytes : List ℕ) → list_any (is_byte2 (byte ".") (byte "/")) bytes ≡ false
     → list_any is_slash bytes ≡ false
 no_slash [] none = refl
 no_slash (b ∷ bytes) none =
-    let parts = neither (is_byte2 (byte ".") (byte "/") b)
+    let parts = or_parts (is_byte2 (byte ".") (byte "/") b)
     (list_any (is_byte2 (byte ".") (byte "/")) bytes) none in
-    rw ((neither (is_dot b) (is_slash b) parts.0).1) (no_slash bytes parts.1)
+    rw ((or_parts (is_dot b) (is_slash b) parts.0).1) (no_slash bytes parts.1)
 
 -- a byte at a place joins the bytes before it and the bytes after it
 parted : (name : List ℕ) (at : ℕ) → at < length name
@@ -131,12 +116,8 @@ from_dot front rest x dot dots slashes =
     let base = after_last-front is_slash front (x ∷ rest) behind in
     let some : list_any is_dot (basename_of front ++ x ∷ rest) ≡ true =
     list_any-append is_dot (basename_of front) (x ∷ rest) ∙ rw dot
-    (or_true (list_any is_dot (basename_of front))) in
+    (or_right (list_any is_dot (basename_of front)) true refl) in
     rw (base, some) (after_last-here is_dot (basename_of front) rest x dot dots)
-  where
-    or_true : (b : Bool) → (b || true) ≡ true
-    or_true true = refl
-    or_true false = refl
 
 -- the bytes after a slash
 from_slash : (front rest : List ℕ) (x : ℕ) → is_slash x ≡ true → list_any is_dot rest ≡ false
@@ -164,7 +145,7 @@ pub no_suffix_after : (name : List ℕ) (at : ℕ)
     → Passes (is_byte2 (byte ".") (byte "/")) name at → (slice_index name at ≡ byte "." → ⊥)
     → suffix_of name ≡ []
 no_suffix_after name at place here isnt =
-    let other = fails (is_dot (slice_index name at))
+    let other = false_from_ne_true (is_dot (slice_index name at))
     (λ dot. isnt (eqb-true (slice_index name at) (byte ".") dot)) in
     let all = rest_fails (is_byte2 (byte ".") (byte "/")) name (at + 1) place.after in
     let rest = drop (at + 1) name in

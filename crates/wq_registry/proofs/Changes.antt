@@ -4,6 +4,7 @@ use Rattle.std.specs.List.{list_any}
 use Rattle.std.specs.Str.{bytes_eq}
 use Rattle.std.proofs.Common.{zero, suc, slice_get}
 use Rattle.std.proofs.lemmas.Slice.Eq.{bytes_eq-Decides}
+use Rattle.std.proofs.lemmas.List.Elements.{filter-append}
 use Rattle.wq_registry.specs.ByName.{ByName, names, under, put, put_at, without}
 use Rattle.wq_registry.specs.Change.{Change, putting, removing, changed_by, made, says_of, later, last_said, takes_out, brings_in, brought_in, LastChangeCounts, NamesStandInOrder, PlacesAreNames}
 
@@ -119,15 +120,6 @@ module _ {X : Type 0} where
   filter-all : (xs : List X) → filter (λ x. true) xs ≡ xs
   filter-all [] = refl
   filter-all (x ∷ xs) = ap (λ ys. x ∷ ys) (filter-all xs)
-
-  -- the items of two lists that pass
-  filter-append : (test : X → Bool) (xs ys : List X) → filter test (xs ++ ys) ≡ filter test xs ++ filter test ys
-  filter-append test [] ys = refl
-  filter-append test (x ∷ xs) ys = by (test x) (filter-append test xs ys)
-    where
-      by : (b : Bool) → filter test (xs ++ ys) ≡ filter test xs ++ filter test ys → cond b (x ∷ filter test (xs ++ ys)) (filter test (xs ++ ys)) ≡ cond b (x ∷ filter test xs) (filter test xs) ++ filter test ys
-      by true rest = ap (λ zs. x ∷ zs) rest
-      by false rest = rest
 
 module _ {A : Type 0} where
   -- one more change decides

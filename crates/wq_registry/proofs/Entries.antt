@@ -1,11 +1,11 @@
 -- A map from texts is a list of things under names.
-use Rattle.std.proofs.Common.{◌≡◌, ℕ, zero, suc, true, false, cond, not, ◌&&◌, nat_le, List, [], ◌∷◌, map, length, Option, None, Some, is_some, option_map, option_copied, Bor, refl, ap, ◌∙◌}
+use Rattle.std.proofs.Common.{◌≡◌, ℕ, zero, suc, true, false, cond, not, ◌&&◌, nat_le, List, [], ◌∷◌, map, length, Option, None, Some, is_some, option_map, option_copied, Bor, refl, ap, ◌∙◌, one-add}
 use Rattle.std.specs.declared.string.String.{String}
 use Rattle.std.specs.declared.sync.Arc.{Arc}
 use Rattle.std.specs.String.{string_bytes}
 use Rattle.std.specs.Str.{bytes_eq}
 use Rattle.std.specs.List.{position_or_len}
-use Rattle.std.proofs.Common.{◌+◌, Bool, position, nat_lt, slice_get, sym, arith, true≢false, IfSome, IfNone}
+use Rattle.std.proofs.Common.{◌+◌, Bool, position, nat_lt, slice_get, sym, true≢false, IfSome, IfNone}
 use Rattle.std.proofs.lemmas.List.{length-map}
 use Rattle.std.specs.Map.{lookup, remove_entry, values_of, keys_of}
 use Rattle.std.specs.Borrow.{GName}
@@ -14,6 +14,7 @@ use mathlib.Core.Option.{Option as Perhaps}
 use Rattle.indexmap.specs.IndexMap.{insert_entry, set_value_at}
 use Rattle.wq_registry.specs.ByName.{ByName, under, put, put_at, names, values, without, has_no_place}
 use Rattle.wq_registry.specs.Entry.{by_bytes, unshared}
+use Rattle.wq_registry.proofs.Places.{place_is}
 
 module _ {A Z : Type 0} (name : List ℕ) where
   -- the value that the map has is the one under the name
@@ -112,15 +113,6 @@ pub names-unshared : {A Z : Type 0} (xs : ByName (Arc A Z)) → names (unshared 
 names-unshared [] = refl
 names-unshared (x ∷ xs) = ap (λ ys. x.0 ∷ ys) (names-unshared xs)
 
--- one more
-one_more : (n : ℕ) → 1 + n ≡ suc n
-one_more n = omega arith
-
--- a place that a test gives is that place
-place_is : (b : Bool) (n i : ℕ) → cond b (Some n) None ≡ Some i → n ≡ i
-place_is true n i h = cc
-place_is false n i h = cc
-
 module _ {A Z : Type 0} (name : List ℕ) where
   -- a thing that is put at the first place with a name is put under it
   put-first : (v : A) (es : List (String Z × A)) → is_some (under name (by_bytes es)) ≡ true → put_at (position_or_len (λ k. bytes_eq name (string_bytes k)) (keys_of es)) v (by_bytes es) ≡ put name v (by_bytes es)
@@ -131,7 +123,7 @@ module _ {A Z : Type 0} (name : List ℕ) where
           → put_at (cond (not b) (1 + position_or_len (λ k. bytes_eq name (string_bytes k)) (keys_of es)) 0) v (by_bytes (e ∷ es)) ≡ cond b ((string_bytes e.0, v) ∷ by_bytes es) ((string_bytes e.0, e.1) ∷ put name v (by_bytes es))
       by true h rest = refl
       by false h rest =
-          ap (λ k. put_at k v (by_bytes (e ∷ es))) (one_more (position_or_len (λ k. bytes_eq name (string_bytes k)) (keys_of es)))
+          ap (λ k. put_at k v (by_bytes (e ∷ es))) (one-add (position_or_len (λ k. bytes_eq name (string_bytes k)) (keys_of es)))
           ∙ ap (λ xs. (string_bytes e.0, e.1) ∷ xs) (rest h)
 
   -- a thing that is put at the place of a name is put under the name

@@ -1,6 +1,6 @@
 -- Programs that are kept stand for the texts of their keys.
-use Rattle.std.proofs.Common.{◌≡◌, ℕ, Bool, true, false, List, Some, Ok, Contains, refl, sym, subst, ◌∙◌}
-use Rattle.std.proofs.Common.{◌≤◌, nat_eq, ◌&&◌, ◌⊎◌, inl, inr, Option, Result, Err, OnOk, OnErr, IfOk, IfSome, IsTrue, IsErrOf, ◌↔◌, true≢false}
+use Rattle.std.proofs.Common.{◌≡◌, ℕ, Bool, true, false, List, Some, Ok, Contains, sym, subst}
+use Rattle.std.proofs.Common.{◌≤◌, nat_eq, ◌&&◌, ◌⊎◌, inl, inr, Option, Result, Err, OnOk, OnErr, IfOk, IfSome}
 use Rattle.std.specs.Result.{result_ok}
 use Rattle.std.proofs.lemmas.Bool.{and_parts, eqb-true}
 use Rattle.std.specs.Str.{bytes_eq}
@@ -96,8 +96,3 @@ module _ {Z : Type 0} (cache : CacheData) (old : LruCache Key (Arc Raw Z)) (key 
 pub shared : {Z E : Type 0} (instance : InstanceData) (text : List ℕ) (seen : Arc Raw Z) (o : Option (Arc Raw Z)) (r : Result (Arc Raw Z) E) → o ≡ result_ok r → IfOk r (λ a. a.value ≡ seen.value) → StandsFor instance text seen.value → IfSome o (λ p. StandsFor instance text p.value)
 shared instance text seen o (Ok a) is same stands = subst (λ o. IfSome o (λ p. StandsFor instance text p.value)) (sym is) (subst (λ (raw : Raw). StandsFor instance text raw) (sym same) stands)
 shared instance text seen o (Err e) is same stands = subst (λ o. IfSome o (λ p. StandsFor instance text p.value)) (sym is) tt
-
--- if a program is given, the conditions of a refusal are false
-pub is_false : {A E : Type 0} (a : A) (e : E) (b : Bool) → (IsTrue b → IsErrOf {T = A} (Ok a) e) → b ≡ false
-is_false a e true h = let none : IsErrOf (Ok a) e = h refl in cc
-is_false a e false h = refl

@@ -1,30 +1,18 @@
 -- The root of a number, by its place.
-use Rattle.std.proofs.Common.{◌≡◌, ℕ, suc, ◌+◌, ◌≤◌, Bool, true, false, not, cond, List, [], ◌∷◌, length, None, Some, Result, Ok, Err, OnOk, OnErr, refl, ap, arith, nat_eq, nat_lt, slice_get, slice_set, position, ◌∙◌, sym}
+use Rattle.std.proofs.Common.{◌≡◌, ℕ, ◌+◌, Bool, true, false, not, cond, List, [], ◌∷◌, length, None, Some, Result, Ok, Err, OnOk, OnErr, refl, ap, nat_eq, nat_lt, slice_get, slice_set, position, ◌∙◌, sym, one-add}
 use Rattle.std.specs.List.{position_or_len}
+use Rattle.wq_base.proofs.Facts.{not_chosen}
 use Rattle.wq_registry.specs.declared.fault.ShelfFault.{ShelfFault}
 use Rattle.std.proofs.lemmas.List.Folds.{find_at}
 use Rattle.std.proofs.lemmas.Option.{slice_get_past}
-use Rattle.std.proofs.lemmas.Bool.Decides.{nat_tests}
+use Rattle.std.proofs.lemmas.Bool.{ltb-false}
 use Rattle.wq_registry.specs.Root.{RootData, numbered, changed}
 use Rattle.wq_registry.specs.Shelf.{ShelfData, root_changed}
 
 -- a place that a test gives is that place
-place_is : (b : Bool) (n i : ℕ) → cond b (Some n) None ≡ Some i → n ≡ i
+pub place_is : (b : Bool) (n i : ℕ) → cond b (Some n) None ≡ Some i → n ≡ i
 place_is true n i h = cc
 place_is false n i h = cc
-
--- no place is given if the test fails
-test_fails : (b : Bool) (n : ℕ) → cond b (Some n) None ≡ None → b ≡ false
-test_fails true n h = cc
-test_fails false n h = refl
-
--- one more
-one_more : (n : ℕ) → 1 + n ≡ suc n
-one_more n = omega arith
-
--- a test that fails, as an order
-past : (n m : ℕ) → nat_lt n m ≡ false → m ≤ n
-past n m h = grind (arith, nat_tests)
 
 module _ {T : Type 0} (number : ℕ) where
   -- if the root has a place, it is the one there
@@ -33,7 +21,7 @@ module _ {T : Type 0} (number : ℕ) where
 
   -- if it has none, there is no such root
   pub no_place : (rs : List (RootData T)) → position (λ r. nat_eq number r.number) rs ≡ None → numbered number rs ≡ None
-  no_place rs h = find_at (λ r. nat_eq number r.number) rs ∙ slice_get_past rs _ (past _ _ (test_fails (nat_lt (position_or_len (λ r. nat_eq number r.number) rs) (length rs)) (position_or_len (λ r. nat_eq number r.number) rs) h))
+  no_place rs h = find_at (λ r. nat_eq number r.number) rs ∙ slice_get_past rs _ (ltb-false _ _ (not_chosen (nat_lt (position_or_len (λ r. nat_eq number r.number) rs) (length rs)) (position_or_len (λ r. nat_eq number r.number) rs) h))
 
   -- a root that is written at the first place that passes is written over the root
   set_first : (rs : List (RootData T)) (w : RootData T) → slice_set rs (position_or_len (λ r. nat_eq number r.number) rs) w ≡ changed number (λ _. w) rs
@@ -41,7 +29,7 @@ module _ {T : Type 0} (number : ℕ) where
   set_first (r ∷ rs) w =
       elim (nat_eq number r.number) as (λ b. slice_set (r ∷ rs) (cond (not b) (1 + position_or_len (λ r. nat_eq number r.number) rs) 0) w ≡ cond b (w ∷ rs) (r ∷ changed number (λ _. w) rs)) [
         | true ↦ refl
-        | false ↦ ap (λ i. slice_set (r ∷ rs) i w) (one_more (position_or_len (λ r. nat_eq number r.number) rs)) ∙ ap (λ rs. r ∷ rs) (set_first rs w)
+        | false ↦ ap (λ i. slice_set (r ∷ rs) i w) (one-add (position_or_len (λ r. nat_eq number r.number) rs)) ∙ ap (λ rs. r ∷ rs) (set_first rs w)
       ]
 
   -- a root that is written at its place is written over the root

@@ -1,15 +1,17 @@
 -- The subscriptions of clients, when those of one client change; and ascending numbers.
-use Rattle.std.proofs.Common.{◌≡◌, ℕ, ℤ, suc, ◌+◌, ◌<◌, ◌≤◌, Bool, true, false, not, cond, nat_eq, nat_lt, List, [], ◌∷◌, ◌++◌, map, find, drop, take, remove, length, get_or, Option, Some, None, position, slice_get, drop-cons, refl, sym, ap, subst, ◌∙◌, arith}
+use Rattle.std.proofs.Common.{◌≡◌, ℕ, ℤ, suc, ◌+◌, ◌<◌, Bool, true, false, not, cond, nat_lt, List, [], ◌∷◌, ◌++◌, map, find, drop, take, remove, length, get_or, Option, Some, None, position, slice_get, drop-cons, refl, sym, ap, subst, ◌∙◌, arith}
 use mathlib.Core.Bool.{false≢true}
 use Rattle.std.specs.List.{position_or_len}
 use Rattle.std.specs.Ordering.{int_eq}
-use Rattle.std.proofs.Math.Seq.{take-suc}
-use Rattle.std.proofs.lemmas.Bool.Decides.{Decides-int_eq, nat_tests}
-use Rattle.std.proofs.lemmas.List.{append-nil, append_assoc, take-append-drop}
+use Rattle.std.proofs.lemmas.Bool.Decides.{Decides-int_eq}
+use Rattle.std.proofs.lemmas.List.{append-nil, take-append-drop}
 use Rattle.std.proofs.lemmas.List.Elements.{filter-append}
 use Rattle.std.proofs.lemmas.List.Folds.{find_at}
 use Rattle.std.proofs.lemmas.List.Quantifiers.{position-Some}
 use Rattle.std.proofs.lemmas.Option.{slice_get-get_or, slice_get_past}
+use Rattle.std.proofs.lemmas.Bool.{ltb-false}
+use Rattle.wq_base.proofs.Facts.{not_chosen}
+use Rattle.wq_registry.proofs.Places.{place_is}
 use Rattle.wq_follow.specs.Subscription.{SubscriptionData}
 use Rattle.wq_session.specs.Followed.{follows_of}
 use Rattle.wq_session.specs.declared.session.Session.{Session}
@@ -103,18 +105,6 @@ follows_found number (client ∷ clients) = by (is_of number client) (follows_fo
     by true later = refl
     by false later = later
 
--- a place that a test gives is that place, and none is given if the test fails
-place_is : (b : Bool) (n i : ℕ) → cond b (Some n) None ≡ Some i → n ≡ i
-place_is true n i h = cc
-place_is false n i h = cc
-
-test_fails : (b : Bool) (n : ℕ) → cond b (Some n) None ≡ None → b ≡ false
-test_fails true n h = cc
-test_fails false n h = refl
-
-past : (n m : ℕ) → nat_lt n m ≡ false → m ≤ n
-past n m h = grind (arith, nat_tests)
-
 -- the subscriptions of the client at the place that was found
 pub follows_at : (number : ℤ) (clients : List Client) (i : ℕ) (client : Client) → position (is_of number) clients ≡ Some i
     → client ≡ get_or clients i client → follows_of client.session ≡ follows_in number clients
@@ -127,7 +117,7 @@ follows_at number clients i client at is =
 -- a client that was not found has none
 pub follows_none : (number : ℤ) (clients : List Client) → position (is_of number) clients ≡ None → follows_in number clients ≡ []
 follows_none number clients none =
-    follows_found number clients ∙ ap of_found (find_at (is_of number) clients ∙ slice_get_past clients _ (past _ _ (test_fails (nat_lt (position_or_len (is_of number) clients) (length clients)) (position_or_len (is_of number) clients) none)))
+    follows_found number clients ∙ ap of_found (find_at (is_of number) clients ∙ slice_get_past clients _ (ltb-false _ _ (not_chosen (nat_lt (position_or_len (is_of number) clients) (length clients)) (position_or_len (is_of number) clients) none)))
 
 -- the others are the same without the one at the place that was found
 pub others_removed : (number : ℤ) (clients : List Client) (i : ℕ) (client : Client) → position (is_of number) clients ≡ Some i
@@ -140,57 +130,6 @@ others_removed number clients i client at =
     ∙ ap (λ later. other_clients number (take i clients) ++ other_clients number later) (sym (drop-cons clients i client found.0))
     ∙ sym (filter-append test (take i clients) (drop i clients))
     ∙ ap (other_clients number) (take-append-drop i clients)
-
--- one more number is lower
-pub lower_next : (number : ℕ) (numbers : List ℕ) (i x : ℕ) → i < length numbers → x ≡ get_or numbers i x → nat_lt x number ≡ true
-    → with_root_number number numbers ≡ take i numbers ++ with_root_number number (drop i numbers)
-    → with_root_number number numbers ≡ take (i + 1) numbers ++ with_root_number number (drop (i + 1) numbers)
-lower_next number numbers i x within is lower so_far =
-    let next : i + 1 ≡ suc i = omega arith in
-    let parts : drop i numbers ≡ x ∷ drop (suc i) numbers = drop-cons numbers i x within ∙ ap (λ y. y ∷ drop (suc i) numbers) (sym is) in
-    let front : take (suc i) numbers ≡ take i numbers ++ x ∷ [] = take-suc numbers i x within ∙ ap (λ y. take i numbers ++ y ∷ []) (sym is) in
-    so_far ∙ ap (λ rest. take i numbers ++ with_root_number number rest) parts
-    ∙ ap (λ b. take i numbers ++ cond b (x ∷ with_root_number number (drop (suc i) numbers)) (cond (nat_eq number x) (x ∷ drop (suc i) numbers) (number ∷ x ∷ drop (suc i) numbers))) lower
-    ∙ sym (append_assoc (take i numbers) (x ∷ []) (with_root_number number (drop (suc i) numbers)))
-    ∙ ap (λ xs. xs ++ with_root_number number (drop (suc i) numbers)) (sym front)
-    ∙ ap (λ n. take n numbers ++ with_root_number number (drop n numbers)) (sym next)
-
--- a number that is at a place, before which all are lower, is there
-pub there : (number : ℕ) (numbers : List ℕ) (i x : ℕ) → i < length numbers → x ≡ get_or numbers i x → x ≡ number
-    → with_root_number number numbers ≡ take i numbers ++ with_root_number number (drop i numbers) → numbers ≡ with_root_number number numbers
-there number numbers i x within is same so_far =
-    let parts : drop i numbers ≡ x ∷ drop (suc i) numbers = drop-cons numbers i x within ∙ ap (λ y. y ∷ drop (suc i) numbers) (sym is) in
-    let lower : nat_lt x number ≡ false = grind (arith, nat_tests) in
-    let equal : nat_eq number x ≡ true = grind (arith, nat_tests) in
-    sym (
-    so_far ∙ ap (λ rest. take i numbers ++ with_root_number number rest) parts
-    ∙ ap (λ b. take i numbers ++ cond b (x ∷ with_root_number number (drop (suc i) numbers)) (cond (nat_eq number x) (x ∷ drop (suc i) numbers) (number ∷ x ∷ drop (suc i) numbers))) lower
-    ∙ ap (λ b. take i numbers ++ cond b (x ∷ drop (suc i) numbers) (number ∷ x ∷ drop (suc i) numbers)) equal
-    ∙ ap (λ rest. take i numbers ++ rest) (sym parts)
-    ∙ take-append-drop i numbers
-    )
-
--- it is put before one that is higher
-pub put_before : (number : ℕ) (numbers : List ℕ) (i x : ℕ) → i < length numbers → x ≡ get_or numbers i x → number < x
-    → with_root_number number numbers ≡ take i numbers ++ with_root_number number (drop i numbers)
-    → take i numbers ++ number ∷ drop i numbers ≡ with_root_number number numbers
-put_before number numbers i x within is higher so_far =
-    let parts : drop i numbers ≡ x ∷ drop (suc i) numbers = drop-cons numbers i x within ∙ ap (λ y. y ∷ drop (suc i) numbers) (sym is) in
-    let lower : nat_lt x number ≡ false = grind (arith, nat_tests) in
-    let equal : nat_eq number x ≡ false = grind (arith, nat_tests) in
-    sym (
-    so_far ∙ ap (λ rest. take i numbers ++ with_root_number number rest) parts
-    ∙ ap (λ b. take i numbers ++ cond b (x ∷ with_root_number number (drop (suc i) numbers)) (cond (nat_eq number x) (x ∷ drop (suc i) numbers) (number ∷ x ∷ drop (suc i) numbers))) lower
-    ∙ ap (λ b. take i numbers ++ cond b (x ∷ drop (suc i) numbers) (number ∷ x ∷ drop (suc i) numbers)) equal
-    ∙ ap (λ rest. take i numbers ++ number ∷ rest) (sym parts)
-    )
-
--- and after all, if all are lower
-pub put_last : (number : ℕ) (numbers : List ℕ) (i : ℕ) → drop i numbers ≡ [] → with_root_number number numbers ≡ take i numbers ++ with_root_number number (drop i numbers)
-    → numbers ++ number ∷ [] ≡ with_root_number number numbers
-put_last number numbers i none so_far =
-    ap (λ xs. xs ++ number ∷ []) (sym (ap (λ rest. take i numbers ++ rest) (sym none) ∙ take-append-drop i numbers) ∙ append-nil (take i numbers))
-    ∙ sym (so_far ∙ ap (λ rest. take i numbers ++ with_root_number number rest) none)
 
 -- an answer that lets the client go on
 pub answer_kept : (number : ℤ) (session : Session) (goes_on : Bool) (before after : List Client) → goes_on ≡ true

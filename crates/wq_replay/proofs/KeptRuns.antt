@@ -30,8 +30,8 @@ use Rattle.wq_crawl.specs.At.{AtData}
 use Rattle.wq_session.specs.At.{ShelfNow}
 use Rattle.wq_session.specs.Query.{program_for}
 use Rattle.wq_session.specs.Trigger.{defined_by, run_in, trigger_called}
+use Rattle.wq_session.proofs.Reaching.{after_both}
 use Rattle.wq_view.specs.View.{ViewData}
-use Rattle.wq_replay.proofs.Shelves.{after_both}
 
 -- the run of the command of a trigger on a shelf
 abbrev pub run_at : ℕ → List ℕ → ShelfNow → Option ℕ

@@ -7,7 +7,7 @@ use Rattle.wq_crawl.specs.declared.fault.CrawlFault.{CrawlFault}
 use Rattle.wq_crawl.specs.declared.place.Place.{Place}
 use Rattle.wq_crawl.specs.declared.place.Place.TheVariants.{Shown, Full, Free}
 use Rattle.wq_live.specs.Event.{number_of}
-use Rattle.wq_live.specs.Table.{RootView, TableData, root_by_text}
+use Rattle.wq_live.specs.Table.{RootView, root_by_text}
 use Rattle.wq_registry.specs.ByName.{under}
 use Rattle.wq_registry.specs.Change.{later}
 use Rattle.wq_registry.specs.History.{adds_root, after_all}
@@ -18,6 +18,7 @@ use Rattle.wq_ask.specs.declared.ask.Ask.{Ask}
 use Rattle.wq_session.specs.Accepted.{AnswersAreCalls, CallNow}
 use Rattle.wq_session.specs.Round.{RoundsAreCalls, after_turns, turn_calls}
 use Rattle.wq_session.specs.Trigger.{run_in, trigger_called}
+use Rattle.wq_session.proofs.Reaching.{after_both}
 use Rattle.wq_view.specs.Listing.{PassData}
 use Rattle.wq_replay.specs.Accepted.{AcceptsAt, AcceptsFor, AcceptsUnless}
 use Rattle.wq_crawl.specs.Meets.{ending, fault_for}
@@ -27,7 +28,7 @@ use Rattle.wq_replay.specs.Playing.{Happens}
 use Rattle.wq_replay.specs.Rounds.{HasRound, RoundsFound}
 use Rattle.wq_replay.specs.Runs.{other_runs}
 use Rattle.wq_replay.specs.World.{Crawls, CrawlsAt, HappeningData, crawl, watching, asked, idle, round, ended, SentData, Starts, WatchesAt, WorldData, root_text}
-use Rattle.wq_replay.proofs.Shelves.{after_both, does, round_calls, shelves_are_calls}
+use Rattle.wq_replay.proofs.Shelves.{does, round_calls, shelves_are_calls}
 use Rattle.wq_replay.proofs.KeptRuns.{accepted_keep, run_at}
 use Rattle.wq_replay.proofs.Turns.{after_round, no_turns, put_other, turns_go, turns_pass, turns_start}
 

@@ -4,7 +4,7 @@ use Rattle.std.proofs.lemmas.List.{append-nil, append_assoc, append_cancel_left,
 use Rattle.std.proofs.lemmas.Bool.{eq-eqb, eqb-false, eqb-true, ltb-true, ltb-false, false_from_ne_true}
 use Rattle.std.specs.Io.{StartsWith}
 use Rattle.std.specs.Io.KnownBytes.{Consumes, Keeps}
-use Rattle.std.specs.Io.BufRead.{take_through, drop_through, ends_with_byte, strip_last}
+use Rattle.std.specs.Io.BufRead.{take_through, drop_through, strip_last}
 use Rattle.std.proofs.KnownBytes.{starts_with_rest}
 use Rattle.memchr.specs.Find.{NoneBefore, Nowhere, Passes, is_byte}
 use Rattle.wq_replay.specs.Limit.{max_script_line}
@@ -202,11 +202,6 @@ through_then (x ∷ xs) = at (x == 10) (through_then xs)
     at true later = refl
     at false later = ap (λ l. x ∷ l) later
 
-length-take-short : (n : ℕ) (xs : List ℕ) → length (take n xs) ≤ length xs
-length-take-short zero xs = omega arith
-length-take-short (suc n) [] = omega arith
-length-take-short (suc n) (x ∷ xs) = let later = length-take-short n xs in omega (arith, later)
-
 take_long : (k n : ℕ) (xs : List ℕ) → k < n → k < length xs → k < length (take n xs)
 take_long k zero xs h long = absurd (omega arith)
 take_long k (suc n) [] h long = absurd (omega arith)
@@ -297,11 +292,3 @@ first_part (Some bytes) line is = subst (λ l. TakesPart bytes [] false l (Some 
 pub next_part : (script known rest : Option (List ℕ)) (mid after : List ℕ) (last as_said : Bool) → last ≡ as_said → IfSome script (λ bytes. TakesPart bytes [] false mid known) → IfSome known (λ bytes. TakesPart bytes mid last after rest) → IfSome script (λ bytes. TakesPart bytes [] as_said after rest)
 next_part None known rest mid after last as_said said before part = tt
 next_part (Some bytes) known rest mid after last as_said said before part = subst (λ b. TakesPart bytes [] b after rest) said (taken_on bytes mid after last known rest before part)
-
--- a line without its newline is no longer than with it
-pub strip_short : (xs : List ℕ) → length (strip_last 10 xs) ≤ length xs
-strip_short xs = at (ends_with_byte 10 xs)
-  where
-    at : (ends : Bool) → length (if ends then take (length xs - 1) xs else xs) ≤ length xs
-    at true = length-take-short (length xs - 1) xs
-    at false = omega arith

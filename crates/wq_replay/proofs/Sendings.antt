@@ -153,10 +153,6 @@ front_lists before now later all left rest one goes_on (Err handed) so_far is fr
     (front_sent before now later all left (one ∷ []) rest goes_on (Err Write) so_far is
     (subst (WritesFront now later) (sym (append-nil (sent_line one.client one.text))) front) (refl, refl))
 
--- no bytes were written
-pub none_written : (known : Option (List ℕ)) → Appends known known []
-none_written = appends_none
-
 -- the line that is said is the bytes of it
 bytes_said : (line : ReplyLine) (bytes : List ℕ) → line_in line ≡ Some bytes → line_bytes line ≡ bytes
 bytes_said NoLine bytes is = absurd (cc is)
@@ -211,15 +207,6 @@ notes_stay (text ∷ lines) = notes_stay lines
 pub notes_whole : (before now : Option (List ℕ)) (lines : List (List ℕ)) → Appends before now (sent_lines (map sent_note lines))
     → Sends (map sent_note lines) before now (Ok true)
 notes_whole before now lines more = (sym (ap not (notes_stay lines)), more)
-
--- the writer failed within them
-pub notes_fail : (before now : Option (List ℕ)) (lines : List (List ℕ)) (fault : StepFault) (result : Result Bool StepFault)
-    → SendsAll (map sent_note lines) before now (Err fault) → IsErr result × IsErrAnd result (λ handed. handed ≡ fault)
-    → Sends (map sent_note lines) before now result
-notes_fail before now lines fault (Ok went) sends same = absurd same.1
-notes_fail before now lines Write (Err handed) sends same = subst (λ f. Sends (map sent_note lines) before now (Err f)) (sym same.1) sends
-notes_fail before now lines Malformed (Err handed) sends same = absurd sends
-notes_fail before now lines NoMemory (Err handed) sends same = absurd sends
 
 -- a reply and its lists were written
 pub one_whole : (before now later : Option (List ℕ)) (first : List SentData) (client : ℤ) (lists : List (List ℕ)) (went : Bool)

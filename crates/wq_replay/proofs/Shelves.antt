@@ -1,5 +1,6 @@
 -- The shelf of a world is the result of the accepted calls.
 use Rattle.std.proofs.Common.{◌≡◌, ℕ, ℤ, false, List, [], ◌∷◌, ◌++◌, Option, Some, None, Result, Ok, Err, inl, inr, refl, sym, ap, subst, ◌∙◌}
+use Rattle.std.proofs.lemmas.Option.{same_Some}
 use Rattle.wq_clock.specs.Instance.{InstanceData}
 use Rattle.wq_clock.specs.Run.{instance_of}
 use Rattle.wq_follow.specs.Launcher.{LauncherData}
@@ -24,6 +25,7 @@ use Rattle.wq_ask.specs.declared.ask.Ask.{Ask}
 use Rattle.wq_session.specs.Round.{IsRound, RoundsAreCalls, turn_calls}
 use Rattle.wq_crawl.specs.At.{AtData}
 use Rattle.wq_session.specs.At.{ShelfNow}
+use Rattle.wq_session.proofs.Reaching.{after_both}
 use Rattle.wq_crawl.specs.declared.fault.CrawlFault.{CrawlFault}
 use Rattle.wq_view.specs.Listing.{PassData}
 use Rattle.wq_view.specs.View.{ViewData}
@@ -33,9 +35,6 @@ use Rattle.wq_replay.specs.Gets.{RepliesIn}
 use Rattle.wq_replay.specs.Playing.{Happens, Runs}
 use Rattle.wq_replay.specs.Rounds.{RoundsFound}
 use Rattle.wq_replay.specs.World.{Crawls, CrawlsAt, HappeningData, crawl, watching, asked, idle, round, ended, WatchesAt, SentData, Starts, WorldData, at_events, new_world, root_text}
-
-some_same : {X : Type 0} {x y : X} → Some x ≡ Some y → x ≡ y
-some_same h = cc h
 
 -- a crawl leaves the shelf
 at_number : (number : Option ℕ) (world : WorldData) (root : List ℕ) (pass : PassData) (after : WorldData)
@@ -61,11 +60,6 @@ watches (Shown number) world root seen after is = ap (λ w. w.shelf) is
 watches Full world root seen after is = ap (λ w. w.shelf) is
 watches Free world root seen after goes = starts world root seen after goes
 
--- calls, one list after another
-pub after_both : (first later : List CallNow) (shelf : ShelfNow) → after_all (first ++ later) shelf ≡ after_all later (after_all first shelf)
-after_both [] later shelf = refl
-after_both (c ∷ cs) later shelf = after_both cs later _
-
 module _ (answers_are_calls : AnswersAreCalls) (rounds_are_calls : RoundsAreCalls) where
   -- an ask that was answered at a root
   answered_at : (at : Option AtData) (ready : ReadyData) (later : List RootEvent) (client : ℤ) (world : WorldData) (ask : Ask) (out : OutData) (after : WorldData)
@@ -82,7 +76,7 @@ module _ (answers_are_calls : AnswersAreCalls) (rounds_are_calls : RoundsAreCall
       → ready ≡ Err fault → RepliesIn client ready (at_events later world) ask out after → MayRefuse (crawl_refusal fault) out × (after.shelf ≡ world.shelf)
   refused_by fault ready later client world ask out after is (shelf, left, replies, same) =
       let it = subst (λ (r : ReadyData). Replies false r ask (stand (Some world.shelf) (world.follows client)) out (stand (Some shelf) left)) is replies in
-      (it.0, ap (λ w. w.shelf) same ∙ some_same (ap (λ (s : StandData). s.shelf) it.1))
+      (it.0, ap (λ w. w.shelf) same ∙ same_Some _ _ (ap (λ (s : StandData). s.shelf) it.1))
 
   -- the reply to an ask
   ends : (number : Option ℕ) (table : TableData) (ready : ReadyData) (later : List RootEvent) (client : ℤ) (world : WorldData) (ask : Ask) (out : OutData)

@@ -2,25 +2,20 @@
 use Rattle.std.proofs.Common.{◌≡◌, ℕ, suc, ◌+◌, ◌<◌, if◌then◌else◌, List, [], ◌∷◌, ◌++◌, length, map, drop, get_or, drop-cons, codes, Some, None, refl, sym, ap, ◌∙◌, arith}
 use Rattle.std.proofs.lemmas.List.{append_assoc}
 use Rattle.json.specs.Print.{print}
-use Rattle.json.specs.Token.{Token, end_object, key, string as string_token}
-use Rattle.json.specs.Tree.{json_tokens, members_tokens}
+use Rattle.json.specs.Token.{Token, key, string as string_token}
+use Rattle.json.specs.Tree.{json_tokens}
 use Rattle.serde_json.proofs.Texts.{print-outline}
 use Rattle.serde_json.specs.Data.{Data}
-use Rattle.serde_json.specs.Written.{compact_text, members_outline, outline}
+use Rattle.serde_json.specs.Written.{compact_text, outline}
 use Rattle.wq_follow.specs.Start.{EnvData, var, var_if, vars_of}
 use Rattle.wq_replay.specs.Launched.{all_tried, tried_data}
-use Rattle.wq_replay.specs.StartLine.{tried_text, var_tokens, vars_members}
+use Rattle.wq_replay.specs.StartLine.{tried_text, var_tokens}
 use Rattle.wq_replay.specs.declared.launcher.Tried.{Tried}
 
 -- the text of a value whose tokens were printed after a word
 pub text_after : (text before word : List ℕ) (ts : List Token) (d : Data) → text ≡ before ++ print ts → before ≡ word
     → ts ≡ json_tokens (outline d) → text ≡ word ++ compact_text d
 text_after text before word ts d e first all = e ∙ ap (λ l. l ++ print ts) first ∙ ap (λ l. word ++ l) (ap print all ∙ print-outline d)
-
--- the tokens of variables are those of the members that they are
-pub vars_tokens : (vars : List (List ℕ × List ℕ)) → members_tokens (members_outline (vars_members vars)) ≡ var_tokens vars ++ end_object ∷ []
-vars_tokens [] = refl
-vars_tokens (v ∷ vars) = ap (λ ts. key v.0 ∷ string_token v.1 ∷ ts) (vars_tokens vars)
 
 -- the tokens of some variables and of others
 pub tokens_then : (vars more : List (List ℕ × List ℕ)) → var_tokens (vars ++ more) ≡ var_tokens vars ++ var_tokens more

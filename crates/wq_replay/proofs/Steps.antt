@@ -1,5 +1,5 @@
 -- The effects of the lines of a script, and the steps of the code.
-use Rattle.std.proofs.Common.{◌≡◌, ◌≢◌, ℕ, ℤ, Bool, true, false, not, if◌then◌else◌, List, [], ◌∷◌, ◌++◌, Option, Some, None, option_map, is_none, Result, Ok, Err, IsErr, IsErrAnd, refl, sym, ap, subst, ◌∙◌}
+use Rattle.std.proofs.Common.{◌≡◌, ◌≢◌, ℕ, ℤ, Bool, true, false, not, if◌then◌else◌, List, [], ◌∷◌, ◌++◌, Option, Some, None, option_map, is_none, Result, Ok, Err, refl, sym, ap, subst, ◌∙◌}
 use mathlib.Core.Bool.{false≢true}
 use Rattle.wq_stream.specs.declared.event.Event.{Event}
 use Rattle.wq_session.specs.Need.{need_of}
@@ -8,7 +8,6 @@ use Rattle.wq_ask.specs.declared.ask.Ask.{Ask}
 use Rattle.wq_crawl.specs.declared.fault.CrawlFault.{CrawlFault}
 use Rattle.wq_record.specs.Seen.{SeenData}
 use Rattle.wq_view.specs.Listing.{PassData, listing_fault, listing_of}
-use Rattle.wq_view.specs.declared.listing.PassFault.{PassFault}
 use Rattle.wq_replay.specs.Numbers.{answers_for}
 use Rattle.wq_replay.specs.Replay.{DoesAll, DoesLine, IsHeard, StopsAll, StopsWriting, crawled, ends_of, moments, needed, rounds, sent_lines, shuts}
 use Rattle.wq_replay.specs.Sending.{Sends}
@@ -48,14 +47,6 @@ pub end_well : (draft : DraftData) → listing_fault draft.rows draft.second ≡
     → turn_at_end draft ≡ lists draft.crawls (listing_of draft.rows draft.second)
 end_well draft none = ap (λ fault. if is_none fault then lists draft.crawls (listing_of draft.rows draft.second) else malformed) none
 
-pub end_badly : (draft : DraftData) (fault : PassFault) → listing_fault draft.rows draft.second ≡ Some fault
-    → turn_at_end draft ≡ malformed
-end_badly draft fault some = ap (λ fault. if is_none fault then lists draft.crawls (listing_of draft.rows draft.second) else malformed) some
-
--- the end of a listing without a fault is not malformed
-pub ends_right : (draft : DraftData) → listing_fault draft.rows draft.second ≡ None → turn_at_end draft ≢ malformed
-ends_right draft none bad = let h : lists draft.crawls (listing_of draft.rows draft.second) ≡ malformed = sym (end_well draft none) ∙ bad in cc
-
 -- the root lists this from now on
 pub listed_now : (at : StageData) (draft : DraftData) (tree : PassData) (world : WorldData) (code : Stage) (known : Option (List ℕ))
     → listing_fault draft.rows draft.second ≡ None → tree ≡ listing_of draft.rows draft.second
@@ -87,13 +78,6 @@ crawl_runs before after root tree happenings sent is named runs =
 pub crawled_runs : (before after : WorldData) (tree : PassData) (crawls said : Bool) → crawls ≡ said
     → Runs before (crawled said tree) [] after → Runs before (crawled crawls tree) [] after
 crawled_runs before after tree crawls said is runs = subst (λ b. Runs before (crawled b tree) [] after) (sym is) runs
-
--- memory ran out before a client was heard
-pub unready : (at : StageData) (client : ℤ) (event : Event) (known : Option (List ℕ)) (result : Result Bool StepFault) (code : Stage)
-    → IsErr result × IsErrAnd result (λ fault. fault ≡ NoMemory) → TakesTurn at (hears client event) known known result code
-unready at client event known (Ok goes_on) code hands = absurd hands.1
-unready at client event known (Err fault) code hands =
-    subst (λ f. TakesTurn at (hears client event) known known (Err f) code) (sym hands.1) ((λ h. cc), appends_none known)
 
 -- a client was heard, if its ask and the crawl or watching that it needs first were played
 pub heard_of : (at : StageData) (client : ℤ) (event : Event) (ask : Ask) (tree : PassData) (happenings : List HappeningData)
@@ -130,30 +114,12 @@ heard at client event sent world before after (Err Malformed) code heard_so is s
 heard at client event sent world before after (Err Write) code heard_so is sends = (sent, world, heard_so, sends)
 heard at client event sent world before after (Err NoMemory) code heard_so is sends = absurd sends
 
--- memory ran out before anything happened
-pub unhappened : (at : StageData) (happenings : List HappeningData) (known : Option (List ℕ)) (result : Result Bool StepFault) (code : Stage)
-    → IsErr result × IsErrAnd result (λ fault. fault ≡ NoMemory) → TakesAll at happenings known known result code
-unhappened at happenings known (Ok goes_on) code hands = absurd hands.1
-unhappened at happenings known (Err fault) code hands =
-    subst (λ f. TakesAll at happenings known known (Err f) code) (sym hands.1) (appends_none known)
-
 -- all happened
 pub happened : (at : StageData) (happenings : List HappeningData) (sent : List SentData) (world : WorldData)
     (before after : Option (List ℕ)) (went : Bool) (code : Stage) → Runs at.world happenings sent world
     → IsAt code (record at { world = world }) → Sends sent before after (Ok went) → TakesAll at happenings before after (Ok true) code
 happened at happenings sent world before after went code runs stands (said, appends) =
     (sent_lines sent, record at { world = world }, appends, (sent, world, runs, refl, refl), stands)
-
--- all happened, and the writer failed
-pub happened_front : (at : StageData) (happenings : List HappeningData) (sent : List SentData) (world : WorldData)
-    (before after : Option (List ℕ)) (fault : StepFault) (result : Result Bool StepFault) (code : Stage)
-    → Runs at.world happenings sent world → Sends sent before after (Err fault)
-    → IsErr result × IsErrAnd result (λ handed. handed ≡ fault) → TakesAll at happenings before after result code
-happened_front at happenings sent world before after fault (Ok goes_on) code runs sends hands = absurd hands.1
-happened_front at happenings sent world before after Write (Err handed) code runs sends hands =
-    subst (λ f. TakesAll at happenings before after (Err f) code) (sym hands.1) (sent, world, runs, sends)
-happened_front at happenings sent world before after Malformed (Err handed) code runs sends hands = absurd sends
-happened_front at happenings sent world before after NoMemory (Err handed) code runs sends hands = absurd sends
 
 -- a line that plays all these happenings
 takes_all : (at : StageData) (turn : Turn) (happenings : List HappeningData) (before after : Option (List ℕ)) (result : Result Bool StepFault) (code : Stage)
@@ -191,22 +157,3 @@ pub finished_run : (at : StageData) (name : List ℕ) (happenings : List Happeni
 finished_run at name happenings before after result code is takes =
     takes_all at (finishes name) (ends_of name at.world) before after result code (λ written next all. all) (λ stops. stops) (λ h. cc)
     (subst (λ all. TakesAll at all before after result code) is takes)
-
--- memory ran out before such a line
-pub unready_line : (at : StageData) (turn : Turn) (known : Option (List ℕ)) (result : Result Bool StepFault) (code : Stage) → turn ≢ malformed
-    → IsErr result × IsErrAnd result (λ fault. fault ≡ NoMemory) → TakesTurn at turn known known result code
-unready_line at turn known (Ok goes_on) code well hands = absurd hands.1
-unready_line at turn known (Err fault) code well hands =
-    subst (λ f. TakesTurn at turn known known (Err f) code) (sym hands.1) (well, appends_none known)
-
-pub unrested : (at : StageData) (client : ℤ) (known : Option (List ℕ)) (result : Result Bool StepFault) (code : Stage)
-    → IsErr result × IsErrAnd result (λ fault. fault ≡ NoMemory) → TakesTurn at (rests client) known known result code
-unrested at client known result code hands = unready_line at (rests client) known result code (λ h. cc) hands
-
-pub unfired : (at : StageData) (succeeds : Bool) (known : Option (List ℕ)) (result : Result Bool StepFault) (code : Stage)
-    → IsErr result × IsErrAnd result (λ fault. fault ≡ NoMemory) → TakesTurn at (fires succeeds) known known result code
-unfired at succeeds known result code hands = unready_line at (fires succeeds) known result code (λ h. cc) hands
-
-pub unfinished : (at : StageData) (name : List ℕ) (known : Option (List ℕ)) (result : Result Bool StepFault) (code : Stage)
-    → IsErr result × IsErrAnd result (λ fault. fault ≡ NoMemory) → TakesTurn at (finishes name) known known result code
-unfinished at name known result code hands = unready_line at (finishes name) known result code (λ h. cc) hands

@@ -4,6 +4,7 @@ use mathlib.Core.Bool.{false≢true}
 use Rattle.std.specs.List.{list_any}
 use Rattle.std.specs.Str.{bytes_eq}
 use Rattle.std.proofs.lemmas.Bool.{eq-eqb, eqb-true}
+use Rattle.std.proofs.lemmas.Option.{same_Some}
 use Rattle.wq_clock.specs.Instance.{InstanceData}
 use Rattle.wq_follow.specs.Launcher.{LauncherData, StartsRun, goes_on, next_answer, with_run}
 use Rattle.wq_follow.specs.Round.{AgreesWith, FiredData, Fires, IsFree, TriggerData, runs, quiet, started, failed, short}
@@ -18,9 +19,6 @@ use Rattle.wq_session.specs.Trigger.{run_in}
 use Rattle.wq_view.specs.View.{ViewData}
 use Rattle.wq_replay.specs.Overlap.{fired_for}
 use Rattle.wq_replay.proofs.KeptRuns.{run_at}
-
-some_same : {X : Type 0} {x y : X} → Some x ≡ Some y → x ≡ y
-some_same h = cc h
 
 -- the triggers of a root after others were put to it, if the root is there
 put_triggers : (root : ℕ) (ts : ByName TriggerData) (rs : List (RootData TriggerData))
@@ -75,21 +73,21 @@ more_runs run (Some number) running goes = by (nat_eq run number)
 new_runs : (run : ℕ) (answer : Option ℕ) (running : List ℕ) → Some run ≡ answer → list_any (λ r. nat_eq run r) (with_run answer running) ≡ true
 new_runs run None running is = absurd cc
 new_runs run (Some number) running is =
-    ap (λ b. b || list_any (λ r. nat_eq run r) running) (eq-eqb run number (some_same is))
+    ap (λ b. b || list_any (λ r. nat_eq run r) running) (eq-eqb run number (same_Some _ _ is))
 
 -- a run goes on over a start
 start_goes : (run : ℕ) (l m : LauncherData) (start : StartData) (answer : Option ℕ) → goes_on run l ≡ true → StartsRun (Some l) start answer (Some m)
     → goes_on run m ≡ true
 start_goes run l m start answer goes (inl (is, after)) =
-    subst (λ (m : LauncherData). goes_on run m ≡ true) (sym (some_same after)) (more_runs run (next_answer l.answers) l.running goes)
+    subst (λ (m : LauncherData). goes_on run m ≡ true) (sym (same_Some _ _ after)) (more_runs run (next_answer l.answers) l.running goes)
 start_goes run l m start answer goes (inr none) = absurd cc
 
 -- and over a turn
 turn_goes : (run : ℕ) (fired : FiredData) (running : Option ℕ) (l m : LauncherData) → goes_on run l ≡ true → AgreesWith fired running l (Some m)
     → goes_on run m ≡ true
-turn_goes run (runs r) running l m goes (yet, same) = subst (λ (m : LauncherData). goes_on run m ≡ true) (sym (some_same same)) goes
-turn_goes run quiet running l m goes (free, same) = subst (λ (m : LauncherData). goes_on run m ≡ true) (sym (some_same same)) goes
-turn_goes run short running l m goes (free, same) = subst (λ (m : LauncherData). goes_on run m ≡ true) (sym (some_same same)) goes
+turn_goes run (runs r) running l m goes (yet, same) = subst (λ (m : LauncherData). goes_on run m ≡ true) (sym (same_Some _ _ same)) goes
+turn_goes run quiet running l m goes (free, same) = subst (λ (m : LauncherData). goes_on run m ≡ true) (sym (same_Some _ _ same)) goes
+turn_goes run short running l m goes (free, same) = subst (λ (m : LauncherData). goes_on run m ≡ true) (sym (same_Some _ _ same)) goes
 turn_goes run (started r start) running l m goes (free, starts) = start_goes run l m start (Some r) goes starts
 turn_goes run (failed start) running l m goes (free, starts) = start_goes run l m start None goes starts
 
@@ -121,7 +119,7 @@ turn_starts instance view fired t after run start l m is fires agrees =
   where
     given : StartsRun (Some l) start (Some run) (Some m) → goes_on run m ≡ true
     given (inl (same, after)) =
-        subst (λ (m : LauncherData). goes_on run m ≡ true) (sym (some_same after)) (new_runs run (next_answer l.answers) l.running same)
+        subst (λ (m : LauncherData). goes_on run m ≡ true) (sym (same_Some _ _ after)) (new_runs run (next_answer l.answers) l.running same)
     given (inr none) = absurd cc
 
 module _ (instance : InstanceData) (view : ViewData) where
@@ -136,7 +134,7 @@ module _ (instance : InstanceData) (view : ViewData) where
   -- a run goes on over all turns
   pub turns_go : (run : ℕ) (ts : ByName TriggerData) (turns : List TriggerTurnData) (l left : LauncherData) → goes_on run l ≡ true
       → HaveTurns instance view ts (Some l) turns (Some left) → goes_on run left ≡ true
-  turns_go run [] [] l left goes had = subst (λ (m : LauncherData). goes_on run m ≡ true) (sym (some_same had)) goes
+  turns_go run [] [] l left goes had = subst (λ (m : LauncherData). goes_on run m ≡ true) (sym (same_Some _ _ had)) goes
   turns_go run [] (u ∷ turns) l left goes had = elim had [ ]
   turns_go run (t ∷ ts) [] l left goes had = elim had [ ]
   turns_go run (t ∷ ts) (u ∷ turns) l left goes (name, fires, (None, agrees, later)) = absurd (none_shown ts turns left later)
@@ -166,7 +164,7 @@ module _ (instance : InstanceData) (view : ViewData) where
           → (run_in (under name ts) ≡ Some run → Passes name run turns) → AtTurn name run u turns b
       by true has rest =
           let passes = turn_passes instance view u.fired t.1 u.after run l m has goes fires agrees in
-          (ap (λ t. t.running) passes.0 ∙ has, λ other start is. passes.1 other start (some_same is))
+          (ap (λ t. t.running) passes.0 ∙ has, λ other start is. passes.1 other start (same_Some _ _ is))
       by false has rest = rest has
 
   -- a round starts the command of a trigger
@@ -184,7 +182,7 @@ module _ (instance : InstanceData) (view : ViewData) where
           → (fired_for name turns ≡ Some (started run start) → (run_in (under name (after_turns turns)) ≡ Some run) × (goes_on run left ≡ true))
           → (run_in (if b then Some u.after else under name (after_turns turns)) ≡ Some run) × (goes_on run left ≡ true)
       by true is rest =
-          let starts = turn_starts instance view u.fired t.1 u.after run start l m (some_same is) fires agrees in
+          let starts = turn_starts instance view u.fired t.1 u.after run start l m (same_Some _ _ is) fires agrees in
           (starts.0, turns_go run ts turns m left starts.1 later)
       by false is rest = rest is
 

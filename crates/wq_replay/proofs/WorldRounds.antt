@@ -3,6 +3,7 @@ use Rattle.std.proofs.Common.{◌≡◌, ℕ, Bool, true, false, if◌then◌els
 use Rattle.std.specs.Option.{option_and_then}
 use Rattle.std.specs.Str.{IsUtf8, is_utf8}
 use Rattle.std.proofs.lemmas.Str.{IsUtf8-from_is_utf8, is_utf8-from_IsUtf8}
+use Rattle.std.proofs.lemmas.Option.{same_Some}
 use Rattle.wq_clock.specs.Instance.{InstanceData}
 use Rattle.wq_clock.specs.Run.{instance_of}
 use Rattle.wq_follow.specs.Launcher.{LauncherData, TriedData}
@@ -26,9 +27,6 @@ use Rattle.wq_replay.specs.Runs.{launcher_at}
 use Rattle.wq_replay.specs.StartLine.{tried_text}
 use Rattle.wq_replay.specs.World.{SentData, WorldData, root_text, unrefused}
 use Rattle.wq_replay.specs.declared.launcher.MemoryLauncher.{MemoryLauncher}
-
-some_same : {X : Type 0} {x y : X} → Some x ≡ Some y → x ≡ y
-some_same h = cc h
 
 -- the lines about starts that were tried
 notes_of : (tried : List TriedData) → map sent_note (map tried_text tried) ≡ map (λ t. sent_note (tried_text t)) tried
@@ -60,8 +58,8 @@ pub rounds_found : (found : Option RootView) (number : ℕ) (view : ViewData) (i
     → instance ≡ instance_of before.run number → HasRound instance view answers before sent after → RoundsFound found answers before sent after
 rounds_found None number view instance answers before sent after numbered viewed is had = absurd cc
 rounds_found (Some r) number view instance answers before sent after numbered viewed is had =
-    subst (λ (v : ViewData). HasRound (instance_of before.run r.number) v answers before sent after) (some_same viewed)
-    (subst (λ (i : InstanceData). HasRound i view answers before sent after) (is ∙ ap (instance_of before.run) (some_same numbered)) had)
+    subst (λ (v : ViewData). HasRound (instance_of before.run r.number) v answers before sent after) (same_Some _ _ viewed)
+    (subst (λ (i : InstanceData). HasRound i view answers before sent after) (is ∙ ap (instance_of before.run) (same_Some _ _ numbered)) had)
 
 -- no root is found
 pub rounds_none : (found : Option RootView) (answers : List (Option ℕ)) (before : WorldData) (lines : List (List ℕ)) → None ≡ option_map (λ (r : RootView). r.number) found

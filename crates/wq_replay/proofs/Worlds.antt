@@ -1,10 +1,10 @@
 -- The runs of worlds.
-use Rattle.std.proofs.Common.{◌≡◌, ℕ, ℤ, Bool, true, false, if◌then◌else◌, List, [], ◌∷◌, ◌++◌, length, arith, Option, Some, None, Result, Ok, Err, IfOk, IfSome, OnOk, MatchOption, Vec, map, option_map, refl, sym, ap, subst, ◌∙◌}
+use Rattle.std.proofs.Common.{◌≡◌, ℕ, ℤ, Bool, true, false, if◌then◌else◌, List, [], ◌∷◌, ◌++◌, Option, Some, None, Result, Ok, Err, IfOk, IfSome, OnOk, MatchOption, Vec, map, option_map, refl, sym, ap, subst, ◌∙◌}
 use Rattle.std.proofs.lemmas.List.{append-nil, append_assoc}
 use Rattle.std.specs.Ordering.{int_eq}
 use Rattle.wq_follow.specs.Subscription.{SubscriptionData}
 use Rattle.wq_live.specs.Event.{number_of}
-use Rattle.wq_live.specs.Table.{TableData, IsTableOf}
+use Rattle.wq_live.specs.Table.{IsTableOf}
 use Rattle.wq_session.specs.Need.{need_of}
 use Rattle.wq_session.specs.Out.{OutData}
 use Rattle.wq_session.specs.Moment.{Idles}
@@ -39,9 +39,6 @@ use Rattle.wq_replay.specs.Gets.{Gets, Rests, answered, kept, with_follows}
 use Rattle.wq_replay.specs.Playing.{Happens, Runs}
 use Rattle.wq_crawl.specs.Meets.{RefusedData}
 use Rattle.wq_replay.specs.World.{Crawls, CrawlsAt, HappeningData, SentData, Starts, Watches, WatchesAt, WorldData, at_events, unrefused}
-
-some_same : {X : Type 0} {x y : X} → Some x ≡ Some y → x ≡ y
-some_same h = cc h
 
 -- two runs, one after the other, are one run
 pub runs_go_on : (world between after : WorldData) (first later : List HappeningData)
@@ -159,11 +156,6 @@ pub given_none : {X E : Type 0} (A : Type 0) (B : X → Type 0) (result : Result
 given_none A B result field is none holds =
     subst (λ f. MatchOption f A B) none (subst (λ r. IfOk r (λ next. MatchOption next A B)) is holds)
 
-pub given_some : {X E : Type 0} (A : Type 0) (B : X → Type 0) (result : Result (Option X) E) (field : Option X) (x : X) → result ≡ Ok field
-    → field ≡ Some x → IfOk result (λ next. MatchOption next A B) → B x
-given_some A B result field x is some holds =
-    subst (λ f. MatchOption f A B) some (subst (λ r. IfOk r (λ next. MatchOption next A B)) is holds)
-
 pub some_holds : {X E : Type 0} (B : X → Type 0) (result : Result (Option X) E) (field : Option X) (x : X) → result ≡ Ok field
     → field ≡ Some x → IfOk result (λ next. IfSome next B) → B x
 some_holds B result field x is some holds =
@@ -229,8 +221,3 @@ leads_on first events happenings said code next (Ok sent) (world, runs, stands) 
     let goes = plays world stands in
     (goes.0, runs_go_on first world goes.0 events happenings said (all_sent sent.items) runs goes.1, goes.2)
 leads_on first events happenings said code next (Err error) leads plays = tt
-
--- a list without length is empty
-pub no_items : {A : Type 0} (xs : List A) → length xs ≡ 0 → xs ≡ []
-no_items [] none = refl
-no_items (x ∷ xs) none = absurd (omega (arith, none))

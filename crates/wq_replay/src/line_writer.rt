@@ -139,7 +139,7 @@ fn send_line<W: Write>(
 }
 
 /// Writes the line of a reply, if there is one.
-#[tactic(auto, using(crate::proofs::Sendings::none_written))]
+#[tactic(auto, using(wq_base::proofs::Fronts::appends_none))]
 fn write_line<W: Write>(alloc: Global, writer: &mut W, line: ReplyLine<'_>) -> io::Result<()>
     ensures done { OnOk result
         (Appends (W.contents writer.old) (W.contents writer.new) (line_bytes line.entry)) }

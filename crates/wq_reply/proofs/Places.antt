@@ -3,6 +3,7 @@ use Rattle.std.proofs.Common.{◌≡◌, ◌≤◌, ℕ, zero, suc, length, Bool
 use Rattle.std.proofs.lemmas.List.Sums.{sum_by-cons}
 use Rattle.std.specs.Prelude.{All, ◌&&◌, ◌||◌, filter, slice_get, if◌then◌else◌}
 use Rattle.std.specs.Option.{option_map_or}
+use Rattle.std.proofs.lemmas.List.Elements.{filter_agree}
 use Rattle.wq_record.specs.Limit.{max_name}
 use Rattle.wq_record.specs.RecordData.{RecordData}
 use Rattle.wq_view.specs.Position.{passes_at, positions_of, all_positions}
@@ -69,19 +70,12 @@ filter-both p q (x ∷ xs) = at (p x) (filter-both p q xs)
     at true h = ap (λ ys. if q x then x ∷ ys else ys) h
     at false h = h
 
--- filters by tests that agree are one
-filter-same : (f g : ℕ → Bool) → ((x : ℕ) → f x ≡ g x) → (xs : List ℕ) → filter f xs ≡ filter g xs
-filter-same f g same [] = refl
-filter-same f g same (x ∷ xs) =
-    ap (λ b. if b then x ∷ filter f xs else filter f xs) (same x)
-    ∙ ap (λ ys. if g x then x ∷ ys else ys) (filter-same f g same xs)
-
 -- of the places that pass one test, those that pass another
 passing : (p q whole : RecordData → Bool) (records : List RecordData) → ((r : RecordData) → (p r && q r) ≡ whole r)
     → filter (passes_at q records) (positions_of p records) ≡ positions_of whole records
 passing p q whole records same =
     filter-both (passes_at p records) (passes_at q records) (all_positions records)
-    ∙ filter-same (λ i. passes_at p records i && passes_at q records i) (passes_at whole records)
+    ∙ filter_agree (λ i. passes_at p records i && passes_at q records i) (passes_at whole records)
     (λ i. at (slice_get records i)) (all_positions records)
   where
     at : (o : Option RecordData) → (option_map_or p o false && option_map_or q o false) ≡ option_map_or whole o false
@@ -121,7 +115,7 @@ places_existing plan records fresh =
 pub places_listed : (plan : PlanData) (records : List RecordData) → is_fresh plan.bound ≡ false
     → positions_of (is_match plan) records ≡ positions_of (is_listed plan) records
 places_listed plan records other =
-    filter-same (passes_at (is_match plan) records) (passes_at (is_listed plan) records)
+    filter_agree (passes_at (is_match plan) records) (passes_at (is_listed plan) records)
     (λ i. at (slice_get records i)) (all_positions records)
   where
     and-true : (b : Bool) → b ≡ (b && true)

@@ -4,7 +4,7 @@ use Rattle.std.proofs.Math.ListN.{get_or}
 use Rattle.std.proofs.Math.Nat.{suc-mul}
 use Rattle.std.proofs.Math.Numerals.{suc-eq-add-one}
 use Rattle.std.proofs.Math.Seq.{take-add, take-append_seam}
-use Rattle.std.proofs.lemmas.List.{length-append, map-append, take_all}
+use Rattle.std.proofs.lemmas.List.{length-append, map-append}
 use Rattle.std.proofs.lemmas.List.Elements.{filter_map-append}
 use Rattle.std.proofs.lemmas.Option.{slice_get_cases}
 use Rattle.std.specs.Prelude.{slice_get}
@@ -24,7 +24,7 @@ use Rattle.wq_reply.specs.Listing.{AreWithin, files_of}
 use Rattle.wq_reply.specs.Printing.{IsFormOf, told}
 use Rattle.wq_reply.specs.Plan.{PlanData}
 use Rattle.wq_reply.specs.Reply.{file_data, reply_files, reply_of}
-use Rattle.wq_reply.specs.Rows.{data_at, end_text, opened, rows_data, rows_text, start_text}
+use Rattle.wq_reply.specs.Rows.{data_at, end_text, opened, rows_text, start_text}
 use Rattle.wq_reply.specs.declared.form.Form.{Form}
 use Rattle.wq_reply.specs.declared.rows.Rows.{Rows}
 
@@ -53,11 +53,6 @@ next_rows rows number =
     sym (rows-append (data_at rows (take (number * size) places)) (data_at rows (piece_of size places number)))
     ∙ ap rows_text (sym (data-append rows (take (number * size) places) (piece_of size places number)))
     ∙ ap (λ l. rows_text (data_at rows l)) (sym (take-add (number * size) size places) ∙ ap (λ n. take n places) (sym more))
-
--- the rows of all pieces are all rows
-pub all_rows : (rows : Rows) (count : ℕ) → length rows.places.now ≤ count * rows.size
-    → rows_text (data_at rows (take (count * rows.size) rows.places.now)) ≡ rows_text (rows_data rows)
-all_rows rows count fits = ap (λ l. rows_text (data_at rows l)) (take_all (count * rows.size) rows.places.now fits)
 
 -- the items of a list after the first one are rows, and a bracket
 pub items-rows : (ds : List Data) → items_text true (items_of ds) ≡ rows_text ds ++ 93 ∷ []

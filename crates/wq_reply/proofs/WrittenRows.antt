@@ -1,9 +1,9 @@
 -- Bytes that are written in parts, of which a writer may take a front.
-use Rattle.std.proofs.Common.{◌≡◌, ◌+◌, ◌*◌, ◌++◌, ℕ, List, [], ◌∷◌, Option, Result, Ok, Err, OnErr, take, drop, length, refl, sym, ap, subst, ◌∙◌, arith, length-append}
+use Rattle.std.proofs.Common.{◌≡◌, ◌+◌, ◌*◌, ◌++◌, ℕ, List, ◌∷◌, Option, Result, Ok, Err, OnErr, take, drop, length, sym, ap, subst, ◌∙◌, arith, length-append}
 use Rattle.std.proofs.lemmas.List.{append_assoc, take-append-drop}
 use Rattle.std.specs.Io.KnownBytes.{Appends}
 use Rattle.wq_base.specs.Writing.{WritesFront}
-use Rattle.wq_base.proofs.Fronts.{appends_none, appends_then, front_before, front_behind}
+use Rattle.wq_base.proofs.Fronts.{appends_then, front_before, front_behind}
 use Rattle.wq_eval.specs.Piece.{piece_of}
 use Rattle.wq_reply.specs.Long.{WritesSome}
 use Rattle.wq_reply.specs.Rows.{data_at, rows_data, rows_text}
@@ -15,10 +15,6 @@ pub some_of : {E : Type 0} (result : Result (Unit {0}) E) (a b : Option (List �
     → OnErr result (WritesSome a b bytes)
 some_of (Ok done) a b bytes written = tt
 some_of (Err fault) a b bytes (front, back, is, short, appends) = (front, back, is, appends)
-
--- nothing was written
-pub some_none : (known : Option (List ℕ)) (bytes : List ℕ) → WritesSome known known bytes
-some_none known bytes = ([], bytes, refl, appends_none known)
 
 -- a front of some bytes after others, and then more is left
 pub some_behind : (a b c : Option (List ℕ)) (xs ys zs : List ℕ) → Appends a b xs → WritesSome b c ys → WritesSome a c ((xs ++ ys) ++ zs)

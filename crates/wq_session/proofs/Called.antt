@@ -1,27 +1,16 @@
 -- Lists in which an element is found by a test, or by its place.
-use Rattle.std.proofs.Common.{◌≡◌, ℕ, zero, suc, ◌+◌, Bool, true, false, not, ◌||◌, cond, List, [], ◌∷◌, ◌++◌, length, map, filter, None, Some, is_some, if◌then◌else◌, refl, ap, arith, nat_lt, slice_get, slice_set, position, ◌∙◌, sym, subst}
+use Rattle.std.proofs.Common.{◌≡◌, ℕ, zero, suc, ◌+◌, Bool, true, false, not, ◌||◌, cond, List, [], ◌∷◌, ◌++◌, length, map, filter, None, Some, is_some, if◌then◌else◌, refl, ap, arith, nat_lt, slice_set, position, ◌∙◌, sym, subst, one-add}
 use mathlib.Core.Bool.{false≢true}
 use Rattle.std.specs.List.{list_any, position_or_len, remove}
 use Rattle.std.proofs.lemmas.Bool.Decides.{nat_tests}
-
--- one more
-one_more : (n : ℕ) → 1 + n ≡ suc n
-one_more n = omega arith
-
--- a place that a test gives is that place
-place_is : (b : Bool) (n i : ℕ) → cond b (Some n) None ≡ Some i → n ≡ i
-place_is true n i h = cc
-place_is false n i h = cc
+use Rattle.std.proofs.lemmas.List.{length-map}
+use Rattle.wq_base.proofs.Facts.{not_chosen}
+use Rattle.wq_registry.proofs.Places.{place_is}
 
 -- and the test holds
 place_there : (b : Bool) (n i : ℕ) → cond b (Some n) None ≡ Some i → b ≡ true
 place_there true n i h = refl
 place_there false n i h = cc
-
--- no place is given if the test fails
-test_fails : (b : Bool) (n : ℕ) → cond b (Some n) None ≡ None → b ≡ false
-test_fails true n h = cc
-test_fails false n h = refl
 
 down : (n m : ℕ) → nat_lt (1 + n) (suc m) ≡ true → nat_lt n m ≡ true
 down n m h = grind (arith, nat_tests)
@@ -56,7 +45,7 @@ module _ {A : Type 0} where
           → slice_set (x ∷ xs) (cond (not b) (1 + position_or_len test xs) 0) y ≡ (if b then y ∷ xs else x ∷ replaced y test xs)
       by true there rest = refl
       by false there rest =
-          ap (λ i. slice_set (x ∷ xs) i y) (one_more (position_or_len test xs))
+          ap (λ i. slice_set (x ∷ xs) i y) (one-add (position_or_len test xs))
           ∙ ap (λ xs. x ∷ xs) (rest (down (position_or_len test xs) (length xs) there))
 
   -- if none passes, it is at the end
@@ -100,13 +89,7 @@ module _ {A : Type 0} where
       ∙ set_first y test xs (place_there found (position_or_len test xs) place is)
 
   pub put_unplaced : (y : A) (test : A → Bool) (xs : List A) → position test xs ≡ None → xs ++ y ∷ [] ≡ replaced y test xs
-  put_unplaced y test xs is = put_last y test xs (test_fails (nat_lt (position_or_len test xs) (length xs)) (position_or_len test xs) is)
-
-  -- the element after a front is at its length
-  pub got_between : (front : List A) (s : A) (later : List A) (place : ℕ) → length front ≡ place → slice_get (front ++ s ∷ later) place ≡ Some s
-  got_between [] s later place is = subst (λ i. slice_get (s ∷ later) i ≡ Some s) is refl
-  got_between (x ∷ front) s later place is =
-      subst (λ i. slice_get (x ∷ front ++ s ∷ later) i ≡ Some s) is (got_between front s later (length front) refl)
+  put_unplaced y test xs is = put_last y test xs (not_chosen (nat_lt (position_or_len test xs) (length xs)) (position_or_len test xs) is)
 
   pub set_between : (front : List A) (s : A) (later : List A) (place : ℕ) (w : A) → length front ≡ place
       → slice_set (front ++ s ∷ later) place w ≡ front ++ w ∷ later
@@ -128,14 +111,10 @@ module _ {A B : Type 0} (f : A → B) where
   position_of_made test [] = refl
   position_of_made test (x ∷ xs) = ap (λ i. cond (not (test (f x))) (1 + i) 0) (position_of_made test xs)
 
-  length_made : (xs : List A) → length (map f xs) ≡ length xs
-  length_made [] = refl
-  length_made (x ∷ xs) = ap suc (length_made xs)
-
   pub position_made : (test : B → Bool) (xs : List A) → position (λ x. test (f x)) xs ≡ position test (map f xs)
   position_made test xs =
       ap (λ i. cond (nat_lt i (length xs)) (Some i) None) (position_of_made test xs)
-      ∙ ap (λ n. cond (nat_lt (position_or_len test (map f xs)) n) (Some (position_or_len test (map f xs))) None) (sym (length_made xs))
+      ∙ ap (λ n. cond (nat_lt (position_or_len test (map f xs)) n) (Some (position_or_len test (map f xs))) None) (sym (length-map xs f))
 
   pub filter_made : (test : B → Bool) (xs : List A) → map f (filter (λ x. test (f x)) xs) ≡ filter test (map f xs)
   filter_made test [] = refl
@@ -150,8 +129,3 @@ module _ {A B : Type 0} (f : A → B) where
   set_made [] i w = refl
   set_made (x ∷ xs) zero w = refl
   set_made (x ∷ xs) (suc i) w = ap (λ xs. f x ∷ xs) (set_made xs i w)
-
-  pub get_made : (xs : List A) (i : ℕ) (x : A) → slice_get xs i ≡ Some x → slice_get (map f xs) i ≡ Some (f x)
-  get_made [] i x is = absurd cc
-  get_made (y ∷ xs) zero x is = cc
-  get_made (y ∷ xs) (suc i) x is = get_made xs i x is

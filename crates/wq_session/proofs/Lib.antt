@@ -13,7 +13,7 @@ pub mod Finishing
 pub mod Held
 pub mod Readying
 mod Programs
-mod Before
+pub mod Before
 mod Follows
 mod Called
 mod Placed
@@ -25,4 +25,4 @@ mod NoFloat
 pub mod Reaching
 mod Staying
 mod Going
-mod Lines
+pub mod Lines

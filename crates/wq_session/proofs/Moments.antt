@@ -30,11 +30,6 @@ module _ {A B : Type 0} (f : A → B) where
   remove_made (x ∷ xs) zero = refl
   remove_made (x ∷ xs) (suc i) = ap (λ ys. f x ∷ ys) (remove_made xs i)
 
-  -- there are as many results
-  pub length_made : (xs : List A) → length (map f xs) ≡ length xs
-  length_made [] = refl
-  length_made (x ∷ xs) = ap suc (length_made xs)
-
 module _ (items : List Subscription) (front : List SubscriptionData) (s : SubscriptionData) (later : List SubscriptionData) (place : ℕ)
     (is : map subscription_data items ≡ front ++ s ∷ later) (there : length front ≡ place) where
   -- the subscription at the place is the one between
@@ -126,10 +121,6 @@ module _ (root : ℕ) (at : Option AtData) where
     pub left : now ≡ left_of root (shown_in at) polled ++ later
     pub placed : length (left_of root (shown_in at) polled) ≡ place
     pub told : lists ≡ told_lists_of root (shown_in at) polled
-
-  -- none at first
-  pub none_told : (follows : List SubscriptionData) → Told follows 0 follows 0 []
-  none_told follows = record { polled = []; later = follows; parts = refl; counted = refl; left = refl; placed = refl; told = refl }
 
   module _ (follows now : List SubscriptionData) (count place : ℕ) (lists : List (List ℕ)) (so : Told follows count now place lists) where
     -- if more are left, there is a next one

@@ -1,10 +1,10 @@
 -- No reply to a query has a float, so it has one text.
-use Rattle.std.proofs.Common.{◌≡◌, ℕ, Bool, false, ◌||◌, List, [], ◌∷◌, map, ℤ, pos, negsuc, refl}
+use Rattle.std.proofs.Common.{◌≡◌, ℕ, false, List, [], ◌∷◌, map, ℤ, pos, negsuc, refl}
 use Rattle.std.specs.Ordering.{nat_cmp, match_ordering}
 use Rattle.std.specs.Cmp.Lexicographic.{slice_cmp}
 use Rattle.std.specs.declared.cmp.Ordering.{Ordering}
 use Rattle.std.specs.declared.cmp.Ordering.TheVariants.{Less, Equal, Greater}
-use Rattle.std.proofs.lemmas.Bool.{or_parts}
+use Rattle.std.proofs.lemmas.Bool.{or_parts, or_from}
 use Rattle.serde_json.specs.Data.{Data, Members, no_members, member, number, put as with_member}
 use Rattle.serde_json.specs.Find.{of_integer}
 use Rattle.serde_json.specs.View.{items_of}
@@ -38,21 +38,18 @@ field instance bound r Oclock = refl
 field instance bound r Mtime = integer (seconds_of r.mtime_ms)
 field instance bound r MtimeMs = integer r.mtime_ms
 
-both : (a b : Bool) → a ≡ false → b ≡ false → (a || b) ≡ false
-both a b ha hb = rw (ha, hb) refl
-
 put : (k : List ℕ) (d : Data) (ms : Members) → has_float d ≡ false → members_have_float ms ≡ false
     → members_have_float (with_member k d ms) ≡ false
-put k d no_members h hs = both (has_float d) false h refl
+put k d no_members h hs = or_from (has_float d) false h refl
 put k d (member l e ms) h hs =
     ordered (slice_cmp nat_cmp k l) (or_parts (has_float e) _ hs).0 (put k d ms h (or_parts (has_float e) _ hs).1)
   where
     ordered : (order : Ordering) → has_float e ≡ false
         → members_have_float (with_member k d ms) ≡ false
         → members_have_float (match_ordering order (member k d (member l e ms)) (member l d ms) (member l e (with_member k d ms))) ≡ false
-    ordered Less he later = both (has_float d) _ h hs
-    ordered Equal he later = both (has_float d) _ h (or_parts (has_float e) _ hs).1
-    ordered Greater he later = both (has_float e) _ he later
+    ordered Less he later = or_from (has_float d) _ h hs
+    ordered Equal he later = or_from (has_float d) _ h (or_parts (has_float e) _ hs).1
+    ordered Greater he later = or_from (has_float e) _ he later
 
 members : (instance : InstanceData) (bound : Bound) (r : RecordData) (ms : Members) (fields : List Field)
     → members_have_float ms ≡ false
@@ -71,11 +68,11 @@ files : (fields : List Field) (instance : InstanceData) (bound : Bound) (rs : Li
     → items_have_float (items_of (map (file_data fields instance bound) rs)) ≡ false
 files fields instance bound [] = refl
 files fields instance bound (r ∷ rs) =
-    both (has_float (file_data fields instance bound r)) _ (file fields instance bound r) (files fields instance bound rs)
+    or_from (has_float (file_data fields instance bound r)) _ (file fields instance bound r) (files fields instance bound rs)
 
 -- no reply has one
 pub no_reply_has_one : (plan : PlanData) (instance : InstanceData) (view : ViewData)
     → has_float (reply_of plan instance view) ≡ false
 no_reply_has_one plan instance view =
-    both (items_have_float (items_of (reply_files plan instance view.records))) false
+    or_from (items_have_float (items_of (reply_files plan instance view.records))) false
     (files (plan.query).fields instance plan.bound (files_of plan view.records)) refl

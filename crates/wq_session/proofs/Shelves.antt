@@ -1,8 +1,7 @@
 -- The calls of a shelf, with the meaning of its triggers.
-use Rattle.std.proofs.Common.{◌≡◌, ℕ, suc, Result, Ok, Err, IfOk, OnErr, OnOk, option_copied, Bool, true, false, not, nat_eq, if◌then◌else◌, List, [], ◌∷◌, ◌++◌, length, map, Option, Some, None, option_map, is_some, refl, sym, ap, ◌∙◌, ◌||◌}
+use Rattle.std.proofs.Common.{◌≡◌, ℕ, suc, Result, Ok, Err, IfOk, Bool, true, false, not, nat_eq, if◌then◌else◌, List, [], ◌∷◌, ◌++◌, length, map, Option, Some, None, option_map, is_some, refl, sym, ap, ◌∙◌, ◌||◌}
 use Rattle.std.specs.List.{list_any}
 use Rattle.std.specs.Option.{option_map_or}
-use Rattle.std.specs.Borrow.{Bor}
 use Rattle.std.specs.Str.{bytes_eq}
 use Rattle.wq_follow.specs.Followed.{trigger_data}
 use Rattle.wq_follow.specs.declared.trigger.Trigger.{Trigger}
@@ -211,10 +210,6 @@ unset_now number name s =
     ap (λ roots. record { programs = s.programs; roots = roots; sockname = s.sockname })
     (changed_with trigger_data number (without_cursor name) (without_cursor name) (λ r. refl) s.roots)
 
--- the root of a number, if it is there
-pub numbered_now : (number : ℕ) (s : ShelfData Trigger) → numbered number (shelf_data s).roots ≡ option_map (root_with trigger_data) (numbered number s.roots)
-numbered_now number s = numbered_with trigger_data number s.roots
-
 -- the triggers of a root
 pub triggers_now : (number : ℕ) (s : ShelfData Trigger) → triggers_of number (shelf_data s) ≡ each trigger_data (triggers_of number s)
 triggers_now number s = ap triggers_in (numbered_with trigger_data number s.roots) ∙ triggers_with trigger_data (numbered number s.roots)
@@ -256,22 +251,6 @@ pub called_now_at : (number : ℕ) (name : List ℕ) (s : ShelfData Trigger) (o 
     → trigger_called number name (shelf_data s) ≡ option_map trigger_data (under name (triggers_in o))
 called_now_at number name s o is =
     trigger_now number name s ∙ ap (λ (o : Option (RootData Trigger)). option_map trigger_data (under name (triggers_in o))) is
-
--- an element that is seen
-pub copied : {X Y : Type 0} (f : X → Y) (o : Option (Bor X)) → option_map (λ x. f x.now) o ≡ option_map f (option_copied o)
-copied f None = refl
-copied f (Some x) = refl
-
-module _ {A E : Type 0} {P Q : Type 0} where
-  -- of a call that went well
-  pub if_ok : (result : Result A E) → (P → Q) → OnOk result P → OnOk result Q
-  if_ok (Ok a) next so = next so
-  if_ok (Err e) next so = tt
-
-  -- of one that did not
-  pub if_err : (result : Result A E) → (P → Q) → OnErr result P → OnErr result Q
-  if_err (Ok a) next so = tt
-  if_err (Err e) next so = next so
 
 module _ {A E : Type 0} {P Q : A → Type 0} where
   -- of the answer of a call that went well

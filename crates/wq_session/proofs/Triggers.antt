@@ -1,7 +1,6 @@
 -- Replies that tell triggers.
 use Rattle.std.proofs.Common.{◌≡◌, ◌+◌, ◌||◌, ℕ, zero, suc, Bool, true, false, List, [], ◌∷◌, ◌++◌, map, take, not, is_some, Option, Some, None, Ok, refl, ap, sym, subst, ◌∙◌, arith, slice_get}
 use Rattle.std.proofs.lemmas.List.{map-append}
-use Rattle.std.proofs.lemmas.Option.{same_Some}
 use Rattle.std.specs.declared.alloc.Global.{Global}
 use Rattle.std.specs.declared.sync.Arc.{Arc}
 use Rattle.serde_json.specs.Data.{Data}
@@ -18,6 +17,7 @@ use Rattle.wq_session.specs.Objects.{AreObjects}
 use Rattle.wq_session.proofs.Shelves.{triggers_now}
 use Rattle.wq_session.specs.Shelved.{each, shelf_data}
 use Rattle.wq_base.specs.Fault.{unless_fault}
+use Rattle.wq_base.proofs.Facts.{take_next}
 use Rattle.wq_code.specs.declared.raw.Raw.{Raw}
 use Rattle.wq_follow.specs.Definition.{DefinitionData}
 use Rattle.wq_follow.specs.Round.{TriggerData}
@@ -34,19 +34,7 @@ pub plain_triggers : (d : Data) (objects : List Data) → d ≡ triggers_reply o
 plain_triggers d objects is plain = ap has_float is ∙ rw plain refl
 
 module _ {A : Type 0} where
-  -- one more at the end
-  pub take_more : (xs : List A) (k : ℕ) (x : A) → slice_get xs k ≡ Some x → take (k + 1) xs ≡ take k xs ++ x ∷ []
-  take_more xs k x is = subst (λ n. take n xs ≡ take k xs ++ x ∷ []) (one_more k) (by xs k is)
-    where
-      one_more : (k : ℕ) → suc k ≡ k + 1
-      one_more k = omega arith
-
-      by : (xs : List A) (k : ℕ) → slice_get xs k ≡ Some x → take (suc k) xs ≡ take k xs ++ x ∷ []
-      by [] k is = absurd cc
-      by (y ∷ xs) zero is = ap (λ y. y ∷ []) (same_Some y x is)
-      by (y ∷ xs) (suc k) is = ap (λ ys. y ∷ ys) (by xs k is)
-
-  -- or none
+  -- none more at the end
   pub take_past : (xs : List A) (k : ℕ) → slice_get xs k ≡ None → take (k + 1) xs ≡ take k xs
   take_past xs k is = subst (λ n. take n xs ≡ take k xs) (one_more k) (by xs k is)
     where
@@ -74,7 +62,7 @@ one_object ts k t objects object so there is =
     ∙ ap (λ ds. ds ++ data_in object.value ∷ []) so
     ∙ ap (λ d. objects_of (each trigger_data (take k ts)) ++ d ∷ []) is
     ∙ sym (objects_more (take k ts) t)
-    ∙ ap (λ ts. objects_of (each trigger_data ts)) (sym (take_more ts k t there))
+    ∙ ap (λ ts. objects_of (each trigger_data ts)) (sym (take_next ts k t there))
 
 -- no object more
 pub no_object : (ts : ByName Trigger) (k : ℕ) (objects : List (Arc (List ℕ) Global)) → objects_in objects ≡ objects_of (each trigger_data (take k ts))
@@ -102,7 +90,7 @@ one_value objects k object values value are there is plain = record {
       ∙ ap (λ ds. ds ++ data_of value ∷ []) are.same
       ∙ ap (λ d. objects_in (take k objects) ++ d ∷ []) is
       ∙ sym (map-append (λ object. data_in object.value) (take k objects) (object ∷ []))
-      ∙ ap objects_in (sym (take_more objects k object there));
+      ∙ ap objects_in (sym (take_next objects k object there));
   plain = subst (λ ds. items_have_float (items_of ds) ≡ false) (sym (map-append data_of values (value ∷ [])))
       (plain_more (map data_of values) (data_of value) are.plain plain);
 }

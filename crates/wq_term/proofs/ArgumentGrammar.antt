@@ -1,7 +1,7 @@
 -- A value is read as an argument exactly if the grammar writes it so.
 use Rattle.std.proofs.Common.{◌≡◌, ◌≢◌, ℕ, ℤ, pos, ◌≤◌, ◌<◌, ◌^◌, ◌≤ℤ◌, T, Bool, true, false, cond}
 use Rattle.std.proofs.Common.{◌&&◌, List, [], ◌∷◌, length}
-use Rattle.std.proofs.Common.{Option, Some, None, option_map, option_and_then, Ok, Result, refl}
+use Rattle.std.proofs.Common.{Option, Some, None, option_map, option_and_then, Ok, refl}
 use Rattle.std.proofs.Common.{sym, ap, subst, ◌∙◌, arith}
 use Rattle.std.specs.Prelude.{codes, nat_le, int_le, neg_ℤ, bytes_eq}
 use lib.Signed.{le_z_yes}
@@ -28,6 +28,7 @@ use Rattle.wq_record.specs.declared.kind.Kind.TheVariants.{File, Dir, Link, Bloc
 use Rattle.wq_record.specs.declared.kind.Kind.TheVariants.{Door, Unknown}
 use Rattle.wq_base.specs.declared.compare.Relation.{Relation}
 use Rattle.wq_base.specs.declared.compare.Relation.TheVariants.{Eq, Ne, Gt, Ge, Lt, Le}
+use Rattle.wq_base.proofs.Facts.{same_Ok}
 use Rattle.wq_term.specs.declared.expr.Scope.{Scope}
 use Rattle.wq_term.specs.declared.expr.Scope.TheVariants.{Basename, Wholename}
 use Rattle.wq_term.specs.declared.expr.Depth.{Depth}
@@ -44,10 +45,6 @@ use Rattle.wq_term.specs.Argument.{whole_number_of, epoch_second, kind_of_letter
 use Rattle.wq_term.specs.Argument.{relation_of, comparison_of, depth_argument, bound_in}
 use Rattle.wq_term.specs.ArgumentGrammar.{IsText, AreListed, AreTexts, IsBetween, IsKind}
 use Rattle.wq_term.specs.ArgumentGrammar.{IsComparison, IsDepth, IsBound}
-
--- a right result is one value
-pub same_Ok : {A E : Type 0} (x y : A) → ◌≡◌ {A = Result A E} (Ok x) (Ok y) → x ≡ y
-same_Ok x y e = cc
 
 -- a test that is taken
 pub holds_true : (b : Bool) → T b → b ≡ true

@@ -12,6 +12,7 @@ use Rattle.wq_clock.specs.Law.{TextsSayWhatTheySpell}
 use Rattle.wq_glob.specs.Pattern.{PatternData}
 use Rattle.wq_base.specs.declared.compare.Case.{Case}
 use Rattle.wq_base.specs.declared.compare.Case.TheVariants.{Exact, Folded}
+use Rattle.wq_base.proofs.Facts.{same_Ok}
 use Rattle.wq_term.specs.declared.fault.TermFault.TheVariants.{UnknownTerm, WrongArguments}
 use Rattle.wq_term.specs.declared.head.Head.{Head}
 use Rattle.wq_term.specs.declared.head.Head.TheVariants.{True, False, Exists, Empty, KindIs, Name}
@@ -31,7 +32,7 @@ use Rattle.wq_term.specs.Grammar.{AreWrittenBy}
 use Rattle.wq_term.specs.Law.{ValuesSayWhatTheyWrite, ReadExpressionsAreShallow}
 use Rattle.wq_term.specs.Law.{BoundsSayWhatTheyWrite, NumbersSayWhatTheyWrite}
 use Rattle.wq_term.specs.Limit.{max_depth}
-use Rattle.wq_term.proofs.ArgumentGrammar.{same_Ok, bound-found, bound-reads, between-found}
+use Rattle.wq_term.proofs.ArgumentGrammar.{bound-found, bound-reads, between-found}
 use Rattle.wq_term.proofs.ArgumentGrammar.{between-reads}
 use Rattle.wq_term.proofs.TermGrammar.{plain-found, plain_term-reads, type-found, type-reads}
 use Rattle.wq_term.proofs.TermGrammar.{suffix-found, suffix-reads, size-found, size-reads, IsNames}

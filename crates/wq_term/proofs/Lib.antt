@@ -1,5 +1,5 @@
 pub mod Lists
-mod Texts
+pub mod Texts
 mod Arguments
 pub mod Slashes
 pub mod ArgumentGrammar

@@ -14,6 +14,7 @@ use Rattle.wq_glob.specs.Limit.{max_pattern_length}
 use Rattle.wq_glob.specs.Pattern.{PatternData}
 use Rattle.wq_glob.specs.declared.flag.Flags.{Flags}
 use Rattle.wq_base.specs.declared.compare.Case.{Case}
+use Rattle.wq_base.proofs.Facts.{same_Ok}
 use Rattle.wq_term.specs.declared.expr.Scope.{Scope}
 use Rattle.wq_term.specs.declared.expr.Scope.TheVariants.{Basename, Wholename}
 use Rattle.wq_term.specs.declared.fault.TermFault.TheVariants.{PatternTooLong}
@@ -23,7 +24,6 @@ use Rattle.wq_term.specs.PatternArgument.{is_flag, are_flags, is_folded, is_whol
 use Rattle.wq_term.specs.PatternArgument.{flags_of}
 use Rattle.wq_term.specs.Reading.{match_with}
 use Rattle.wq_term.specs.ArgumentGrammar.{AreFlagMembers, AreFlags, IsPlain, IsPatternText}
-use Rattle.wq_term.proofs.ArgumentGrammar.{same_Ok}
 
 -- members that pass the test are flags
 members-found : (ms : Members) → are_flags ms ≡ true → AreFlagMembers ms

@@ -1,5 +1,5 @@
 -- A text is its part without the slashes at its end, and then those slashes.
-use Rattle.std.proofs.Common.{◌≡◌, ℕ, zero, suc, ◌+◌, ◌-◌, Bool, true, false, cond, List, [], ◌∷◌}
+use Rattle.std.proofs.Common.{◌≡◌, ℕ, zero, suc, ◌+◌, ◌-◌, Bool, true, false, cond, List, [], ◌∷◌, one-add}
 use Rattle.std.proofs.Common.{◌++◌}
 use Rattle.std.proofs.Common.{length, take, drop, refl, sym, ap, ◌∙◌, arith, subst}
 use Rattle.std.specs.Prelude.{codes, reverse}
@@ -28,9 +28,6 @@ turned zero = refl
 turned (suc n) =
     reverse-append (codes "/") (slashes n) ∙ ap (λ bs. bs ++ (byte "/" ∷ [])) (turned n) ∙ snoc n
 
-one_more : (n : ℕ) → 1 + n ≡ suc n
-one_more n = omega arith
-
 -- the slashes that a text begins with
 prefix : (bs : List ℕ) → take (prefix_len is_slash bs) bs ≡ slashes (prefix_len is_slash bs)
 prefix [] = refl
@@ -41,7 +38,7 @@ prefix (b ∷ bs) = at (is_slash b) (eqb-true b (byte "/")) (prefix bs)
         → take (cond s (1 + prefix_len is_slash bs) 0) (b ∷ bs)
         ≡ slashes (cond s (1 + prefix_len is_slash bs) 0)
     at true is rest =
-        rw (one_more (prefix_len is_slash bs)) (ap (λ x. x ∷ take (prefix_len is_slash bs) bs) (is refl) ∙ ap (λ cs. byte "/" ∷ cs) rest)
+        rw (one-add (prefix_len is_slash bs)) (ap (λ x. x ∷ take (prefix_len is_slash bs) bs) (is refl) ∙ ap (λ cs. byte "/" ∷ cs) rest)
     at false is rest = refl
 
 -- after them there is no slash
@@ -51,7 +48,7 @@ behind (b ∷ bs) = at (is_slash b) refl (behind bs)
   where
     at : (s : Bool) → is_slash b ≡ s → prefix_len is_slash (drop (prefix_len is_slash bs) bs) ≡ 0
         → prefix_len is_slash (drop (cond s (1 + prefix_len is_slash bs) 0) (b ∷ bs)) ≡ 0
-    at true is rest = rw (one_more (prefix_len is_slash bs)) rest
+    at true is rest = rw (one-add (prefix_len is_slash bs)) rest
     at false is rest = ap (λ s. cond s (1 + prefix_len is_slash bs) 0) is
 
 -- slashes before a text count

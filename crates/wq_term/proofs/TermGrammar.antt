@@ -12,6 +12,7 @@ use Rattle.wq_base.specs.declared.compare.Case.{Case}
 use Rattle.wq_term.specs.declared.expr.Depth.{Depth}
 use Rattle.wq_term.specs.declared.expr.Depth.TheVariants.{Any}
 use Rattle.wq_base.specs.declared.compare.Relation.{Relation}
+use Rattle.wq_base.proofs.Facts.{same_Ok}
 use Rattle.wq_term.specs.declared.expr.Scope.{Scope}
 use Rattle.wq_term.specs.declared.expr.Scope.TheVariants.{Basename}
 use Rattle.wq_term.specs.declared.expr.Since.{Since as SinceData}
@@ -34,7 +35,7 @@ use Rattle.wq_term.specs.ArgumentGrammar.{IsWord, IsText, AreTexts, IsSecond, Is
 use Rattle.wq_term.specs.ArgumentGrammar.{IsDepth, IsDirectory, IsBound, IsPattern, AreFlags}
 use Rattle.wq_term.specs.Grammar.{IsNothing, IsOnly, IsOneOrTwo, IsSinceBy, IsSince}
 use Rattle.wq_term.proofs.Slashes.{slashes, drops, dropped}
-use Rattle.wq_term.proofs.ArgumentGrammar.{same_Ok, text-found, text-reads, texts-found}
+use Rattle.wq_term.proofs.ArgumentGrammar.{text-found, text-reads, texts-found}
 use Rattle.wq_term.proofs.ArgumentGrammar.{texts-reads, kind-found, kind-reads, scope-found}
 use Rattle.wq_term.proofs.ArgumentGrammar.{scope-reads, field-found, field-reads, comparison-found}
 use Rattle.wq_term.proofs.ArgumentGrammar.{comparison-reads, depth-found, depth-reads, bound-found}

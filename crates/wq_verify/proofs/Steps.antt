@@ -3,7 +3,7 @@ use Rattle.std.proofs.Common.{◌≡◌, ℕ, zero, suc, ◌+◌, ◌*◌, ◌<�
 use Rattle.std.specs.Prelude.{ℤ, pos, slice_get, sum_by}
 use Rattle.std.specs.List.{list_any, after_last}
 use Rattle.std.specs.Option.{option_map_or}
-use Rattle.std.proofs.lemmas.Bool.{eq-eqb, ltb-true}
+use Rattle.std.proofs.lemmas.Bool.{eq-eqb, ltb-true, or_right}
 use Rattle.std.proofs.lemmas.List.{length-drop}
 use Rattle.std.proofs.lemmas.List.Sums.{sum_by-cons, sum_by-take-le}
 use Rattle.std.proofs.Math.Nat.{mul-le-mul_left}
@@ -281,10 +281,6 @@ sum_later f (x ∷ xs) (suc i) (suc j) le =
     omega (arith, sum_by-cons f x (take i xs), sum_by-cons f x (take j xs), below)
 
 -- ---- the place at which a run goes on
-
-or_right : (a b : Bool) → b ≡ true → (a || b) ≡ true
-or_right true b e = refl
-or_right false b e = e
 
 fork_led : (b : Bool) (target from : ℕ) → (eqb (cond b target (from + 1)) target || eqb (cond b target (from + 1)) (from + 1)) ≡ true
 fork_led true target from = rw (eq-eqb target target refl) refl

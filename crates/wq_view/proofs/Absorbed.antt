@@ -6,11 +6,13 @@ use Rattle.std.specs.declared.cmp.Ordering.TheVariants.{Less, Equal, Greater}
 use Rattle.std.specs.Ordering.{is_eq, is_lt, eq_by_cmp, ordering_reverse}
 use Rattle.std.specs.FinMap.{find, is_sorted}
 use Rattle.std.specs.FinMap.Entries.{below_all}
+use Rattle.std.proofs.lemmas.Bool.{and_parts}
+use Rattle.wq_base.proofs.Facts.{less_from_lt}
 use Rattle.wq_record.specs.Seen.{SeenData, Stat, same_stat, stat_of, entry_of}
 use Rattle.wq_record.specs.Name.{name_cmp}
 use Rattle.wq_record.specs.RecordData.{RecordData, last_stat, blank_record, after_change, after_creation, after_deletion, record_after, by_name, record_named}
 use Rattle.wq_view.specs.Merge.{records_after as absorbed_at}
-use Rattle.wq_view.proofs.NameOrder.{names_total, names_exact, both_true, less_from_lt}
+use Rattle.wq_view.proofs.NameOrder.{names_total, names_exact}
 use Rattle.wq_view.proofs.Listings.{tie_is_same, name_ties_itself}
 
 -- the record of a name after a pass, if the name may have had none
@@ -23,14 +25,14 @@ after_pass name (Some r) seen tick second = Some (record_after r seen tick secon
 pub find_below : {X : Type 0} (q : List ℕ) (es : List (List ℕ × X)) → below_all name_cmp q es ≡ true → find name_cmp q es ≡ None
 find_below q [] e = refl
 find_below q (x ∷ es) e =
-    let parts = both_true (is_lt (name_cmp q x.0)) (below_all name_cmp q es) e in
+    let parts = and_parts (is_lt (name_cmp q x.0)) (below_all name_cmp q es) e in
     rw (less_from_lt (name_cmp q x.0) parts.0) (find_below q es parts.1)
 
 -- a name below a second one is below all names that the second is below
 pub below_through : {X : Type 0} (a b : List ℕ) (es : List (List ℕ × X)) → name_cmp a b ≡ Less → below_all name_cmp b es ≡ true → below_all name_cmp a es ≡ true
 below_through a b [] less e = refl
 below_through a b (x ∷ es) less e =
-    let parts = both_true (is_lt (name_cmp b x.0)) (below_all name_cmp b es) e in
+    let parts = and_parts (is_lt (name_cmp b x.0)) (below_all name_cmp b es) e in
     rw (names_total.trans a b x.0 less (less_from_lt (name_cmp b x.0) parts.0)) (below_through a b es less parts.1)
 
 -- names that tie are the same
@@ -83,10 +85,10 @@ module _ (tick : ℕ) (second : ℤ) where
       ] refl
 
   sorted_head : {A X : Type 0} (f : A → List ℕ × X) (a : A) (xs : List A) → is_sorted name_cmp (map f (a ∷ xs)) ≡ true → below_all name_cmp (f a).0 (map f xs) ≡ true
-  sorted_head f a xs e = (both_true (below_all name_cmp (f a).0 (map f xs)) (is_sorted name_cmp (map f xs)) e).0
+  sorted_head f a xs e = (and_parts (below_all name_cmp (f a).0 (map f xs)) (is_sorted name_cmp (map f xs)) e).0
 
   sorted_rest : {A X : Type 0} (f : A → List ℕ × X) (a : A) (xs : List A) → is_sorted name_cmp (map f (a ∷ xs)) ≡ true → is_sorted name_cmp (map f xs) ≡ true
-  sorted_rest f a xs e = (both_true (below_all name_cmp (f a).0 (map f xs)) (is_sorted name_cmp (map f xs)) e).1
+  sorted_rest f a xs e = (and_parts (below_all name_cmp (f a).0 (map f xs)) (is_sorted name_cmp (map f xs)) e).1
 
   -- a lookup of a name that ties with no head goes past the heads
   past : {X : Type 0} (q n : List ℕ) (x : X) (es : List (List ℕ × X)) → eq_by_cmp name_cmp q n ≡ false → find name_cmp q ((n, x) ∷ es) ≡ find name_cmp q es
@@ -164,7 +166,7 @@ module _ (tick : ℕ) (second : ℤ) where
   below_through_rows : (x : List ℕ) (r : RecordData) (rs : List RecordData) → is_lt (name_cmp x r.name) ≡ true → ((rows : List SeenData) → below_all name_cmp x (map entry_of rows) ≡ true → below_all name_cmp x (by_name (records_after rs rows)) ≡ true) → (rows : List SeenData) → below_all name_cmp x (map entry_of rows) ≡ true → below_all name_cmp x (by_name (records_after (r ∷ rs) rows)) ≡ true
   below_through_rows x r rs xr later [] e = rw (observed_name r None tick second, xr) (later [] refl)
   below_through_rows x r rs xr later (row ∷ rows) e =
-      let parts = both_true (is_lt (name_cmp x row.name)) (below_all name_cmp x (map entry_of rows)) e in
+      let parts = and_parts (is_lt (name_cmp x row.name)) (below_all name_cmp x (map entry_of rows)) e in
       below_first x r rs row rows xr parts.0 (later (row ∷ rows) e) (later rows parts.1) (below_through_rows x r rs xr later rows parts.1) (name_cmp r.name row.name) refl
 
   -- a name below all records and rows is below all records after the pass
@@ -174,10 +176,10 @@ module _ (tick : ℕ) (second : ℤ) where
       alone : (rows : List SeenData) → below_all name_cmp x (map entry_of rows) ≡ true → below_all name_cmp x (by_name (records_after [] rows)) ≡ true
       alone [] e = refl
       alone (row ∷ rows) e =
-          let parts = both_true (is_lt (name_cmp x row.name)) (below_all name_cmp x (map entry_of rows)) e in
+          let parts = and_parts (is_lt (name_cmp x row.name)) (below_all name_cmp x (map entry_of rows)) e in
           rw parts.0 (alone rows parts.1)
   below_absorbed x (r ∷ rs) rows below_rs below_rows =
-      let parts = both_true (is_lt (name_cmp x r.name)) (below_all name_cmp x (by_name rs)) below_rs in
+      let parts = and_parts (is_lt (name_cmp x r.name)) (below_all name_cmp x (by_name rs)) below_rs in
       below_through_rows x r rs parts.0 (λ rows e. below_absorbed x rs rows parts.1 e) rows below_rows
 
   abbrev IsOrdered : List RecordData → List SeenData → Type 0

@@ -13,6 +13,7 @@ use Rattle.std.proofs.lemmas.List.Folds.{list_any_at, list_any_none}
 use Rattle.std.proofs.lemmas.List.Sorted.{searchable_from_sorted}
 use Rattle.wq_base.specs.Compare.{folded_order, is_suffix}
 use Rattle.wq_base.proofs.TextOrder.{folded_total}
+use Rattle.wq_base.proofs.Facts.{item}
 
 -- a text is a suffix that is not empty exactly if the order does not tell them apart
 suffix_tied : (text : List ℕ) (b : ℕ) (suffix : List ℕ) → is_suffix text (b ∷ suffix) ≡ is_eq (folded_order text (b ∷ suffix))
@@ -29,10 +30,6 @@ no_suffix (x ∷ text) = and_right (not (length (x ∷ text) == 0)) false refl
 pub none_among : (texts : List (List ℕ)) (suffix : List ℕ) → length suffix ≡ 0 → false ≡ list_any (λ text. is_suffix text suffix) texts
 none_among texts [] e = sym (list_any_none (λ text. is_suffix text []) texts (λ k d h. no_suffix (get_or texts k d)))
 none_among texts (b ∷ suffix) e = absurd (omega (arith, e))
-
-item : {A : Type 0} (xs : List A) (k : ℕ) → k < length xs → A
-item [] k h = absurd (omega (arith, h))
-item (x ∷ xs) k h = x
 
 -- a search finds a suffix exactly if it is among the texts
 module _ {A : Type 0} (f : A → List ℕ) (xs : List A) (sorted : IsSortedBy (λ s t. is_lt (folded_order (f s) (f t))) xs) (suffix : List ℕ) where

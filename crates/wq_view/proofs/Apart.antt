@@ -5,15 +5,16 @@ use Rattle.std.specs.FinMap.{is_sorted}
 use Rattle.std.specs.FinMap.Entries.{below_all}
 use Rattle.std.specs.List.{AllByRecursion}
 use Rattle.std.specs.Ordering.{is_lt}
-use Rattle.std.proofs.Math.Numerals.{add-one}
 use Rattle.std.proofs.lemmas.List.{take-append-drop, take_all}
 use Rattle.std.proofs.lemmas.Option.{same_Some, slice_get-get_or}
+use Rattle.std.proofs.lemmas.Bool.{and_parts}
+use Rattle.wq_base.proofs.Facts.{less_from_lt, all_both, all_so, take_next}
 use Rattle.wq_record.specs.Name.{name_cmp}
 use Rattle.wq_record.specs.RecordData.{RecordData, by_name}
 use Rattle.wq_record.specs.Seen.{SeenData}
 use Rattle.wq_view.specs.SeenRows.{seen_row, seen_rows}
 use Rattle.wq_view.specs.Patching.{AreBelow, record_name, row_name}
-use Rattle.wq_view.proofs.NameOrder.{both_true, less_from_lt, names_total}
+use Rattle.wq_view.proofs.NameOrder.{names_total}
 
 module _ {A : Type 0} (P : A → Type 0) where
   -- a part of a list
@@ -27,11 +28,6 @@ module _ {A : Type 0} (P : A → Type 0) where
   all_drop (suc k) [] all = tt
   all_drop (suc k) (x ∷ xs) all = all_drop k xs all.1
 
-  -- two parts of a list
-  pub all_both : (xs ys : List A) → AllByRecursion P xs → AllByRecursion P ys → AllByRecursion P (xs ++ ys)
-  all_both [] ys first second = second
-  all_both (x ∷ xs) ys first second = (first.0, all_both xs ys first.1 second)
-
   pub all_first : (xs ys : List A) → AllByRecursion P (xs ++ ys) → AllByRecursion P xs
   all_first [] ys all = tt
   all_first (x ∷ xs) ys all = (all.0, all_first xs ys all.1)
@@ -39,11 +35,6 @@ module _ {A : Type 0} (P : A → Type 0) where
   pub all_second : (xs ys : List A) → AllByRecursion P (xs ++ ys) → AllByRecursion P ys
   all_second [] ys all = all
   all_second (x ∷ xs) ys all = all_second xs ys all.1
-
--- a fact that follows from another
-pub all_so : {A : Type 0} (P Q : A → Type 0) → ((x : A) → P x → Q x) → (xs : List A) → AllByRecursion P xs → AllByRecursion Q xs
-all_so P Q so [] all = tt
-all_so P Q so (x ∷ xs) all = (so x all.0, all_so P Q so xs all.1)
 
 -- a fact of each item
 pub all_of : {A : Type 0} (Q : A → Type 0) → ((x : A) → Q x) → (xs : List A) → AllByRecursion Q xs
@@ -91,7 +82,7 @@ module _ {A X : Type 0} (f : A → List ℕ × X) where
   tested_below : (x : List ℕ) (xs : List A) → below_all name_cmp x (map f xs) ≡ true → AllByRecursion (λ a. name_cmp x (f a).0 ≡ Less) xs
   tested_below x [] e = tt
   tested_below x (a ∷ xs) e =
-      let parts = both_true (is_lt (name_cmp x (f a).0)) (below_all name_cmp x (map f xs)) e in
+      let parts = and_parts (is_lt (name_cmp x (f a).0)) (below_all name_cmp x (map f xs)) e in
       (less_from_lt (name_cmp x (f a).0) parts.0, tested_below x xs parts.1)
 
   test_below : (x : List ℕ) (xs : List A) → AllByRecursion (λ a. name_cmp x (f a).0 ≡ Less) xs → below_all name_cmp x (map f xs) ≡ true
@@ -102,7 +93,7 @@ module _ {A X : Type 0} (f : A → List ℕ × X) where
   pub rising_parts : (xs ys : List A) → is_sorted name_cmp (map f (xs ++ ys)) ≡ true → (is_sorted name_cmp (map f xs) ≡ true) × (is_sorted name_cmp (map f ys) ≡ true) × AreBelow (λ a. (f a).0) (λ a. (f a).0) xs ys
   rising_parts [] ys e = (refl, e, tt)
   rising_parts (x ∷ xs) ys e =
-      let parts = both_true (below_all name_cmp (f x).0 (map f (xs ++ ys))) (is_sorted name_cmp (map f (xs ++ ys))) e in
+      let parts = and_parts (below_all name_cmp (f x).0 (map f (xs ++ ys))) (is_sorted name_cmp (map f (xs ++ ys))) e in
       let rest = rising_parts xs ys parts.1 in
       let below = tested_below (f x).0 (xs ++ ys) parts.0 in
       let first = test_below (f x).0 xs (all_first (λ a. name_cmp (f x).0 (f a).0 ≡ Less) xs ys below) in
@@ -112,13 +103,13 @@ module _ {A X : Type 0} (f : A → List ℕ × X) where
   pub rising_both : (xs ys : List A) → is_sorted name_cmp (map f xs) ≡ true → is_sorted name_cmp (map f ys) ≡ true → AreBelow (λ a. (f a).0) (λ a. (f a).0) xs ys → is_sorted name_cmp (map f (xs ++ ys)) ≡ true
   rising_both [] ys first second below = second
   rising_both (x ∷ xs) ys first second below =
-      let parts = both_true (below_all name_cmp (f x).0 (map f xs)) (is_sorted name_cmp (map f xs)) first in
+      let parts = and_parts (below_all name_cmp (f x).0 (map f xs)) (is_sorted name_cmp (map f xs)) first in
       let here = test_below (f x).0 (xs ++ ys) (all_both (λ a. name_cmp (f x).0 (f a).0 ≡ Less) xs ys (tested_below (f x).0 xs parts.0) below.0) in
       rw here (rising_both xs ys parts.1 second below.1)
 
   -- the first name of a list that rises is below those of the rest
   pub rising_head : (x : A) (xs : List A) → is_sorted name_cmp (map f (x ∷ xs)) ≡ true → AllByRecursion (λ a. name_cmp (f x).0 (f a).0 ≡ Less) xs
-  rising_head x xs e = tested_below (f x).0 xs (both_true (below_all name_cmp (f x).0 (map f xs)) (is_sorted name_cmp (map f xs)) e).0
+  rising_head x xs e = tested_below (f x).0 xs (and_parts (below_all name_cmp (f x).0 (map f xs)) (is_sorted name_cmp (map f xs)) e).0
 
 -- a name below the first of a list that rises is below all of it
 pub under : {B Y : Type 0} (g : B → List ℕ × Y) (name : List ℕ) (ys : List B) (y : B) → is_sorted name_cmp (map g ys) ≡ true → slice_get ys 0 ≡ Some y → name_cmp name (g y).0 ≡ Less → AllByRecursion (λ b. name_cmp name (g b).0 ≡ Less) ys
@@ -134,22 +125,12 @@ ended_below f h front x ys rise all =
     (through (λ a. (f a).0) (λ a. (f a).0) h front x ys (rising_parts f front (x ∷ []) rise).2 all)
     (all, tt)
 
--- the items up to one, and that one
-pub up_to : {A : Type 0} (xs : List A) (i : ℕ) (x : A) → slice_get xs i ≡ Some x → take (i + 1) xs ≡ take i xs ++ (x ∷ [])
-up_to {A = A} xs i x is = ap (λ n. take n xs) (add-one i) ∙ at xs i is
-  where
-    at : (xs : List A) (i : ℕ) → slice_get xs i ≡ Some x → take (suc i) xs ≡ take i xs ++ (x ∷ [])
-    at [] zero is = absurd (cc)
-    at [] (suc i) is = absurd (cc)
-    at (a ∷ xs) zero is = ap (λ z. z ∷ []) (same_Some a x is)
-    at (a ∷ xs) (suc i) is = ap (λ l. a ∷ l) (at xs i is)
-
 -- a list ends with its last item
 pub ends_with : {A : Type 0} (xs : List A) (x : A) → slice_get xs (length xs - 1) ≡ Some x → xs ≡ take (length xs - 1) xs ++ (x ∷ [])
 ends_with [] x is = absurd (cc)
 ends_with (a ∷ xs) x is =
     let count : length (a ∷ xs) - 1 + 1 ≡ length (a ∷ xs) = omega arith in
-    sym (take_all (length (a ∷ xs)) (a ∷ xs) (omega arith)) ∙ sym (ap (λ n. take n (a ∷ xs)) count) ∙ up_to (a ∷ xs) (length (a ∷ xs) - 1) x is
+    sym (take_all (length (a ∷ xs)) (a ∷ xs) (omega arith)) ∙ sym (ap (λ n. take n (a ∷ xs)) count) ∙ take_next (a ∷ xs) (length (a ∷ xs) - 1) x is
 
 -- a list that ends below the first of another one
 pub ends_below : {A B X Y : Type 0} (f : A → List ℕ × X) (g : B → List ℕ × Y) (xs : List A) (ys : List B) (x : A) (y : B) → is_sorted name_cmp (map f xs) ≡ true → is_sorted name_cmp (map g ys) ≡ true → slice_get xs (length xs - 1) ≡ Some x → slice_get ys 0 ≡ Some y → name_cmp (f x).0 (g y).0 ≡ Less → AreBelow (λ a. (f a).0) (λ b. (g b).0) xs ys
@@ -161,7 +142,7 @@ ends_below f g xs ys x y rise_xs rise_ys last first less =
 pub start_below : {B Y : Type 0} (g : B → List ℕ × Y) (all : List RecordData) (start : ℕ) (r : RecordData) (ys : List B) (y : B) → is_sorted name_cmp (by_name all) ≡ true → is_sorted name_cmp (map g ys) ≡ true → (start ≡ 0 → ⊥) → slice_get all (start - 1) ≡ Some r → slice_get ys 0 ≡ Some y → name_cmp r.name (g y).0 ≡ Less → AreBelow record_name (λ b. (g b).0) (take start all) ys
 start_below g all start r ys y rise_all rise_ys some last first less =
     let count : start - 1 + 1 ≡ start = omega (arith, some) in
-    let is : take start all ≡ take (start - 1) all ++ (r ∷ []) = sym (ap (λ n. take n all) count) ∙ up_to all (start - 1) r last in
+    let is : take start all ≡ take (start - 1) all ++ (r ∷ []) = sym (ap (λ n. take n all) count) ∙ take_next all (start - 1) r last in
     let rise = (rising_parts (λ (r : RecordData). (r.name, r)) (take start all) (drop start all) (ap (λ l. is_sorted name_cmp (by_name l)) (take-append-drop start all) ∙ rise_all)).0 in
     subst (λ l. AreBelow record_name (λ b. (g b).0) l ys) (sym is) (ended_below (λ (r : RecordData). (r.name, r)) (λ b. (g b).0) (take (start - 1) all) r ys (sym (ap (λ l. is_sorted name_cmp (by_name l)) is) ∙ rise) (under g r.name ys y rise_ys first less))
 

@@ -8,22 +8,19 @@ use Rattle.std.proofs.Math.Seq.{drop-cons}
 use Rattle.std.proofs.lemmas.Bool.Decides.{nat_tests}
 use Rattle.std.proofs.lemmas.List.{take-append-drop, append-nil}
 use Rattle.std.proofs.lemmas.Option.{slice_get_read}
+use Rattle.std.proofs.lemmas.Bool.{or_parts, and_parts}
 use Rattle.wq_view.specs.declared.listing.PassFault.{PassFault}
 use Rattle.wq_view.specs.declared.listing.PassFault.TheVariants.{BadName, NameTwice, OutOfRange}
 use Rattle.wq_record.specs.Name.{is_valid_name}
 use Rattle.wq_record.specs.Seen.{SeenData, stat_of, is_in_range, is_lawful_row, is_count}
 use Rattle.wq_view.specs.Listing.{names_of, row_fault, listing_fault}
 use Rattle.wq_view.specs.Limit.{max_listing_rows}
-use Rattle.wq_view.proofs.NameOrder.{names_total, both_true}
+use Rattle.wq_view.proofs.NameOrder.{names_total}
 
 -- a name of the list is among the names before, or is twice in it
 clash : List (List ℕ) → List (List ℕ) → Bool
 clash before [] = false
 clash before (x ∷ xs) = list_any (bytes_eq x) before || clash (x ∷ before) xs
-
-either_false : (a b : Bool) → (a || b) ≡ false → (a ≡ false) × (b ≡ false)
-either_false true b e = absurd (false≢true (sym e))
-either_false false b e = (refl, e)
 
 -- whether two names are the same does not depend on their order
 pub same_name_flips : (a b : List ℕ) → bytes_eq a b ≡ bytes_eq b a
@@ -42,7 +39,7 @@ new_without : (x : List ℕ) (before xs : List (List ℕ)) → IsNew (x ∷ befo
 unfolding IsNew
 new_without x before [] new = (tt, tt)
 new_without x before (y ∷ ys) new =
-    let head = either_false _ _ new.0 in
+    let head = or_parts _ _ new.0 in
     let rest = new_without x before ys new.1 in
     ((same_name_flips x y ∙ head.0, rest.0), (head.1, rest.1))
 
@@ -55,7 +52,7 @@ distinct_without_clash : (before xs : List (List ℕ)) → clash before xs ≡ f
 unfolding clash IsNew IsDistinct
 distinct_without_clash before [] e = (tt, tt)
 distinct_without_clash before (x ∷ xs) e =
-    let parts = either_false _ _ e in
+    let parts = or_parts _ _ e in
     let rest = distinct_without_clash (x ∷ before) xs parts.1 in
     let apart = new_without x before xs rest.1 in
     ((apart.0, rest.0), (parts.0, apart.1))
@@ -78,8 +75,8 @@ past_lawful : (before : List (List ℕ)) (front rest : List SeenData) (last : Op
 unfolding clash
 past_lawful before [] rest last lawful is = is before
 past_lawful before (row ∷ rows) rest last lawful is =
-    let parts = both_true (is_lawful_row row) (list_all is_lawful_row rows) lawful in
-    let own = both_true (is_valid_name row.name) (is_in_range (stat_of row)) parts.0 in
+    let parts = and_parts (is_lawful_row row) (list_all is_lawful_row rows) lawful in
+    let own = and_parts (is_valid_name row.name) (is_in_range (stat_of row)) parts.0 in
     rw (own.0, own.1) (elim (list_any (bytes_eq row.name) before) as (λ b. cond b (Some NameTwice) (row_fault (row.name ∷ before) (rows ++ rest)) ≡ cond (b || clash (row.name ∷ before) (names_of rows)) (Some NameTwice) last) [
       | true ↦ refl
       | false ↦ past_lawful (row.name ∷ before) rows rest last parts.1 is

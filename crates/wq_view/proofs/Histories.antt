@@ -11,7 +11,7 @@ use Rattle.wq_view.proofs.Stats.{one_stat, same_stat-itself}
 
 module _ (name : List ℕ) (stats : ℕ → Option Stat) (seconds : ℕ → ℤ) where
   -- the last pass that sees the file is the new one, if it sees the file
-  seen_now : (n : ℕ) (s : Stat) → stats n ≡ Some s → stats (greatest (is_seen stats) n) ≡ Some s
+  pub seen_now : (n : ℕ) (s : Stat) → stats n ≡ Some s → stats (greatest (is_seen stats) n) ≡ Some s
   seen_now zero s e = e
   seen_now (suc n) s e = rw (e, e) refl
 
@@ -51,7 +51,7 @@ greatest_le t zero = omega arith
 greatest_le t (suc n) = elim (t (suc n)) as (λ b. cond b (suc n) (greatest t n) ≤ suc n) [ true ↦ omega arith | false ↦ omega (arith, greatest_le t n) ]
 
 -- a record depends on the passes up to the last one
-record_alike : (name : List ℕ) (s z : ℕ → Option Stat) (c d : ℕ → ℤ) (n : ℕ) → ((i : ℕ) → i ≤ n → s i ≡ z i) → ((i : ℕ) → i ≤ n → c i ≡ d i) → record_from name s c n ≡ record_from name z d n
+pub record_alike : (name : List ℕ) (s z : ℕ → Option Stat) (c d : ℕ → ℤ) (n : ℕ) → ((i : ℕ) → i ≤ n → s i ≡ z i) → ((i : ℕ) → i ≤ n → c i ≡ d i) → record_from name s c n ≡ record_from name z d n
 record_alike name s z c d n stats seconds =
     let seen = greatest_alike n (is_seen s) (is_seen z) n (omega arith) (λ i low. ap is_some (stats i low)) in
     let after_creation = greatest_alike n (has_come s) (has_come z) n (omega arith) (come_alike n s z stats) in

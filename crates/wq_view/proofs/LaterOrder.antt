@@ -6,6 +6,7 @@ use Rattle.std.proofs.lemmas.List.{length-map, map-append}
 use Rattle.std.proofs.lemmas.List.FromFn.{get_or-map-range_with_len, length-map-range_with_len}
 use Rattle.std.proofs.lemmas.List.Elements.{All-append, filter-append}
 use Rattle.std.proofs.lemmas.Option.{slice_get_past, slice_get-get_or}
+use Rattle.wq_base.proofs.Facts.{all_so}
 use Rattle.wq_record.specs.RecordData.{RecordData}
 use Rattle.wq_view.specs.Order.{OrderParts, IsOrderOf, Rises, is_later, newer, newest_first, nth_outside, outside, positions, positions_in, ticks_of}
 use Rattle.wq_view.proofs.Newest.{eq_same, eq_apart, is_left, Moves, length-positions, positions_within, same_bucket}
@@ -101,10 +102,6 @@ pub positions_alike : (p q : ℕ → Bool) (xs : List ℕ) → AllByRecursion (�
 positions_alike p q [] all = refl
 positions_alike p q (x ∷ xs) all = rw all.0 (ap (λ l. if q x then 0 ∷ map suc l else map suc l) (positions_alike p q xs all.1))
 
-pub all_that : (P Q : ℕ → Type 0) → ((n : ℕ) → P n → Q n) → (xs : List ℕ) → AllByRecursion P xs → AllByRecursion Q xs
-all_that P Q step [] all = tt
-all_that P Q step (x ∷ xs) all = (step x all.0, all_that P Q step xs all.1)
-
 -- no position has tick 0
 none_new : (xs : List ℕ) → AllByRecursion (λ n. 1 ≤ n) xs → positions (λ n. n == 0) xs ≡ []
 none_new [] all = refl
@@ -124,7 +121,7 @@ first_ones n h = at (leb_tells 2 n)
 -- what changed at the first tick is what did not change later
 others_are : (ticks : List ℕ) → AllByRecursion (λ n. 1 ≤ n) ticks → positions (λ n. not (is_later n)) ticks ≡ newest_first 1 ticks
 others_are ticks all =
-    positions_alike (λ n. not (is_later n)) (λ n. n == 1) ticks (all_that (λ n. 1 ≤ n) (λ n. not (is_later n) ≡ (n == 1)) first_ones ticks all)
+    positions_alike (λ n. not (is_later n)) (λ n. n == 1) ticks (all_so (λ n. 1 ≤ n) (λ n. not (is_later n) ≡ (n == 1)) first_ones ticks all)
     ∙ sym (append-nil (positions (λ n. n == 1) ticks))
     ∙ ap (λ l. positions (λ n. n == 1) ticks ++ l) (sym (none_new ticks all))
 
@@ -146,7 +143,7 @@ order_is_newest t rs order is =
     let ticks = ticks_of rs in
     ap (λ l. l ++ outside order.rising order.count) is.later
     ∙ ap (λ l. newer (t - 1) 1 ticks ++ outside l order.count) is.rising
-    ∙ ap (λ l. newer (t - 1) 1 ticks ++ l) (outside_is is_later ticks order.count (is.count ∙ sym (length-map rs (λ (r : RecordData). r.otick))) ∙ others_are ticks (all_that (λ n. (1 ≤ n) × (n ≤ t)) (λ n. 1 ≤ n) (λ n h. h.0) ticks is.known))
+    ∙ ap (λ l. newer (t - 1) 1 ticks ++ l) (outside_is is_later ticks order.count (is.count ∙ sym (length-map rs (λ (r : RecordData). r.otick))) ∙ others_are ticks (all_so (λ n. (1 ≤ n) × (n ≤ t)) (λ n. 1 ≤ n) (λ n h. h.0) ticks is.known))
     ∙ parts_are t ticks is.known
 
 pub order_rises : (t : ℕ) (rs : List RecordData) (order : OrderParts) → IsOrderOf t rs order → Rises order.rising

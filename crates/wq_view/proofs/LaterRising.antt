@@ -8,9 +8,10 @@ use Rattle.std.proofs.lemmas.Bool.Decides.{leb_tells}
 use Rattle.std.proofs.lemmas.List.Elements.{recursion_from_All}
 use Rattle.std.proofs.lemmas.List.Sorted.{IsNonDecreasingBy-from_sort, sum_by-IsPermutation}
 use Rattle.std.proofs.lemmas.List.Sums.{sum_by-append, sum_by-cons}
+use Rattle.wq_base.proofs.Facts.{all_so}
 use Rattle.wq_view.specs.Order.{Rises, is_later, newer, positions}
 use Rattle.wq_view.proofs.Newest.{eq_same, eq_apart}
-use Rattle.wq_view.proofs.LaterOrder.{all_that, positions_alike}
+use Rattle.wq_view.proofs.LaterOrder.{positions_alike}
 use Rattle.wq_view.proofs.Outside.{positions_rise}
 
 -- 1 where a test passes
@@ -33,7 +34,7 @@ up_sorted (x ∷ xs) h =
 
 up_rises : (xs : List ℕ) → Rises xs → Up xs
 up_rises [] h = tt
-up_rises (x ∷ xs) h = (all_that (λ y. x < y) (λ y. x ≤ y) (λ y lt. omega (arith, lt)) xs h.0, up_rises xs h.1)
+up_rises (x ∷ xs) h = (all_so (λ y. x < y) (λ y. x ≤ y) (λ y lt. omega (arith, lt)) xs h.0, up_rises xs h.1)
 
 counted : (x : ℕ) (xs : List ℕ) → count x (x ∷ xs) ≡ suc (count x xs)
 counted x xs =
@@ -59,7 +60,7 @@ same_sorted (x ∷ xs) (y ∷ ys) a b same = at (leb_tells x y) (leb_tells y x) 
         omega (arith, same n, sum_by-cons (λ k. once (k == n)) x xs, sum_by-cons (λ k. once (k == n)) y ys, here)
 
     below : (n m : ℕ) (l : List ℕ) → n < m → AllByRecursion (λ k. m ≤ k) l → AllByRecursion (λ k. n < k) (m ∷ l)
-    below n m l lt all = (lt, all_that (λ k. m ≤ k) (λ k. n < k) (λ k le. omega (arith, le, lt)) l all)
+    below n m l lt all = (lt, all_so (λ k. m ≤ k) (λ k. n < k) (λ k le. omega (arith, le, lt)) l all)
 
     at : ((leb x y ≡ true) × (x ≤ y)) ⊎ ((leb x y ≡ false) × (y < x)) → ((leb y x ≡ true) × (y ≤ x)) ⊎ ((leb y x ≡ false) × (x < y)) → (((n : ℕ) → count n xs ≡ count n ys) → xs ≡ ys) → x ∷ xs ≡ y ∷ ys
     at (inl g) (inl h) rest =
@@ -151,4 +152,4 @@ sorted_later t ticks list rising list_is all same sorted =
         sum_by-IsPermutation (λ k. once (k == n)) list rising same
         ∙ ap (count n) list_is
         ∙ sum_newer (λ k. once (k == n)) t ticks
-        ∙ ap (count n) (positions_alike (is_between t) is_later ticks (all_that (λ n. (1 ≤ n) × (n ≤ suc t)) (λ n. is_between t n ≡ is_later n) (between_all t) ticks all))
+        ∙ ap (count n) (positions_alike (is_between t) is_later ticks (all_so (λ n. (1 ≤ n) × (n ≤ suc t)) (λ n. is_between t n ≡ is_later n) (between_all t) ticks all))

@@ -1,12 +1,12 @@
-mod NameOrder
+pub mod NameOrder
 mod Sorting
 mod Faults
 mod Listings
 mod Runs
 mod Slots
 mod Absorbed
-mod Stats
-mod Histories
+pub mod Stats
+pub mod Histories
 mod Showing
 mod ViewSteps
 mod Lookups
@@ -17,7 +17,7 @@ mod Newest
 mod Growing
 mod Outside
 mod NewestLaw
-mod LaterOrder
+pub mod LaterOrder
 mod LaterRising
 mod PassOrder
 mod MoveSteps

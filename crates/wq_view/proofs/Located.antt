@@ -1,5 +1,5 @@
 -- The chunk that has the record at a position, and the place at which the first records end.
-use Rattle.std.proofs.Common.{◌≡◌, ◌<◌, ◌≤◌, ◌⊎◌, inl, inr, ℕ, zero, suc, ◌+◌, ◌-◌, leb, Bool, true, false, List, [], ◌∷◌, ◌++◌, take, drop, length, get_or, Some, refl, sym, ap, subst, ◌∙◌, arith, length-append}
+use Rattle.std.proofs.Common.{◌≡◌, ◌<◌, ◌≤◌, ◌⊎◌, inl, inr, ℕ, zero, suc, ◌+◌, ◌-◌, leb, Bool, true, false, List, [], ◌∷◌, ◌++◌, take, drop, length, get_or, Some, refl, sym, ap, subst, ◌∙◌, arith, length-append, add-one}
 use mathlib.Core.Bool.{false≢true}
 use Rattle.std.specs.List.{AllWithin}
 use Rattle.std.specs.List.Sorted.{IsPartitionedBy, IsPartitionPoint}
@@ -13,9 +13,6 @@ use Rattle.wq_record.specs.RecordData.{RecordData}
 use Rattle.wq_view.specs.Chunk.{slot_records, records_in, AreChunks, IsChunkAt, IsRunAt, count_before, is_chunk_before}
 use Rattle.wq_view.proofs.Slots.{records_push, records_parts}
 use Rattle.wq_view.proofs.Lookups.{nobody}
-
-one_more : (n : ℕ) → n + 1 ≡ suc n
-one_more n = omega arith
 
 -- the end that a slot names is the end of its chunk
 slot_at : (slots : List Slot) (before n : ℕ) (d : Slot) → AreChunks before slots → n < length slots → (get_or slots n d).end ≡ before + count_before slots n + length (slot_records (get_or slots n d))
@@ -72,7 +69,7 @@ module _ (slots : List Slot) (all : AreChunks 0 slots) where
   reached zero i d h low = omega arith
   reached (suc k) i d h low =
       let ends : (get_or slots k d).end ≤ i = leb-true (get_or slots k d).end i (low k d (omega arith) (omega arith)) in
-      let same : count_before slots (k + 1) ≡ count_before slots (suc k) = ap (count_before slots) (one_more k) in
+      let same : count_before slots (k + 1) ≡ count_before slots (suc k) = ap (count_before slots) (add-one k) in
       omega (arith, ends, end_is k d (omega (arith, h)), same)
 
   -- the first slot that ends after a position has its record
@@ -154,7 +151,7 @@ module _ (slots : List Slot) (all : AreChunks 0 slots) where
     before_all : (k j : ℕ) (d : Slot) (r : RecordData) → k ≤ length slots → AllWithin (λ s. is_chunk_before p s ≡ true) slots 0 k → j < count_before slots k → p (get_or (records_in slots) j r) ≡ true
     before_all zero j d r h low less = absurd (omega (arith, less))
     before_all (suc k) j d r h low less =
-        let same : count_before slots (k + 1) ≡ count_before slots (suc k) = ap (count_before slots) (one_more k) in
+        let same : count_before slots (k + 1) ≡ count_before slots (suc k) = ap (count_before slots) (add-one k) in
         parted j (count_before slots (k + 1) - 1) r (omega (arith, less, same)) (omega (arith, less, same, until_within (k + 1))) (sym (last_there k d r (omega (arith, h))) ∙ low k d (omega arith) (omega arith))
 
     -- all records come before, if all chunks do

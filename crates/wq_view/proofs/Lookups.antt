@@ -10,15 +10,16 @@ use Rattle.std.specs.List.Sorted.{IsBinarySearchResult, IsPartitionedBy, IsParti
 use Rattle.std.specs.Bool.{then_some}
 use Rattle.std.specs.Option.{option_map_or}
 use Rattle.std.specs.Result.{result_ok}
-use Rattle.std.proofs.lemmas.Bool.{cases_lt, cases_order, ne_eqb, eq-eqb}
+use Rattle.std.proofs.lemmas.Bool.{cases_lt, cases_order, ne_eqb, eq-eqb, and_parts}
 use Rattle.std.proofs.lemmas.Map.Text.{is_eq-slice_cmp}
 use Rattle.std.proofs.lemmas.Option.{slice_get-get_or, slice_get_past}
 use native.Mathlib.Numerals.{unary_clauses}
 use Rattle.std.proofs.lemmas.List.Sorted.{searchable_from_sorted}
+use Rattle.wq_base.proofs.Facts.{less_from_lt}
 use Rattle.wq_record.specs.Name.{name_cmp}
 use Rattle.wq_record.specs.RecordData.{RecordData, blank_record, by_name, record_named}
 use Rattle.wq_view.specs.Position.{has_name, passes_at}
-use Rattle.wq_view.proofs.NameOrder.{names_total, names_exact, order_of_same, both_true, less_from_lt}
+use Rattle.wq_view.proofs.NameOrder.{names_total, names_exact, order_of_same}
 use Rattle.wq_view.proofs.Listings.{tie_is_same, name_ties_itself}
 
 -- a record past the end
@@ -27,14 +28,14 @@ nobody = blank_record []
 
 below_at : (x : List ℕ) (rs : List RecordData) (at : ℕ) (d : RecordData) → below_all name_cmp x (by_name rs) ≡ true → at < length rs → name_cmp x (get_or rs at d).name ≡ Less
 below_at x [] at d e h = absurd (omega arith)
-below_at x (r ∷ rs) zero d e h = less_from_lt (name_cmp x r.name) (both_true (is_lt (name_cmp x r.name)) (below_all name_cmp x (by_name rs)) e).0
-below_at x (r ∷ rs) (suc at) d e h = below_at x rs at d (both_true (is_lt (name_cmp x r.name)) (below_all name_cmp x (by_name rs)) e).1 (omega arith)
+below_at x (r ∷ rs) zero d e h = less_from_lt (name_cmp x r.name) (and_parts (is_lt (name_cmp x r.name)) (below_all name_cmp x (by_name rs)) e).0
+below_at x (r ∷ rs) (suc at) d e h = below_at x rs at d (and_parts (is_lt (name_cmp x r.name)) (below_all name_cmp x (by_name rs)) e).1 (omega arith)
 
 rest_sorted : (r : RecordData) (rs : List RecordData) → is_sorted name_cmp (by_name (r ∷ rs)) ≡ true → is_sorted name_cmp (by_name rs) ≡ true
-rest_sorted r rs e = (both_true (below_all name_cmp r.name (by_name rs)) (is_sorted name_cmp (by_name rs)) e).1
+rest_sorted r rs e = (and_parts (below_all name_cmp r.name (by_name rs)) (is_sorted name_cmp (by_name rs)) e).1
 
 head_below : (r : RecordData) (rs : List RecordData) → is_sorted name_cmp (by_name (r ∷ rs)) ≡ true → below_all name_cmp r.name (by_name rs) ≡ true
-head_below r rs e = (both_true (below_all name_cmp r.name (by_name rs)) (is_sorted name_cmp (by_name rs)) e).0
+head_below r rs e = (and_parts (below_all name_cmp r.name (by_name rs)) (is_sorted name_cmp (by_name rs)) e).0
 
 -- in records in the order of their names, a later record has a later name
 pub rise_at : (rs : List RecordData) (i j : ℕ) (d : RecordData) → is_sorted name_cmp (by_name rs) ≡ true → i < j → j < length rs → name_cmp (get_or rs i d).name (get_or rs j d).name ≡ Less

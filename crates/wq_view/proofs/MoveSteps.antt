@@ -3,6 +3,7 @@ use Rattle.std.proofs.Common.{◌≡◌, ◌<◌, ℕ, ℤ, pos, zero, suc, ◌+
 use mathlib.Core.Bool.{false≢true}
 use Rattle.std.specs.List.{list_all, range_with_len}
 use Rattle.std.proofs.lemmas.List.{length-map, take_more}
+use Rattle.std.proofs.lemmas.Bool.{and_parts}
 use Rattle.wq_view.specs.declared.chunk.Slot.{Slot}
 use Rattle.wq_record.specs.Seen.{SeenData}
 use Rattle.wq_record.specs.RecordData.{RecordData}
@@ -10,14 +11,8 @@ use Rattle.wq_view.specs.Merge.{PairData, record_alone, record_and_row, row_alon
 use Rattle.wq_view.specs.Run.{run_pairs, is_same_run}
 use Rattle.wq_view.specs.Chunk.{slot_records, records_in}
 use Rattle.wq_view.specs.Moves.{MovesData, with_known, with_pair, with_pairs, with_same}
-use Rattle.wq_view.proofs.NameOrder.{both_true}
 use Rattle.wq_view.proofs.Runs.{same_after}
 use Rattle.wq_view.proofs.Slots.{slot_taken}
-
--- one number more in a range
-pub range_next : (a n j : ℕ) → a + n ≡ j → range_with_len a (suc n) ≡ range_with_len a n ++ (j ∷ [])
-range_next a zero j is = let one : a ≡ j = omega (arith, is) in ap (λ k. k ∷ []) one
-range_next a (suc n) j is = ap (λ rest. a ∷ rest) (range_next (a + 1) n j (omega (arith, is)))
 
 -- two ranges, one after the other
 pub range_both : (a n k b : ℕ) → a + n ≡ b → range_with_len a n ++ range_with_len b k ≡ range_with_len a (n + k)
@@ -57,7 +52,7 @@ known_pair (row_alone row) m e = absurd (false≢true e)
 same_pairs : (ps : List PairData) (m : MovesData) → list_all is_unchanged ps ≡ true → with_pairs ps m ≡ with_same (length ps) m
 same_pairs [] m e = same_none m
 same_pairs (p ∷ ps) m e =
-    let parts = both_true (is_unchanged p) (list_all is_unchanged ps) e in
+    let parts = and_parts (is_unchanged p) (list_all is_unchanged ps) e in
     ap (with_pairs ps) (known_pair p m parts.0) ∙ same_pairs ps (with_known true m) parts.1 ∙ same_first (length ps) m
 
 count_same : (rs : List RecordData) (rows : List SeenData) → is_same_run rs rows ≡ true → length (run_pairs rs rows) ≡ length rs

@@ -1,5 +1,5 @@
 -- The byte order of names, and the lists that rise in it.
-use Rattle.std.proofs.Common.{◌≡◌, ℕ, Bool, true, false, ◌&&◌, List, [], ◌∷◌, map, bytes_eq, sym, refl, ap, ◌∙◌}
+use Rattle.std.proofs.Common.{◌≡◌, ℕ, true, false, List, [], ◌∷◌, map, bytes_eq, sym, refl, ap, ◌∙◌}
 use mathlib.Core.Bool.{false≢true}
 use Rattle.std.specs.declared.cmp.Ordering.{Ordering}
 use Rattle.std.specs.declared.cmp.Ordering.TheVariants.{Less, Equal, Greater}
@@ -11,6 +11,8 @@ use Rattle.std.specs.FinMap.Entries.{below_all}
 use Rattle.std.specs.List.{AllByRecursion}
 use Rattle.std.specs.List.Sorted.{IsStrictlySortedBy}
 use Rattle.std.proofs.lemmas.Slice.Eq.{bytes_eq-Decides}
+use Rattle.std.proofs.lemmas.Bool.{and_parts}
+use Rattle.wq_base.proofs.Facts.{less_from_lt}
 use Rattle.wq_record.specs.Name.{name_cmp}
 
 -- of two names one is below the other, or they are the same
@@ -29,12 +31,6 @@ same_name a b e = (bytes_eq-Decides a b).0 e
 pub order_of_same : (a b : List ℕ) → bytes_eq a b ≡ true → name_cmp a b ≡ Equal
 order_of_same a b e = ap (name_cmp a) (sym (same_name a b e)) ∙ tied_itself names_total a
 
--- an order that is tested to be less is less
-pub less_from_lt : (o : Ordering) → is_lt o ≡ true → o ≡ Less
-less_from_lt Less e = refl
-less_from_lt Equal e = absurd (false≢true e)
-less_from_lt Greater e = absurd (false≢true e)
-
 -- if two names differ, and the first is not below the second, the second is below the first
 pub order_of_others : (a b : List ℕ) → bytes_eq a b ≡ false → is_lt (name_cmp a b) ≡ false → name_cmp a b ≡ Greater
 order_of_others a b apart not_below = at (name_cmp a b) refl
@@ -43,11 +39,6 @@ order_of_others a b apart not_below = at (name_cmp a b) refl
     at Less is = absurd (false≢true (sym not_below ∙ ap is_lt is))
     at Equal is = absurd (false≢true (sym apart ∙ texts_ties a b ∙ ap is_eq is))
     at Greater is = is
-
--- if a conjunction holds, both of its tests hold
-pub both_true : (a b : Bool) → (a && b) ≡ true → (a ≡ true) × (b ≡ true)
-both_true true b e = (refl, e)
-both_true false b e = absurd (false≢true e)
 
 -- the names of a list of entries
 module _ {A X : Type 0} (f : A → List ℕ × X) where
@@ -58,7 +49,7 @@ module _ {A X : Type 0} (f : A → List ℕ × X) where
   rising_from_below : (x : List ℕ) (xs : List A) → below_all name_cmp x (map f xs) ≡ true → AllByRecursion (λ y. name_cmp x y ≡ Less) (map (λ a. (f a).0) xs)
   rising_from_below x [] e = tt
   rising_from_below x (a ∷ xs) e =
-      let parts = both_true _ _ e in
+      let parts = and_parts _ _ e in
       (less_from_lt _ parts.0, rising_from_below x xs parts.1)
 
   -- names that rise are those of sorted entries
@@ -72,5 +63,5 @@ module _ {A X : Type 0} (f : A → List ℕ × X) where
   unfolding IsStrictlySortedBy
   rising_from_sorted [] e = tt
   rising_from_sorted (a ∷ xs) e =
-      let parts = both_true _ _ e in
+      let parts = and_parts _ _ e in
       (rising_from_below (f a).0 xs parts.0, rising_from_sorted xs parts.1)

@@ -2,20 +2,13 @@
 use Rattle.std.proofs.Common.{◌≡◌, ℕ, zero, suc, ◌+◌, ◌<◌, ◌≤◌, ◌==◌, if◌then◌else◌, List, [], ◌∷◌, ◌++◌, map, get_or, ◌⊎◌, inl, inr, refl, sym, ap, subst, ◌∙◌, append_assoc, arith}
 use Rattle.std.proofs.lemmas.Bool.{cases_eq}
 use Rattle.std.specs.List.{AllByRecursion}
+use Rattle.wq_base.proofs.Facts.{all_so, all_both}
 use Rattle.wq_view.specs.Order.{positions, newest_first, newer, ComesBefore, Falls, NewestIsSorted, NewestIsSplit}
 use Rattle.wq_view.proofs.Newest.{eq_same, eq_apart, newest_within, length-newest_first}
 
 all_map_suc : (P Q : ℕ → Type 0) → ((p : ℕ) → P p → Q (suc p)) → (ps : List ℕ) → AllByRecursion P ps → AllByRecursion Q (map suc ps)
 all_map_suc P Q step [] all = tt
 all_map_suc P Q step (p ∷ ps) all = (step p all.0, all_map_suc P Q step ps all.1)
-
-all_more : (P Q : ℕ → Type 0) → ((p : ℕ) → P p → Q p) → (ps : List ℕ) → AllByRecursion P ps → AllByRecursion Q ps
-all_more P Q step [] all = tt
-all_more P Q step (p ∷ ps) all = (step p all.0, all_more P Q step ps all.1)
-
-all_append : (P : ℕ → Type 0) (ps qs : List ℕ) → AllByRecursion P ps → AllByRecursion P qs → AllByRecursion P (ps ++ qs)
-all_append P [] qs a b = b
-all_append P (p ∷ ps) qs a b = (a.0, all_append P ps qs a.1 b)
 
 -- the positions of a tick have it
 pub tick_of_bucket : (n : ℕ) (ticks : List ℕ) → AllByRecursion (λ p. get_or ticks p 0 ≡ n) (positions (λ k. k == n) ticks)
@@ -46,15 +39,15 @@ bucket_falls n (x ∷ ticks) = at (cases_eq x n) (falls_suc x ticks (positions (
 
 -- what is in the order of a tick changed at it or before
 pub newest_bound : (t : ℕ) (ticks : List ℕ) → AllByRecursion (λ p. get_or ticks p 0 ≤ t) (newest_first t ticks)
-newest_bound zero ticks = all_more (λ p. get_or ticks p 0 ≡ 0) (λ p. get_or ticks p 0 ≤ 0) (λ p e. omega (arith, e)) (positions (λ k. k == 0) ticks) (tick_of_bucket 0 ticks)
-newest_bound (suc t) ticks = all_append (λ p. get_or ticks p 0 ≤ suc t) (positions (λ k. k == suc t) ticks) (newest_first t ticks)
-    (all_more (λ p. get_or ticks p 0 ≡ suc t) (λ p. get_or ticks p 0 ≤ suc t) (λ p e. omega (arith, e)) (positions (λ k. k == suc t) ticks) (tick_of_bucket (suc t) ticks))
-    (all_more (λ p. get_or ticks p 0 ≤ t) (λ p. get_or ticks p 0 ≤ suc t) (λ p h. omega (arith, h)) (newest_first t ticks) (newest_bound t ticks))
+newest_bound zero ticks = all_so (λ p. get_or ticks p 0 ≡ 0) (λ p. get_or ticks p 0 ≤ 0) (λ p e. omega (arith, e)) (positions (λ k. k == 0) ticks) (tick_of_bucket 0 ticks)
+newest_bound (suc t) ticks = all_both (λ p. get_or ticks p 0 ≤ suc t) (positions (λ k. k == suc t) ticks) (newest_first t ticks)
+    (all_so (λ p. get_or ticks p 0 ≡ suc t) (λ p. get_or ticks p 0 ≤ suc t) (λ p e. omega (arith, e)) (positions (λ k. k == suc t) ticks) (tick_of_bucket (suc t) ticks))
+    (all_so (λ p. get_or ticks p 0 ≤ t) (λ p. get_or ticks p 0 ≤ suc t) (λ p h. omega (arith, h)) (newest_first t ticks) (newest_bound t ticks))
 
 falls_append : (t : ℕ) (ticks ps qs : List ℕ) → Falls ticks ps → Falls ticks qs → AllByRecursion (λ p. get_or ticks p 0 ≡ suc t) ps → AllByRecursion (λ q. get_or ticks q 0 ≤ t) qs → Falls ticks (ps ++ qs)
 falls_append t ticks [] qs f g a b = g
 falls_append t ticks (p ∷ ps) qs f g a b =
-    (all_append (ComesBefore ticks p) ps qs f.0 (all_more (λ q. get_or ticks q 0 ≤ t) (ComesBefore ticks p) (λ q h. inl (omega (arith, h, a.0))) qs b), falls_append t ticks ps qs f.1 g a.1 b)
+    (all_both (ComesBefore ticks p) ps qs f.0 (all_so (λ q. get_or ticks q 0 ≤ t) (ComesBefore ticks p) (λ q h. inl (omega (arith, h, a.0))) qs b), falls_append t ticks ps qs f.1 g a.1 b)
 
 newest_falls : (t : ℕ) (ticks : List ℕ) → Falls ticks (newest_first t ticks)
 newest_falls zero ticks = bucket_falls 0 ticks
@@ -76,8 +69,8 @@ module _ (since : ℕ) (ticks : List ℕ) where
 
   newer_above : (more : ℕ) → AllByRecursion (λ p. since < get_or ticks p 0) (newer more since ticks)
   newer_above zero = tt
-  newer_above (suc more) = all_append (λ p. since < get_or ticks p 0) (positions (λ n. n == suc (more + since)) ticks) (newer more since ticks)
-      (all_more (λ p. get_or ticks p 0 ≡ suc (more + since)) (λ p. since < get_or ticks p 0) (λ p e. omega (arith, e)) (positions (λ n. n == suc (more + since)) ticks) (tick_of_bucket (suc (more + since)) ticks))
+  newer_above (suc more) = all_both (λ p. since < get_or ticks p 0) (positions (λ n. n == suc (more + since)) ticks) (newer more since ticks)
+      (all_so (λ p. get_or ticks p 0 ≡ suc (more + since)) (λ p. since < get_or ticks p 0) (λ p e. omega (arith, e)) (positions (λ n. n == suc (more + since)) ticks) (tick_of_bucket (suc (more + since)) ticks))
       (newer_above more)
 
 pub newest_is_split : NewestIsSplit

@@ -1,12 +1,12 @@
 -- The order of last change after a pass, from the moves of the records.
-use Rattle.std.proofs.Common.{◌≡◌, ℕ, ℤ, zero, suc, ◌+◌, ◌-◌, ◌<◌, ◌≤◌, Bool, true, false, cond, not, ◌&&◌, ◌==◌, if◌then◌else◌, slice_get, Option, Some, None, IfSome, List, [], ◌∷◌, ◌++◌, map, length, get_or, ◌⊎◌, inl, inr, refl, sym, ap, subst, ◌∙◌, append_assoc, append-nil, arith}
+use Rattle.std.proofs.Common.{◌≡◌, ℕ, ℤ, zero, suc, ◌+◌, ◌-◌, ◌<◌, ◌≤◌, Bool, true, false, not, ◌&&◌, ◌==◌, if◌then◌else◌, slice_get, Option, Some, None, IfSome, List, [], ◌∷◌, ◌++◌, map, length, get_or, ◌⊎◌, inl, inr, refl, sym, ap, subst, ◌∙◌, append_assoc, append-nil, arith}
 use mathlib.Core.Bool.{false≢true, true≢false}
 use Rattle.std.specs.declared.cmp.Ordering.{Ordering}
 use Rattle.std.specs.declared.cmp.Ordering.TheVariants.{Less, Equal, Greater}
 use Rattle.std.specs.FinMap.Entries.{by_order}
 use Rattle.std.specs.List.{filter, All, AllZip, AllByRecursion}
 use Rattle.std.proofs.lemmas.List.{length-map}
-use Rattle.std.proofs.lemmas.List.Elements.{recursion_from_All}
+use Rattle.std.proofs.lemmas.List.Elements.{recursion_from_All, filter_agree}
 use Rattle.std.proofs.lemmas.Option.{slice_get_within, get_or_from_slice_get}
 use Rattle.wq_view.specs.Limit.{max_records}
 use Rattle.wq_record.specs.Seen.{SeenData, stat_of, same_stat}
@@ -129,11 +129,6 @@ new_there n ps true e rest =
     let later = positions (λ k. k == 0) (map tick_before ps) in
     ap (λ l. n ∷ l) (rest ∙ shifted n later) ∙ ap (λ k. k ∷ map (λ q. n + q) (map suc later)) (nothing_more n)
 new_there n ps false e rest = absurd (false≢true e)
-
--- two tests that answer alike keep the same numbers
-filter_alike : (p q : ℕ → Bool) → ((n : ℕ) → p n ≡ q n) → (ns : List ℕ) → filter p ns ≡ filter q ns
-filter_alike p q same [] = refl
-filter_alike p q same (n ∷ ns) = rw (same n) (ap (λ l. cond (q n) (n ∷ l) l) (filter_alike p q same ns))
 
 map_within : (f g : ℕ → ℕ) (bound : ℕ) → ((n : ℕ) → n < bound → f n ≡ g n) → (ns : List ℕ) → AllByRecursion (λ n. n < bound) ns → map f ns ≡ map g ns
 map_within f g bound same [] all = refl
@@ -293,7 +288,7 @@ module _ (t : ℕ) (second : ℤ) where
     moved_is_left more h =
         let place : ℕ → ℕ = λ p. get_or (positions is_known before) p 0 in
         ap (filter (λ p. not (is_among moves_made.changed p))) (map_within (nth_outside moves_made.came) place (length rs) place_is (old more) (old_within more))
-        ∙ filter_alike (λ p. not (is_among moves_made.changed p)) (is_left (suc t) after) (λ p. ap not (ap (λ l. is_among l p) changed_are ∙ among_bucket (suc t) after p (omega arith))) (map place (old more))
+        ∙ filter_agree (λ p. not (is_among moves_made.changed p)) (is_left (suc t) after) (λ p. ap not (ap (λ l. is_among l p) changed_are ∙ among_bucket (suc t) after p (omega arith))) (map place (old more))
         ∙ ap (filter (is_left (suc t) after)) (sym (grown_newer more 1 before ∙ ap (λ l. map place (newer more 1 l)) (ticks_kept t rs rows known)))
         ∙ sym (left_newer t more 1 h before after (moves_all pairs all))
 

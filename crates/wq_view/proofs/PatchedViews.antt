@@ -6,6 +6,7 @@ use Rattle.std.specs.List.{list_all}
 use Rattle.std.proofs.lemmas.Bool.Decides.{nat_tests}
 use Rattle.std.proofs.lemmas.List.Folds.{list_all-append}
 use Rattle.std.proofs.lemmas.List.Sorted.{IsPermutation-refl}
+use Rattle.std.proofs.lemmas.Bool.{and_parts}
 use Rattle.wq_record.specs.Name.{name_cmp}
 use Rattle.wq_record.specs.RecordData.{RecordData}
 use Rattle.wq_record.specs.Seen.{SeenData, entry_of, is_count, is_lawful_row}
@@ -22,7 +23,6 @@ use Rattle.wq_view.specs.declared.listing.PassFault.TheVariants.{OutOfRange}
 use Rattle.wq_view.specs.declared.patch.Patch.{Patch}
 use Rattle.wq_view.proofs.Faults.{fault_when_lawful}
 use Rattle.wq_view.proofs.Listings.{sorted_listing}
-use Rattle.wq_view.proofs.NameOrder.{both_true}
 use Rattle.wq_view.proofs.Patches.{after_patches, moves_patches, rows_rise, shows_patches}
 use Rattle.wq_view.proofs.Sorting.{distinct_from_sorted}
 use Rattle.wq_view.proofs.ViewSteps.{shows_last}
@@ -32,8 +32,8 @@ pub lawful_patches : (ps : List Patch) (records : List RecordData) → list_all 
 lawful_patches [] records lawful = refl
 lawful_patches (p ∷ ps) records lawful =
     let rest = patched (left_by p records) ps in
-    let first = both_true (list_all is_lawful_row (seen_rows (kept_by p records))) (list_all is_lawful_row (p.rows.items ++ rest)) (sym (list_all-append is_lawful_row (seen_rows (kept_by p records)) (p.rows.items ++ rest)) ∙ lawful) in
-    let parts = both_true (list_all is_lawful_row p.rows.items) (list_all is_lawful_row rest) (sym (list_all-append is_lawful_row p.rows.items rest) ∙ first.1) in
+    let first = and_parts (list_all is_lawful_row (seen_rows (kept_by p records))) (list_all is_lawful_row (p.rows.items ++ rest)) (sym (list_all-append is_lawful_row (seen_rows (kept_by p records)) (p.rows.items ++ rest)) ∙ lawful) in
+    let parts = and_parts (list_all is_lawful_row p.rows.items) (list_all is_lawful_row rest) (sym (list_all-append is_lawful_row p.rows.items rest) ∙ first.1) in
     rw parts.0 (lawful_patches ps (left_by p records) parts.1)
 
 -- the entries of the listing of rows that rise

@@ -10,6 +10,7 @@ use Rattle.std.specs.Ordering.{ordering_reverse}
 use Rattle.std.proofs.Math.Seq.{take-add}
 use Rattle.std.proofs.lemmas.List.{append-nil, drop-drop, map-append, take-append-drop}
 use Rattle.std.proofs.lemmas.List.Folds.{list_all-append}
+use Rattle.std.proofs.lemmas.Bool.{and_parts}
 use Rattle.wq_record.specs.Name.{name_cmp}
 use Rattle.wq_record.specs.RecordData.{RecordData, by_name}
 use Rattle.wq_record.specs.Seen.{SeenData, entry_of}
@@ -23,7 +24,7 @@ use Rattle.wq_view.specs.View.{NamesRise}
 use Rattle.wq_view.specs.declared.patch.Patch.{Patch}
 use Rattle.wq_view.proofs.Apart.{all_first, all_second, below_both, below_drop, below_seen, below_take, rising_both, rising_parts, seen_below, through}
 use Rattle.wq_view.proofs.MoveSteps.{pairs_then, same_run}
-use Rattle.wq_view.proofs.NameOrder.{both_true, names_total}
+use Rattle.wq_view.proofs.NameOrder.{names_total}
 use Rattle.wq_view.proofs.Runs.{after_all, run_then, same_after, shows_both}
 use Rattle.wq_view.proofs.Showing.{shown_existing}
 use Rattle.wq_view.proofs.Unmoved.{existing_is, seen_sorted}
@@ -65,7 +66,7 @@ none_new (row ∷ rows) e = absurd (false≢true e)
 -- records that the rows show: each stays as it is, and no row is left
 shown_parts : (rs : List RecordData) (rows : List SeenData) → shows rs rows ≡ true → (is_same_run rs rows ≡ true) × (rows_behind rs rows ≡ [])
 shown_parts rs rows e =
-    let parts = both_true (is_same_run rs rows) (shows [] (rows_behind rs rows)) (sym (ap (λ l. shows l rows) (sym (append-nil rs)) ∙ shows_both rs rows []) ∙ e) in
+    let parts = and_parts (is_same_run rs rows) (shows [] (rows_behind rs rows)) (sym (ap (λ l. shows l rows) (sym (append-nil rs)) ∙ shows_both rs rows []) ∙ e) in
     (parts.0, none_new (rows_behind rs rows) parts.1)
 
 -- such records are the same after the pass

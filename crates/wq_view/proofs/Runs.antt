@@ -1,11 +1,13 @@
 -- A run of records in a pass: the rows after it, and the records that the pass makes of it.
-use Rattle.std.proofs.Common.{◌≡◌, ℕ, ℤ, Bool, true, false, not, ◌&&◌, if◌then◌else◌, IsTrue, List, [], ◌∷◌, ◌++◌, map, Option, Some, None, refl, sym, ap, ◌∙◌, append_assoc}
+use Rattle.std.proofs.Common.{◌≡◌, ℕ, ℤ, Bool, true, false, not, ◌&&◌, if◌then◌else◌, List, [], ◌∷◌, ◌++◌, map, Option, Some, None, refl, sym, ap, ◌∙◌}
 use mathlib.Core.Bool.{false≢true}
 use Rattle.std.specs.declared.cmp.Ordering.{Ordering}
 use Rattle.std.specs.declared.cmp.Ordering.TheVariants.{Less, Equal, Greater}
 use Rattle.std.specs.FinMap.Entries.{by_order}
 use Rattle.std.specs.List.{list_all}
 use Rattle.std.proofs.lemmas.List.{append-nil}
+use Rattle.std.proofs.lemmas.List.Folds.{list_all-append}
+use Rattle.std.proofs.lemmas.Bool.{and_parts}
 use Rattle.wq_record.specs.Seen.{SeenData, Stat, is_lawful_row, stat_of, same_stat}
 use Rattle.wq_record.specs.Name.{name_cmp}
 use Rattle.wq_record.specs.RecordData.{RecordData, last_stat, record_after, after_change, after_creation, after_deletion}
@@ -13,7 +15,6 @@ use Rattle.wq_view.specs.Merge.{PairData, record_alone, record_and_row, row_alon
 use Rattle.wq_view.specs.Pair.{has_lawful_row}
 use Rattle.wq_view.specs.Run.{run_pairs, rows_after, rows_behind, is_same_run, keeps_names, run_after}
 use Rattle.wq_view.specs.Suffix.{folded_suffix, folded_suffixes}
-use Rattle.wq_view.proofs.NameOrder.{both_true}
 
 -- pairs with later pairs in two parts
 pairs_in_parts : (r : RecordData) (all first second : List SeenData → List PairData) (behind : List SeenData → List SeenData) → ((rows : List SeenData) → all rows ≡ first rows ++ second (behind rows)) → (rows : List SeenData) → pairs_from r all rows ≡ pairs_from r first rows ++ second (rows_after r behind rows)
@@ -30,37 +31,16 @@ pub run_then : (rs : List RecordData) (rows : List SeenData) (later : List Recor
 run_then [] rows later = refl
 run_then (r ∷ rs) rows later = pairs_in_parts r (pairs_of (rs ++ later)) (run_pairs rs) (pairs_of later) (rows_behind rs) (λ rows. run_then rs rows later) rows
 
--- two runs are a run
-pub pairs_of_both : (rs : List RecordData) (rows : List SeenData) (more : List RecordData) → run_pairs (rs ++ more) rows ≡ run_pairs rs rows ++ run_pairs more (rows_behind rs rows)
-pairs_of_both [] rows more = refl
-pairs_of_both (r ∷ rs) rows more = pairs_in_parts r (run_pairs (rs ++ more)) (run_pairs rs) (run_pairs more) (rows_behind rs) (λ rows. pairs_of_both rs rows more) rows
-
-list_all_both : {A : Type 0} (test : A → Bool) (xs ys : List A) → list_all test (xs ++ ys) ≡ (list_all test xs && list_all test ys)
-list_all_both test [] ys = refl
-list_all_both test (x ∷ xs) ys = at (test x) (list_all_both test xs ys)
-  where
-    at : (b : Bool) → list_all test (xs ++ ys) ≡ (list_all test xs && list_all test ys) → (b && list_all test (xs ++ ys)) ≡ ((b && list_all test xs) && list_all test ys)
-    at true rest = rest
-    at false rest = refl
-
 map_both : {A B : Type 0} (f : A → B) (xs ys : List A) → map f (xs ++ ys) ≡ map f xs ++ map f ys
 map_both f [] ys = refl
 map_both f (x ∷ xs) ys = ap (λ l. f x ∷ l) (map_both f xs ys)
 
--- two runs stay as they are if each does
-pub same_both : (rs : List RecordData) (rows : List SeenData) (more : List RecordData) → is_same_run (rs ++ more) rows ≡ (is_same_run rs rows && is_same_run more (rows_behind rs rows))
-same_both rs rows more = ap (list_all is_unchanged) (pairs_of_both rs rows more) ∙ list_all_both is_unchanged (run_pairs rs rows) (run_pairs more (rows_behind rs rows))
-
 -- records show the rows if a run of the first ones stays as it is, and the later ones show the rows
 -- after it
 pub shows_both : (rs : List RecordData) (rows : List SeenData) (later : List RecordData) → shows (rs ++ later) rows ≡ (is_same_run rs rows && shows later (rows_behind rs rows))
-shows_both rs rows later = ap (list_all is_unchanged) (run_then rs rows later) ∙ list_all_both is_unchanged (run_pairs rs rows) (pairs_of later (rows_behind rs rows))
+shows_both rs rows later = ap (list_all is_unchanged) (run_then rs rows later) ∙ list_all-append is_unchanged (run_pairs rs rows) (pairs_of later (rows_behind rs rows))
 
 module _ (tick : ℕ) (second : ℤ) where
-  -- after a pass the first run comes before the second
-  pub after_both : (rs : List RecordData) (rows : List SeenData) (more : List RecordData) → run_after tick second (rs ++ more) rows ≡ run_after tick second rs rows ++ run_after tick second more (rows_behind rs rows)
-  after_both rs rows more = ap (map (pair_after tick second)) (pairs_of_both rs rows more) ∙ map_both (pair_after tick second) (run_pairs rs rows) (run_pairs more (rows_behind rs rows))
-
   -- and a run before the later records
   pub after_then : (rs : List RecordData) (rows : List SeenData) (later : List RecordData) → records_after tick second (rs ++ later) rows ≡ run_after tick second rs rows ++ records_after tick second later (rows_behind rs rows)
   after_then rs rows later = ap (map (pair_after tick second)) (run_then rs rows later) ∙ map_both (pair_after tick second) (run_pairs rs rows) (pairs_of later (rows_behind rs rows))
@@ -80,21 +60,21 @@ module _ (tick : ℕ) (second : ℤ) where
   -- so does one whose row is the same
   pub same_stays : (r : RecordData) (row : SeenData) → (r.exists && same_stat (last_stat r) (stat_of row)) ≡ true → record_after r (Some (stat_of row)) tick second ≡ r
   same_stays r row same =
-      let parts = both_true r.exists (same_stat (last_stat r) (stat_of row)) same in
+      let parts = and_parts r.exists (same_stat (last_stat r) (stat_of row)) same in
       rw (parts.0, parts.1) refl
 
   same_from : (r : RecordData) (later : List SeenData → List PairData) (rs : List RecordData) → ((rows : List SeenData) → list_all is_unchanged (later rows) ≡ true → map (pair_after tick second) (later rows) ≡ rs) → (rows : List SeenData) → list_all is_unchanged (pairs_from r later rows) ≡ true → map (pair_after tick second) (pairs_from r later rows) ≡ r ∷ rs
   same_from r later rs same [] e =
-      let parts = both_true (not r.exists) (list_all is_unchanged (later [])) e in
+      let parts = and_parts (not r.exists) (list_all is_unchanged (later [])) e in
       ap (λ x. x ∷ map (pair_after tick second) (later [])) (absent_stays r parts.0) ∙ ap (λ l. r ∷ l) (same [] parts.1)
   same_from r later rs same (row ∷ rows) e = by (name_cmp r.name row.name) e
     where
       by : (o : Ordering) → list_all is_unchanged (by_order o (record_alone r ∷ later (row ∷ rows)) (record_and_row r row ∷ later rows) (row_alone row ∷ pairs_from r later rows)) ≡ true → map (pair_after tick second) (by_order o (record_alone r ∷ later (row ∷ rows)) (record_and_row r row ∷ later rows) (row_alone row ∷ pairs_from r later rows)) ≡ r ∷ rs
       by Less h =
-          let parts = both_true (not r.exists) (list_all is_unchanged (later (row ∷ rows))) h in
+          let parts = and_parts (not r.exists) (list_all is_unchanged (later (row ∷ rows))) h in
           ap (λ x. x ∷ map (pair_after tick second) (later (row ∷ rows))) (absent_stays r parts.0) ∙ ap (λ l. r ∷ l) (same (row ∷ rows) parts.1)
       by Equal h =
-          let parts = both_true (r.exists && same_stat (last_stat r) (stat_of row)) (list_all is_unchanged (later rows)) h in
+          let parts = and_parts (r.exists && same_stat (last_stat r) (stat_of row)) (list_all is_unchanged (later rows)) h in
           ap (λ x. x ∷ map (pair_after tick second) (later rows)) (same_stays r row parts.0) ∙ ap (λ l. r ∷ l) (same rows parts.1)
       by Greater h = absurd (false≢true h)
 
@@ -138,18 +118,10 @@ module _ (tick : ℕ) (second : ℤ) where
       let is : made ≡ run_after tick second rs rows = sym (append-nil made) ∙ sym (ap (λ l. made ++ map (pair_after tick second) l) none) ∙ known in
       ap folded_suffixes is ∙ suffixes_kept rs rows e
 
-  -- what is done and left, after the first pair that is left is done
-  pub after_taken : (done : List RecordData) (r : RecordData) (p : PairData) (left next : List PairData) (all : List RecordData) → left ≡ p ∷ next → r ≡ pair_after tick second p → done ++ map (pair_after tick second) left ≡ all → (done ++ r ∷ []) ++ map (pair_after tick second) next ≡ all
-  after_taken done r p left next all left_is r_is known =
-      append_assoc done (r ∷ []) (map (pair_after tick second) next)
-      ∙ ap (λ x. done ++ x ∷ map (pair_after tick second) next) r_is
-      ∙ sym (ap (λ l. done ++ map (pair_after tick second) l) left_is)
-      ∙ known
-
 lawful_from : (r : RecordData) (later : List SeenData → List PairData) → ((rows : List SeenData) → list_all is_lawful_row rows ≡ true → list_all has_lawful_row (later rows) ≡ true) → (rows : List SeenData) → list_all is_lawful_row rows ≡ true → list_all has_lawful_row (pairs_from r later rows) ≡ true
 lawful_from r later lawful [] e = lawful [] refl
 lawful_from r later lawful (row ∷ rows) e =
-    let parts = both_true (is_lawful_row row) (list_all is_lawful_row rows) e in
+    let parts = and_parts (is_lawful_row row) (list_all is_lawful_row rows) e in
     by (name_cmp r.name row.name) parts.0 (lawful (row ∷ rows) e) (lawful rows parts.1) (lawful_from r later lawful rows parts.1)
   where
     by : (o : Ordering) → is_lawful_row row ≡ true → list_all has_lawful_row (later (row ∷ rows)) ≡ true → list_all has_lawful_row (later rows) ≡ true → list_all has_lawful_row (pairs_from r later rows) ≡ true → list_all has_lawful_row (by_order o (record_alone r ∷ later (row ∷ rows)) (record_and_row r row ∷ later rows) (row_alone row ∷ pairs_from r later rows)) ≡ true
@@ -165,7 +137,7 @@ rows_lawful (r ∷ rs) rows e = lawful_from r (run_pairs rs) (λ rows h. rows_la
 lawful_after : (r : RecordData) (later : List SeenData → List SeenData) → ((rows : List SeenData) → list_all is_lawful_row rows ≡ true → list_all is_lawful_row (later rows) ≡ true) → (rows : List SeenData) → list_all is_lawful_row rows ≡ true → list_all is_lawful_row (rows_after r later rows) ≡ true
 lawful_after r later lawful [] e = lawful [] refl
 lawful_after r later lawful (row ∷ rows) e =
-    let parts = both_true (is_lawful_row row) (list_all is_lawful_row rows) e in
+    let parts = and_parts (is_lawful_row row) (list_all is_lawful_row rows) e in
     by (name_cmp r.name row.name) (lawful (row ∷ rows) e) (lawful rows parts.1) (lawful_after r later lawful rows parts.1)
   where
     by : (o : Ordering) → list_all is_lawful_row (later (row ∷ rows)) ≡ true → list_all is_lawful_row (later rows) ≡ true → list_all is_lawful_row (rows_after r later rows) ≡ true → list_all is_lawful_row (by_order o (later (row ∷ rows)) (later rows) (rows_after r later rows)) ≡ true
@@ -177,15 +149,3 @@ lawful_after r later lawful (row ∷ rows) e =
 pub lawful_behind : (rs : List RecordData) (rows : List SeenData) → list_all is_lawful_row rows ≡ true → list_all is_lawful_row (rows_behind rs rows) ≡ true
 lawful_behind [] rows e = e
 lawful_behind (r ∷ rs) rows e = lawful_after r (rows_behind rs) (λ rows h. lawful_behind rs rows h) rows e
-
--- what was seen so far and what is left decide, after the first pair that is left is seen
-pub seen_one : (test : PairData → Bool) (before here all : Bool) (p : PairData) (left next : List PairData) → left ≡ p ∷ next → here ≡ (before && test p) → (before && list_all test left) ≡ all → (here && list_all test next) ≡ all
-seen_one test before here all p left next left_is here_is known = ap (λ b. b && list_all test next) here_is ∙ at before (test p) (list_all test next) ∙ sym (ap (λ l. before && list_all test l) left_is) ∙ known
-  where
-    at : (a b c : Bool) → ((a && b) && c) ≡ (a && (b && c))
-    at true b c = refl
-    at false b c = refl
-
--- if the rows of all pairs are lawful, the row of the first and the rows of the others are
-pub lawful_taken : (p : PairData) (left next : List PairData) → left ≡ p ∷ next → IsTrue (list_all has_lawful_row left) → IsTrue (has_lawful_row p) × IsTrue (list_all has_lawful_row next)
-lawful_taken p left next left_is all = both_true (has_lawful_row p) (list_all has_lawful_row next) (sym (ap (list_all has_lawful_row) left_is) ∙ all)

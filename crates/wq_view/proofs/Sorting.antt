@@ -12,11 +12,12 @@ use Rattle.std.specs.List.Sorted.{IsStrictlySortedBy, IsSortedBy, IsPermutation}
 use Rattle.std.proofs.lemmas.List.{get_or-map, length-map}
 use Rattle.std.proofs.lemmas.List.Sorted.{IsPermutation-map, IsPermutation-sym}
 use Rattle.std.proofs.lemmas.Map.Keys.{IsDistinct-from_sorted, IsDistinct-IsPermutation, Less-from_sorted, apart_from_distinct, sorted_from_all_adjacent}
+use Rattle.wq_base.proofs.Facts.{less_from_lt}
 use Rattle.wq_record.specs.declared.kind.Kind.TheVariants.{Unknown}
 use Rattle.wq_record.specs.Seen.{SeenData, entry_of}
 use Rattle.wq_record.specs.Name.{name_cmp}
 use Rattle.wq_view.specs.Listing.{names_of}
-use Rattle.wq_view.proofs.NameOrder.{names_total, less_from_lt, sorted_from_rising, rising_from_sorted}
+use Rattle.wq_view.proofs.NameOrder.{names_total, sorted_from_rising, rising_from_sorted}
 
 -- a row past the end
 nobody : SeenData

@@ -2,11 +2,11 @@
 use Rattle.std.proofs.Common.{◌≡◌, ℕ, true, ◌&&◌, ◌==◌, cond, sym, refl, ap, ◌∙◌}
 use Rattle.std.specs.Ordering.{int_eq}
 use Rattle.std.proofs.lemmas.Bool.Decides.{Decides-int_eq, Decides-eqb}
+use Rattle.std.proofs.lemmas.Bool.{and_parts}
 use Rattle.wq_record.specs.declared.kind.Kind.{Kind}
 use Rattle.wq_record.specs.declared.kind.Kind.TheVariants.{File, Dir, Link, Block, Char, Fifo, Socket, Door, Unknown}
 use Rattle.wq_record.specs.Kind.{letter_of}
 use Rattle.wq_record.specs.Seen.{Stat, same_stat}
-use Rattle.wq_view.proofs.NameOrder.{both_true}
 
 -- the kind that has a letter
 kind_of : ℕ → Kind
@@ -31,8 +31,8 @@ same_kind k l e = sym (kind_of-letter_of k) ∙ ap kind_of e ∙ kind_of-letter_
 -- stats that are tested to be the same are equal
 pub one_stat : (a b : Stat) → same_stat a b ≡ true → a ≡ b
 one_stat a b e =
-    let front = both_true ((letter_of a.kind == letter_of b.kind) && int_eq a.size b.size) (int_eq a.mtime_ms b.mtime_ms) e in
-    let parts = both_true (letter_of a.kind == letter_of b.kind) (int_eq a.size b.size) front.0 in
+    let front = and_parts ((letter_of a.kind == letter_of b.kind) && int_eq a.size b.size) (int_eq a.mtime_ms b.mtime_ms) e in
+    let parts = and_parts (letter_of a.kind == letter_of b.kind) (int_eq a.size b.size) front.0 in
     let kinds = same_kind a.kind b.kind ((Decides-eqb (letter_of a.kind) (letter_of b.kind)).0 parts.0) in
     let sizes = (Decides-int_eq a.size b.size).0 parts.1 in
     let times = (Decides-int_eq a.mtime_ms b.mtime_ms).0 front.1 in

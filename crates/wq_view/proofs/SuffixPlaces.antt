@@ -1,7 +1,6 @@
 -- The positions of records that pass a test, record by record.
-use Rattle.std.proofs.Common.{◌≡◌, ◌≢◌, ℕ, zero, suc, ◌+◌, ◌-◌, ◌<◌, ◌≤◌, Bool, true, false, cond, ◌||◌, List, [], ◌∷◌, ◌++◌, length, map, drop, get_or, slice_get, Some, sym, refl, ap, ◌∙◌, arith}
+use Rattle.std.proofs.Common.{◌≡◌, ◌≢◌, ℕ, zero, suc, ◌+◌, ◌-◌, ◌<◌, Bool, true, false, cond, ◌||◌, List, [], ◌∷◌, ◌++◌, length, map, drop, get_or, slice_get, sym, refl, ap, ◌∙◌, arith}
 use Rattle.std.proofs.lemmas.List.{drop_more}
-use Rattle.std.proofs.Math.ListN.{drop_of_length-le}
 use Rattle.wq_record.specs.RecordData.{RecordData}
 use Rattle.wq_view.specs.Position.{places_from, positions_from, positions_of}
 use Rattle.wq_view.specs.Suffix.{has_suffix, has_suffix_of}
@@ -56,14 +55,6 @@ module _ (test : RecordData → Bool) where
   here rs i at r b low is e =
       ap (places_from test (at + i)) (drop_more rs i r low ∙ ap (λ x. x ∷ drop (i + 1) rs) (sym is)) ∙ ap (λ t. cond t ((at + i) ∷ places_from test (at + i + 1) (drop (i + 1) rs)) (places_from test (at + i + 1) (drop (i + 1) rs))) e
 
-  pub all_after : (at : ℕ) (rs : List RecordData) → places_after at rs 0 ≡ places_from test at rs
-  all_after at rs =
-      let same : at + 0 ≡ at = omega arith in
-      ap (λ n. places_from test n rs) same
-
-  pub none_after : (at : ℕ) (rs : List RecordData) (i : ℕ) → length rs ≤ i → places_after at rs i ≡ []
-  none_after at rs i past = ap (places_from test (at + i)) (drop_of_length-le rs past)
-
   pub found_after : (at : ℕ) (rs : List RecordData) (i : ℕ) (r : RecordData) → i < length rs → r ≡ get_or rs i r → test r ≡ true → places_after at rs i ≡ (at + i) ∷ places_after at rs (i + 1)
   found_after at rs i r low is passes =
       let next : at + i + 1 ≡ at + (i + 1) = omega arith in
@@ -98,7 +89,3 @@ nth_later x xs zero left some is = absurd (some refl)
 nth_later x xs (suc k) left some is =
     let same : k ≡ left = omega (arith, is) in
     ap (slice_get xs) same
-
--- the first one is the one sought
-pub nth_first : (x : ℕ) (xs : List ℕ) (k : ℕ) → k ≡ 0 → slice_get (x ∷ xs) k ≡ Some x
-nth_first x xs k none = ap (slice_get (x ∷ xs)) none

@@ -18,10 +18,6 @@ more_after (suc m) n count =
     let next : suc m + n ≡ suc (m + n) = omega arith in
     ap (λ k. count_after k count) next ∙ more_after m n (min (count + 1) (2 ^ 64 - 1))
 
-pub few_after : (looks count : ℕ) → count_after looks count ≤ count + looks
-few_after zero count = omega arith
-few_after (suc looks) count = omega (arith, few_after looks (min (count + 1) (2 ^ 64 - 1)))
-
 pub no_records : (slots : List Slot) (i : ℕ) → length slots ≤ i → records_in (drop i slots) ≡ []
 no_records slots i past = ap records_in (drop_of_length-le slots past)
 

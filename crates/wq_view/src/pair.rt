@@ -110,7 +110,7 @@ impl<'a> Pairs<'a> {
 
     /// Takes the first pair.
     #[inline(always)]
-    #[tactic(auto, using(crate::proofs::NameOrder::order_of_same, crate::proofs::NameOrder::less_from_lt, crate::proofs::NameOrder::order_of_others))]
+    #[tactic(auto, using(crate::proofs::NameOrder::order_of_same, wq_base::proofs::Facts::less_from_lt, crate::proofs::NameOrder::order_of_others))]
     pub(crate) fn take(&mut self) -> Option<Pair<'a>>
         ensures pairs { MatchOption result
             ((pairs_left self.old ≡ []) × (self.new.rows.now ≡ rows_left self.old))

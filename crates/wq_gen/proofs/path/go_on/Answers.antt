@@ -1,11 +1,11 @@
 -- The name is short, and the directory is too deep.
 use Rattle.std.proofs.Common.{◌≡◌, is_some, length, slice_get, Some, sym, ap, subst, ◌∙◌, arith}
+use Rattle.wq_term.proofs.Texts.{name_is_short}
 use Rattle.wq_base.specs.Directory.{rest_below}
 use Rattle.wq_base.specs.declared.compare.Case.TheVariants.{Exact}
 use Rattle.wq_record.specs.RecordData.{RecordData}
 use Rattle.wq_view.specs.View.{ViewData}
 use Rattle.wq_gen.proofs.Between.{below_there}
-use Rattle.wq_gen.proofs.Positions.{name_is_short}
 use Rattle.wq_gen.proofs.path.go_on.Goals as goal
 
 pub deep_directory-requires : goal.deep_directory-requires

@@ -1,11 +1,11 @@
 -- A patch that changes nothing, and one that does; at the end no patch is left.
 use Rattle.std.proofs.Common.{rules, ◌≡◌, ◌+◌, ◌++◌, ◌∷◌, [], ap, refl, sym, ◌∙◌}
 use Rattle.std.specs.Vec.Iter.{into_iter_items}
+use Rattle.std.proofs.lemmas.List.{nil_from_length}
 use Rattle.wq_patch.specs.PatchMaker.{records_behind, rows_before}
 use Rattle.wq_view.specs.Patch.{patched}
 use Rattle.wq_view.specs.declared.patch.Patch.{Patch}
 use Rattle.wq_patch.proofs.Carried.{carried, changed_carried, ended, plain_carried}
-use Rattle.wq_patch.proofs.PatchRuns.{none_of}
 use Rattle.wq_patch.proofs.patches.simplified.Goals as goal
 
 pub loop-patch-preserved-then-changes_nothing : goal.loop-patch-preserved-then-changes_nothing
@@ -50,7 +50,7 @@ pub returns : goal.returns
 returns c records =
     let fewer = c.loop-patch.fewer.items in
     let kept = c.loop-patch.kept in
-    let none : into_iter_items c.loop-patch.patch-iterator ≡ [] = none_of (into_iter_items c.loop-patch.patch-iterator) (sym c.loop-patch.invariant.len ∙ c.in-None.ensures.steps.0) in
+    let none : into_iter_items c.loop-patch.patch-iterator ≡ [] = nil_from_length (into_iter_items c.loop-patch.patch-iterator) (sym c.loop-patch.invariant.len ∙ c.in-None.ensures.steps.0) in
     let all : into_iter_items c.into_iter-patch-iterator.result ≡ c.args.patches.items = search rules in
     ended records fewer kept
     ∙ (λ j. rows_before records fewer ++ carried kept (records_behind records fewer) (sym none j))

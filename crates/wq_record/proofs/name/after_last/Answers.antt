@@ -2,12 +2,9 @@
 use Rattle.std.proofs.Common.{◌≡◌, ℕ, zero, suc, ◌+◌, ◌-◌, ◌<◌, ◌≤◌, Bool, true, false, not, ◌||◌, ◌==◌, List, [], ◌∷◌, length, drop, get_or, refl, sym, ap, ◌∙◌, arith}
 use Rattle.std.specs.List.{after_last, list_any, suffix_len}
 use Rattle.std.proofs.lemmas.List.Sums.{suffix_len_is}
+use Rattle.std.proofs.lemmas.Bool.{false_from_ne_true}
 use Rattle.memchr.specs.Find.{NoneAfter, Nowhere, Passes}
 use Rattle.wq_record.proofs.name.after_last.Goals as goal
-
-from_not_true : (b : Bool) → (b ≡ true → ⊥) → b ≡ false
-from_not_true true isnt = absurd (isnt refl)
-from_not_true false isnt = refl
 
 -- the bytes from n on fail the test, and the one before them passes: they are the part after the last such byte
 module _ (byte : ℕ) (bytes : List ℕ) where
@@ -18,7 +15,7 @@ module _ (byte : ℕ) (bytes : List ℕ) where
   is_other b = not (is_it b)
 
   other_from : (n : ℕ) → Nowhere (Passes is_it bytes) n (length bytes) → (k : ℕ) → n ≤ k → k < length bytes → is_other (get_or bytes k 0) ≡ true
-  other_from n none k low high = ap not (from_not_true _ (none k low high))
+  other_from n none k low high = ap not (false_from_ne_true _ (none k low high))
 
   pub after_place : (at : ℕ) → NoneAfter (Passes is_it bytes) 0 (length bytes) at → Passes is_it bytes at → drop (at + 1) bytes ≡ after_last is_it bytes
   after_place at place here =
@@ -36,7 +33,7 @@ module _ (byte : ℕ) (bytes : List ℕ) where
 
 pub any_none : (test : ℕ → Bool) (bytes : List ℕ) → Nowhere (Passes test bytes) 0 (length bytes) → list_any test bytes ≡ false
 any_none test [] none = refl
-any_none test (b ∷ bytes) none = rw (from_not_true (test b) (none 0 (omega arith) (omega arith))) (any_none test bytes (λ k low high. none (suc k) (omega arith) (omega arith)))
+any_none test (b ∷ bytes) none = rw (false_from_ne_true (test b) (none 0 (omega arith) (omega arith))) (any_none test bytes (λ k low high. none (suc k) (omega arith) (omega arith)))
 
 pub any_here : (test : ℕ → Bool) (bytes : List ℕ) (at : ℕ) → at < length bytes → Passes test bytes at → list_any test bytes ≡ true
 any_here test [] at h here = absurd (omega arith)

@@ -1,14 +1,16 @@
 -- A batch with files has a list, and is polled at a newer view.
 use Rattle.std.proofs.Common.{◌≡◌, ◌≢◌, ◌++◌, ◌∷◌, List, [], length, rules, ap, sym, ◌∙◌}
 use Rattle.std.proofs.lemmas.List.{append-nil}
+use Rattle.wq_base.proofs.Fronts.{on_err}
 use Rattle.wq_record.specs.RecordData.{RecordData}
 use Rattle.wq_clock.specs.Instance.{instance_data}
 use Rattle.wq_reply.specs.Following.{list_data}
 use Rattle.wq_follow.specs.Batch.{polled}
 use Rattle.wq_follow.specs.Followed.{subscription_data}
 use Rattle.wq_session.specs.Moment.{listed_once}
-use Rattle.wq_session.proofs.Polled.{list_told, no_files, on_err, some_files, wants_memory}
+use Rattle.wq_session.proofs.Polled.{list_told}
 use Rattle.wq_follow.specs.Subscription.{text_if_any}
+use Rattle.wq_follow.proofs.Rounds.{some_files, no_files, wants_memory}
 use Rattle.wq_session.proofs.moment.tell.Goals as goal
 use Rattle.wq_session.proofs.moment.tell.Goals.{then-not-is_empty+in_ok-list+in_ok-of_text+in_ok-push, else-not-is_empty}
 
@@ -16,21 +18,21 @@ pub returns-in_err-list-clause-wants : goal.returns-in_err-list-clause-wants
 returns-in_err-list-clause-wants c =
     let s = subscription_data c.args.subscription.now in
     let some : length c.in_ok-batch.batch.files.items ≢ 0 = search rules in
-    on_err c.from_residual-in_err-list.result _ (wants_memory s.follower c.args.view.now
+    on_err c.from_residual-in_err-list.result (wants_memory s.follower c.args.view.now
     (some_files c.args.view.now.records (polled s.follower c.args.view.now) c.in_ok-batch.batch c.in_ok-batch.ensures.batch some))
 
 pub returns-in_err-of_text-clause-wants : goal.returns-in_err-of_text-clause-wants
 returns-in_err-of_text-clause-wants c =
     let s = subscription_data c.args.subscription.now in
     let some : length c.in_ok-batch.batch.files.items ≢ 0 = search rules in
-    on_err c.from_residual-in_err-of_text.result _ (wants_memory s.follower c.args.view.now
+    on_err c.from_residual-in_err-of_text.result (wants_memory s.follower c.args.view.now
     (some_files c.args.view.now.records (polled s.follower c.args.view.now) c.in_ok-batch.batch c.in_ok-batch.ensures.batch some))
 
 pub returns-in_err-push-clause-wants : goal.returns-in_err-push-clause-wants
 returns-in_err-push-clause-wants c =
     let s = subscription_data c.args.subscription.now in
     let some : length c.in_ok-batch.batch.files.items ≢ 0 = search rules in
-    on_err c.from_residual-in_err-push.result _ (wants_memory s.follower c.args.view.now
+    on_err c.from_residual-in_err-push.result (wants_memory s.follower c.args.view.now
     (some_files c.args.view.now.records (polled s.follower c.args.view.now) c.in_ok-batch.batch c.in_ok-batch.ensures.batch some))
 
 pub returns-clause-told : goal.returns-clause-told

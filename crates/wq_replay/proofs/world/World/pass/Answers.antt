@@ -4,9 +4,10 @@ use Rattle.wq_live.specs.Event.{number_of, passes_over}
 use Rattle.wq_live.specs.Table.{IsNews, IsNoNews, IsTableOf}
 use Rattle.wq_live.specs.declared.event.RootEvent.TheVariants.{Passed}
 use Rattle.wq_crawl.specs.declared.fault.CrawlFault.TheVariants.{TicksSpent}
+use Rattle.wq_crawl.proofs.Tables.{given_some}
 use Rattle.wq_record.specs.Limit.{max_tick}
 use Rattle.wq_replay.specs.World.{at_events, refusing, unrefused}
-use Rattle.wq_replay.proofs.Worlds.{crawls_none, crawls_shown, given_none, given_some, some_holds}
+use Rattle.wq_replay.proofs.Worlds.{crawls_none, crawls_shown, given_none, some_holds}
 use Rattle.wq_replay.proofs.world.World.pass.Goals as goal
 
 pub returns-in_default : goal.returns-in_default

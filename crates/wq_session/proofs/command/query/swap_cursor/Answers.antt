@@ -1,10 +1,11 @@
 -- A cursor is used, with the meaning of the triggers.
 use Rattle.std.proofs.Common.{ap, subst, sym, ◌∙◌, is_none}
+use Rattle.std.proofs.lemmas.Result.{on_ok_weaker, on_err_weaker}
 use Rattle.wq_registry.specs.ByName.{has_no_place, under}
 use Rattle.wq_registry.specs.Limit.{max_cursors}
 use Rattle.wq_registry.specs.Refusal.{Refuses}
 use Rattle.wq_registry.specs.Root.{numbered}
-use Rattle.wq_session.proofs.Shelves.{cursors_now, if_err, if_ok, if_ok_with, used_now}
+use Rattle.wq_session.proofs.Shelves.{cursors_now, if_ok_with, used_now}
 use Rattle.wq_session.specs.Shelved.{shelf_data}
 use Rattle.wq_session.proofs.command.query.swap_cursor.Goals as goal
 
@@ -14,10 +15,10 @@ returns-clause-old c =
 
 pub returns-clause-used : goal.returns-clause-used
 returns-clause-used c =
-    if_ok c.swap_cursor.result (λ is. ap shelf_data is ∙ sym (used_now c.args.root c.args.name.now c.args.tick c.args.shelf.now)) c.swap_cursor.ensures.used
+    on_ok_weaker c.swap_cursor.result (λ is. ap shelf_data is ∙ sym (used_now c.args.root c.args.name.now c.args.tick c.args.shelf.now)) c.swap_cursor.ensures.used
 
 pub returns-clause-kept : goal.returns-clause-kept
-returns-clause-kept c = if_err c.swap_cursor.result (λ is. ap shelf_data is) c.swap_cursor.ensures.kept
+returns-clause-kept c = on_err_weaker c.swap_cursor.result (λ is. ap shelf_data is) c.swap_cursor.ensures.kept
 
 pub returns-clause-refused : goal.returns-clause-refused
 returns-clause-refused c =

@@ -1,13 +1,14 @@
 -- One more subscription was told, or the moment ends.
 use Rattle.std.proofs.Common.{rules, ◌≡◌, ◌<◌, ◌++◌, length, map, option_map, Result, Ok, Err, ap, sym, subst, ◌∙◌, arith, ℕ}
 use Rattle.std.specs.declared.alloc.AllocError.{AllocError}
+use Rattle.std.proofs.lemmas.List.{length-map}
 use Rattle.wq_follow.specs.Followed.{subscription_data}
 use Rattle.wq_session.specs.Out.{tells_lists}
 use Rattle.wq_crawl.specs.At.{at_data}
 use Rattle.wq_session.specs.Followed.{follows_of}
 use Rattle.wq_session.specs.Moment.{Idles, Shown, TellsOne, left_of, shown_data, shown_in}
 use Rattle.wq_session.specs.declared.session.Session.{Session}
-use Rattle.wq_session.proofs.Moments.{all_told, has_next, length_made, next_one, ran_out, told_one}
+use Rattle.wq_session.proofs.Moments.{all_told, has_next, next_one, ran_out, told_one}
 use Rattle.wq_session.proofs.session.Session.idle.Goals as goal
 use Rattle.wq_session.proofs.session.Session.idle.Goals.{else-loop-test, then-loop-test+in-Err}
 
@@ -18,9 +19,9 @@ tell_one-requires c =
     let follows = follows_of c.args.self.now in
     let now = follows_of c.loop.self in
     let more : c.loop.counter < length follows =
-    subst (λ n. c.loop.counter < n) (counted ∙ sym (length_made subscription_data c.args.self.now.subscriptions.items)) c.loop-test.true in
+    subst (λ n. c.loop.counter < n) (counted ∙ sym (length-map c.args.self.now.subscriptions.items subscription_data)) c.loop-test.true in
     let it = next_one c.args.root at follows now c.loop.counter c.loop.place c.loop.lists.items c.loop.invariant more in
-    subst (λ n. c.loop.place < n) (length_made subscription_data c.loop.self.subscriptions.items)
+    subst (λ n. c.loop.place < n) (length-map c.loop.self.subscriptions.items subscription_data)
     (has_next c.args.root at follows now c.loop.counter c.loop.place c.loop.lists.items c.loop.invariant it.0 it.1 it.2)
 
 pub loop-preserved : goal.loop-preserved
@@ -31,7 +32,7 @@ loop-preserved c =
     let now = follows_of c.loop.self in
     let so = c.loop.invariant in
     let more : c.loop.counter < length follows =
-    subst (λ n. c.loop.counter < n) (counted ∙ sym (length_made subscription_data c.args.self.now.subscriptions.items)) c.loop-test.true in
+    subst (λ n. c.loop.counter < n) (counted ∙ sym (length-map c.args.self.now.subscriptions.items subscription_data)) c.loop-test.true in
     let it = next_one c.args.root at follows now c.loop.counter c.loop.place c.loop.lists.items so more in
     let front = left_of c.args.root (shown_in at) so.polled in
     let tells = c.tell_one.ensures front it.0 it.1 (so.left ∙ ap (λ l. front ++ l) it.2) so.placed in
@@ -52,14 +53,14 @@ returns c =
     elim c.loop-test.branch [
       | else-loop-test w ↦
           let end : c.len-end.result ≡ length follows =
-          counted ∙ sym (length_made subscription_data c.args.self.now.subscriptions.items) in
+          counted ∙ sym (length-map c.args.self.now.subscriptions.items subscription_data) in
           let all : c.loop.counter ≡ length follows = omega (arith, end, c.loop.auto.counter-end, w.loop-test.false) in
           subst (λ (x : Session). Idles c.args.root at follows c.of_lists.result (follows_of x)) (sym w.self-is)
           (all_told c.args.root at follows now c.loop.counter c.loop.place c.loop.lists.items so c.of_lists.result all
           (c.of_lists.ensures ∙ ap (λ l. tells_lists l.items) w.lists-is))
       | then-loop-test+in-Err w ↦
           let more : c.loop.counter < length follows =
-          subst (λ n. c.loop.counter < n) (counted ∙ sym (length_made subscription_data c.args.self.now.subscriptions.items)) w.loop-test.true in
+          subst (λ n. c.loop.counter < n) (counted ∙ sym (length-map c.args.self.now.subscriptions.items subscription_data)) w.loop-test.true in
           let it = next_one c.args.root at follows now c.loop.counter c.loop.place c.loop.lists.items so more in
           let front = left_of c.args.root (shown_in at) so.polled in
           let tells = w.tell_one.ensures front it.0 it.1 (so.left ∙ ap (λ l. front ++ l) it.2) so.placed in
