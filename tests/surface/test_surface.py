@@ -1,5 +1,6 @@
 """Whether the libraries have the public types, traits and calls that the file `calls` lists, each in its shape; and
-whether docs/DECISIONS.md has a row for each that differs, and no other row. The calls of docs/LIBRARY.md are there."""
+whether docs/DECISIONS.md has a row for each that differs, and no other row. The calls of docs/LIBRARY.md are there. A
+program of the tests makes each planned call."""
 
 import re
 from pathlib import Path
@@ -14,6 +15,8 @@ DECISIONS = built.TOP / "docs" / "DECISIONS.md"
 LIBRARY = built.TOP / "docs" / "LIBRARY.md"
 SECTION = "## Calls that differ"
 NAMES = [path.name for path in sorted(CRATES.iterdir())]
+# The programs of tests, which are compiled without proof, and the crate of tests.
+PROGRAMS = [*built.TOP.glob("tests/*/*.rattle"), *CRATES.glob("wq_tests/src/*.rt")]
 
 
 class Row(NamedTuple):
@@ -64,8 +67,24 @@ def found(call: Declared, account: Account) -> Optional[str]:
 
 def is_as_planned(call: Declared, account: Account) -> bool:
     shape = found(call, account)
+    # A word with another name may also be that of a variant, which keeps it.
     words = re.sub(r"\w+", lambda word: account.words.get(word[0], word[0]), call.shape)
-    return shape is not None and call._replace(shape=words).is_as(shape)
+    return shape is not None and (call.is_as(shape) or call._replace(shape=words).is_as(shape))
+
+
+def is_called(name: str, program: str) -> bool:
+    """Whether a program names the crate's function and calls it; or names the type or trait of a method, and calls a
+    method of this name or has a body of it."""
+    owner, _, call = name.rpartition("::")
+    called = rf"{call}(?:::<[^;()]*>)?\("
+    if not owner:
+        is_named = re.search(rf"\buse wq_\w+::(?:\{{[^}}]*\b)?{call}\b", program)
+        return bool(is_named and re.search(rf"(?<![.\w]){called}", program))
+    is_of_trait = re.search(rf"\bimpl\b[^;{{]*\b{owner}\b[^;{{]* for ", program)
+    if is_of_trait and re.search(rf"\bfn {call}\b", program):
+        return True
+    is_named = re.search(rf"\b{owner}\b", program)
+    return bool(is_named and re.search(rf"(?:\b{owner}::|\.\s*){called}", program))
 
 
 def is_there(text: str) -> bool:
@@ -122,6 +141,18 @@ class Calls(Case):
             for text in row.now:
                 self.check(f"{text} is there", is_there(text))
 
+    def test_each_call_is_made_by_a_program_of_the_tests(self) -> None:
+        programs = [re.sub(r"//[^\n]*", "", path.read_text(encoding="utf-8")) for path in PROGRAMS]
+        for call in self.plan:
+            if call.shape.startswith("("):
+                name = call.name if found(call, self.account) else self.name_today(call)
+                self.check(f"a program calls {name}", any(is_called(name, program) for program in programs))
+
+    def name_today(self, call: Declared) -> str:
+        """The name of what is there in place of a planned call."""
+        rows = [row for row in self.account.rows if call.name in {declared(text).name for text in row.planned}]
+        return next((declared(text).name for row in rows for text in row.now), call.name)
+
     def test_calls_of_the_guide_are_there(self) -> None:
         for cells in cells_of(LIBRARY.read_text(encoding="utf-8")):
             for text in cells[0]:
@@ -145,6 +176,18 @@ class Shapes(Case):
             ),
         ]:
             self.same(text, shape_of_call(text), expected)
+
+    def test_what_calls(self) -> None:
+        for name, program, expected in [
+            ("of", "use wq_a::{b, of};\nof(1)", True),
+            ("of", "use crate::a::of;\nof(1)", False),
+            ("of", "use wq_a::of;\na.of(1)", False),
+            ("A::of", "use wq_a::A;\nA::of(1)", True),
+            ("A::of", "fn b(a: &A) { a.of::<u8>(1) }", True),
+            ("A::of", "impl A for B {\n    fn of() {}\n}", True),
+            ("A::of", "a.of(1)", False),
+        ]:
+            self.same(f"{name} in {program}", is_called(name, program), expected)
 
     def test_types(self) -> None:
         self.same(

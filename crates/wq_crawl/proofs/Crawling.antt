@@ -24,8 +24,8 @@ use Rattle.wq_patch.specs.Device.{Gave}
 use Rattle.wq_live.specs.declared.event.RootEvent.{RootEvent}
 use Rattle.wq_view.specs.Listing.{PassData, is_of_whole, listing_fault, listing_of}
 use Rattle.wq_crawl.specs.declared.fault.CrawlFault.{CrawlFault}
-use Rattle.wq_crawl.specs.declared.fault.CrawlFault.TheVariants.{NoMemory}
-use Rattle.wq_crawl.specs.Crawl.{Began, CrawledAt, CrawlerData, IsNoPassOver, IsOfRows, IsPassOver, IsRelisted, ListsAgain, no_pass}
+use Rattle.wq_crawl.specs.declared.fault.CrawlFault.TheVariants.{NoMemory, Pass as NoPass}
+use Rattle.wq_crawl.specs.Crawl.{Began, CrawledAt, CrawlerData, IsNoPassOver, IsOfRows, IsPassOver, IsRelisted, ListsAgain}
 use Rattle.wq_crawl.specs.Publish.{IsNotTakenIn, Passes, with_start}
 
 -- what a search finds passes a test of all
@@ -97,7 +97,7 @@ module _ (number : ℕ) (text : List ℕ) (before begun mid shown : CrawlerData)
 
   -- it gave rows that make no pass
   pub rows_fault : (rows : List SeenData) (why : PassFault) → Lists begun.listed text (Ok rows) mid.listed → IsTrue (list_all is_lawful_row rows)
-      → IsTrue (is_of_whole why) → listing_fault rows second ≡ Some why → IsNoPassOver text before (no_pass why) (record shown { clock = clock })
+      → IsTrue (is_of_whole why) → listing_fault rows second ≡ Some why → IsNoPassOver text before (NoPass why) (record shown { clock = clock })
   rows_fault rows why lists lawful whole fault = inr (rows, second, why, lists_then rows lists, gave_then, lawful, whole, fault, refl)
 
   -- the files differ by patches from those of the view
@@ -117,7 +117,7 @@ module _ (number : ℕ) (text : List ℕ) (before begun mid shown : CrawlerData)
   pub patches_fault : (patches : Vec Patch Global) (why : PassFault) → ListsAgain number text begun (Patches patches) mid → IsTrue (is_of_whole why)
       → ((records : List RecordData) (ps : List Patch) → NamesRise records → ArePatches records ps → IsTrue (list_all is_lawful_row (patched records ps))
       → length (patched records ps) ≤ max_listing_rows → Some why ≡ listing_fault (patched records ps) second)
-      → IsNoPassOver text before (no_pass why) (record shown { clock = clock })
+      → IsNoPassOver text before (NoPass why) (record shown { clock = clock })
   patches_fault patches why (view, is_view, lists, make, few) whole fault =
       rows_fault (patched view.records patches.items) why lists make.lawful whole (sym (fault view.records patches.items is_view.ordered make.fit make.lawful few))
 

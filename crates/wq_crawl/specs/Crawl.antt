@@ -12,7 +12,6 @@ use Rattle.wq_view.specs.Patch.{patched}
 use Rattle.wq_view.specs.Change.{MakePass, pass_by}
 use Rattle.wq_record.specs.Seen.{SeenData, is_count, is_lawful_row}
 use Rattle.wq_view.specs.declared.listing.PassFault.{PassFault}
-use Rattle.wq_view.specs.declared.listing.PassFault.TheVariants.{TooManyRows}
 use Rattle.wq_live.specs.Log.{events_code}
 use Rattle.wq_live.specs.declared.event.RootEvent.{RootEvent}
 use Rattle.wq_patch.specs.Device.{Gave}
@@ -22,14 +21,8 @@ use Rattle.wq_patch.specs.Tree.{IsCounted, ListedData, Lists, listed_code}
 use Rattle.wq_patch.specs.declared.tree.Listing.{Listing}
 use Rattle.wq_patch.specs.declared.tree.Listing.TheVariants.{Rows, Patches}
 use Rattle.wq_patch.specs.declared.tree.TreeFault.{TreeFault}
-use Rattle.wq_patch.specs.declared.tree.TreeFault.TheVariants.{Unreadable as UnreadableTree}
-use Rattle.wq_patch.specs.declared.tree.TreeFault.TheVariants.{TooManyRows as TooManyTreeRows}
-use Rattle.wq_patch.specs.declared.tree.TreeFault.TheVariants.{NoHandle as NoTreeHandle}
-use Rattle.wq_patch.specs.declared.tree.TreeFault.TheVariants.{NoMemory as NoTreeMemory}
-use Rattle.wq_patch.specs.declared.tree.TreeFault.TheVariants.{GaveWay as TreeGaveWay}
 use Rattle.wq_crawl.specs.declared.fault.CrawlFault.{CrawlFault}
-use Rattle.wq_crawl.specs.declared.fault.CrawlFault.TheVariants.{Unreadable, TooManyFiles}
-use Rattle.wq_crawl.specs.declared.fault.CrawlFault.TheVariants.{GaveWay, NoHandle, TooManyRoots}
+use Rattle.wq_crawl.specs.declared.fault.CrawlFault.TheVariants.{Tree as NotListed, Pass as NoPass, TooManyRoots}
 use Rattle.wq_crawl.specs.declared.fault.CrawlFault.TheVariants.{NoMemory}
 use Rattle.wq_crawl.specs.declared.relisted.Relisted.{Relisted}
 use Rattle.wq_crawl.specs.declared.relisted.Relisted.TheVariants.{Pass, Patched}
@@ -93,20 +86,6 @@ crawler_at events lister = record {
   whole = lister.whole;
 }
 
--- the crawl fault of a root that the tree does not list
-abbrev pub not_listed : TreeFault → CrawlFault
-not_listed UnreadableTree = Unreadable
-not_listed NoTreeHandle = NoHandle
-not_listed TooManyTreeRows = TooManyFiles
-not_listed TreeGaveWay = GaveWay
-not_listed NoTreeMemory = NoMemory
-
--- the fault of a root whose rows, each of them lawful, make no pass: they are too many, or a name
--- comes twice, or the second is out of range
-abbrev pub no_pass : PassFault → CrawlFault
-no_pass TooManyRows = TooManyFiles
-no_pass _ = Unreadable
-
 -- a pass has the rows that the tree gave for a root, if the tree shows its rows
 abbrev pub IsOfRows : Option (ℕ × ListedData) → List ℕ → PassData → Option (ℕ × ListedData)
     → Type 0
@@ -127,11 +106,11 @@ abbrev pub IsNoPassOver : List ℕ → CrawlerData → CrawlFault → CrawlerDat
 IsNoPassOver text before fault after =
     ((why : TreeFault) × Lists before.listed text (Err why) after.listed
     × (after.clock ≡ before.clock) × IsCounted before.failed after.failed why
-    × (fault ≡ not_listed why))
+    × (fault ≡ NotListed why))
     ⊎ ((rows : List SeenData) × (second : ℤ) × (why : PassFault)
     × Lists before.listed text (Ok rows) after.listed × Gave before.clock second after.clock
     × IsTrue (list_all is_lawful_row rows) × IsTrue (is_of_whole why)
-    × (listing_fault rows second ≡ Some why) × (fault ≡ no_pass why))
+    × (listing_fault rows second ≡ Some why) × (fault ≡ NoPass why))
 
 -- a tree listed the root of this number: it gave these rows; or it found the files that exist by
 -- the view of the passes over the root, but for patches. These are no more than a pass takes

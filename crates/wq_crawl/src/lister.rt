@@ -8,7 +8,7 @@ ghost use Rattle.wq_patch.specs.Tree.{AreLawful, IsCounted, IsFew, ListingFits, 
 ghost use Rattle.wq_crawl.specs.Crawl.{IsNoPassOver, IsPassOver, IsRelisted, ListsAgain, crawler_at};
 
 use crate::begun::Raised;
-use crate::fault::{CrawlFault, no_pass, not_listed};
+use crate::fault::CrawlFault;
 use crate::relisted::Relisted;
 use crate::seconds::Seconds;
 use std::marker::Model;
@@ -63,12 +63,12 @@ impl<T: Tree + Drop, S: Seconds + Drop> Lister<T, S> {
     {
         let rows = match self.tree.list(root) {
             Ok(rows) => rows,
-            Err(fault) => return Err(not_listed(fault)),
+            Err(fault) => return Err(CrawlFault::Tree(fault)),
         };
         let at = self.seconds.second();
         match Pass::of_lawful(rows, at) {
             Ok(pass) => Ok(pass),
-            Err(fault) => Err(no_pass(fault)),
+            Err(fault) => Err(CrawlFault::Pass(fault)),
         }
     }
 
@@ -91,17 +91,17 @@ impl<T: Tree + Drop, S: Seconds + Drop> Lister<T, S> {
     {
         let listing = match self.listing(table, number, root, recent) {
             Ok(listing) => listing,
-            Err(fault) => return Err(not_listed(fault)),
+            Err(fault) => return Err(CrawlFault::Tree(fault)),
         };
         let second = self.seconds.second();
         match listing {
             Listing::Rows(rows) => match Pass::of_lawful(rows, second) {
                 Ok(pass) => Ok(Relisted::Pass(pass)),
-                Err(fault) => Err(no_pass(fault)),
+                Err(fault) => Err(CrawlFault::Pass(fault)),
             },
             Listing::Patches(patches) => match Pass::fault_of_patches(second) {
                 None => Ok(Relisted::Patched(patches, second)),
-                Some(fault) => Err(no_pass(fault)),
+                Some(fault) => Err(CrawlFault::Pass(fault)),
             },
         }
     }

@@ -17,7 +17,7 @@ use wq_crawl::{Caller, CrawlFault, LockRoots, SeatViews, Seconds, SharedCrawler}
 use wq_follow::Trigger;
 use wq_launch::{Notices, Runs, Spawn, StartedCommand};
 use wq_live::Named;
-use wq_patch::{Reach, Tree};
+use wq_patch::{Reach, Tree, TreeFault};
 use wq_server::{Host, RootNumbers, Stop, Worked, refuse, time_since};
 use wq_session::{Ended, Kept, LockDesk, ReachedShelf, SharedShelf, serve};
 use wq_stream::Inbox;
@@ -175,7 +175,7 @@ where
         match crawled {
             Ok(()) => self.operator.tell_if_back(number, &root),
             // The server ends.
-            Err(CrawlFault::GaveWay) => return Worked { time, helped },
+            Err(CrawlFault::Tree(TreeFault::GaveWay)) => return Worked { time, helped },
             Err(fault) => self.operator.tell_once(number, &root, fault),
         }
         let began = Instant::now(&self.rt);

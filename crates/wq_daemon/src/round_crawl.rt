@@ -4,7 +4,7 @@ use std::sync::Wait;
 use std::time::{Clock, Duration, Instant};
 use wq_crawl::{Asked, CrawlFault, Seconds, SharedCrawler};
 use wq_live::Named;
-use wq_patch::Tree;
+use wq_patch::{Tree, TreeFault};
 use wq_server::{Stop, time_since};
 
 /// How many walks of a root a round gives up, before it waits for the crawler as a client does.
@@ -34,19 +34,19 @@ where
     let mut worked = Duration::ZERO;
     for _ in 0..MOST_GIVEN_UP {
         if stop.is_asked(rt) {
-            return (worked, Err(CrawlFault::GaveWay));
+            return (worked, Err(CrawlFault::Tree(TreeFault::GaveWay)));
         }
         if !crawler.wait_for_none(rt, root, Duration::from_secs(PATIENCE)) {
             break;
         }
         let (took, crawled) = crawl_since(rt, crawler, asked, root);
         worked = worked.saturating_add(took);
-        if crawled != Err(CrawlFault::GaveWay) {
+        if crawled != Err(CrawlFault::Tree(TreeFault::GaveWay)) {
             return (worked, crawled);
         }
     }
     if stop.is_asked(rt) {
-        return (worked, Err(CrawlFault::GaveWay));
+        return (worked, Err(CrawlFault::Tree(TreeFault::GaveWay)));
     }
     let began = Instant::now(rt);
     let crawled = crawler.crawl_soon(rt, asked, root);

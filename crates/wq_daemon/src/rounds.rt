@@ -96,7 +96,7 @@ where
         let ahead = self.found(asks, view);
         let mut shelf = shelf.lock(&self.rt);
         let mut launcher = self.launcher.lock(&self.rt);
-        shelf.round(self.alloc, instance, view, ahead.as_slice(), &mut *launcher);
+        shelf.round(instance, view, ahead.as_slice(), &mut *launcher);
     }
 
     /// What a round at a view of this tick asks for each trigger of the root of this number. If memory runs out, it is

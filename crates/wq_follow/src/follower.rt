@@ -44,12 +44,7 @@ impl Follower {
     ///
     /// At a view that is no newer than the last batch it takes no memory, and no time that grows
     /// with the view. What was found ahead is taken if it is of the plan's program and candidates.
-    pub fn poll(
-        &self,
-        alloc: Global,
-        view: &View,
-        ahead: Option<&Ahead>,
-    ) -> Result<Batch, AllocError>
+    pub fn poll(&self, view: &View, ahead: Option<&Ahead>) -> Result<Batch, AllocError>
         requires { IfSome ahead (λ ahead. IsAheadAt view.now.records ahead.now) }
         ensures batch { IfOk result (IsBatch view.now.records
             (polled (follower_data self.now) view.now)) }
@@ -60,9 +55,9 @@ impl Follower {
     {
         let tick = view.tick();
         if self.is_told(tick) {
-            return Ok(self.nothing(alloc, tick));
+            return Ok(self.nothing(view.allocator(), tick));
         }
-        self.listing(alloc, view, ahead)
+        self.listing(view, ahead)
     }
 
     /// The batch was told: the next one begins at its end. It takes no memory.
@@ -114,12 +109,7 @@ impl Follower {
     }
 
     /// The batch of the plan's list.
-    fn listing(
-        &self,
-        alloc: Global,
-        view: &View,
-        ahead: Option<&Ahead>,
-    ) -> Result<Batch, AllocError>
+    fn listing(&self, view: &View, ahead: Option<&Ahead>) -> Result<Batch, AllocError>
         requires { IfSome ahead (λ ahead. IsAheadAt view.now.records ahead.now) }
         ensures batch { IfOk result (IsBatch view.now.records
             (listing (follower_data self.now).plan view.now)) }
@@ -130,7 +120,7 @@ impl Follower {
             fresh: self.plan.bound().is_fresh(),
             from: self.plan.bound(),
             now: view.tick(),
-            files: self.plan.files_ahead(alloc, view, ahead)?,
+            files: self.plan.files_ahead(view.allocator(), view, ahead)?,
         })
     }
 }

@@ -84,14 +84,14 @@ impl Subscription {
     ///
     /// At a view that is no newer than the last batch it takes no memory, and no time that grows
     /// with the view.
-    pub fn poll(&self, alloc: Global, view: &View) -> Result<Batch, AllocError>
+    pub fn poll(&self, view: &View) -> Result<Batch, AllocError>
         ensures batch { IfOk result (IsBatch view.now.records
             (polled (subscription_data self.now).follower view.now)) }
         ensures tick { IfOk result (λ batch. batch.now ≤ max_number) }
         ensures wants { IfErr result (λ _.
             is_told ((subscription_data self.now).follower).last view.now.tick ≡ false) }
     {
-        self.follower.poll(alloc, view, None)
+        self.follower.poll(view, None)
     }
 
     /// The batch was sent: the next one begins at its end. It takes no memory.
@@ -144,7 +144,7 @@ impl Subscription {
             ≡ caught_up view.now (subscription_data self.old)) }
         ensures stays { OnErr result (subscription_data self.new ≡ subscription_data self.old) }
     {
-        let batch = self.poll(alloc, view)?;
+        let batch = self.poll(view)?;
         let text = self.list(alloc, instance, view, &batch)?;
         self.commit(&batch);
         Ok(text)

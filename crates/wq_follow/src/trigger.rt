@@ -11,7 +11,7 @@ use crate::launch::Launch;
 use crate::object_text::ObjectText;
 use crate::order::Order;
 use crate::start::{Start, start_of};
-use std::alloc::{AllocError, Global};
+use std::alloc::AllocError;
 use std::sync::Arc;
 use wq_base::Text;
 use wq_clock::{Bound, Instance};
@@ -111,14 +111,14 @@ impl Trigger {
     /// The next batch, at a view of the root. The trigger does not move: see [`commit`](Trigger::commit).
     ///
     /// At a view that is no newer than the last batch it takes no memory, and no time that grows with the view.
-    pub fn poll(&self, alloc: Global, view: &View) -> Result<Batch, AllocError>
+    pub fn poll(&self, view: &View) -> Result<Batch, AllocError>
         ensures batch { IfOk result (IsBatch view.now.records
             (polled (trigger_data self.now).follower view.now)) }
         ensures tick { IfOk result (λ batch. batch.now ≤ max_number) }
         ensures from { IfOk result (λ batch. IsClocked batch.from) }
         ensures wants { IfErr result (λ _. WantsMemory view.now (trigger_data self.now)) }
     {
-        self.follower.poll(alloc, view, None)
+        self.follower.poll(view, None)
     }
 
     /// The batch was told: the next one begins at its end. It takes no memory.
@@ -135,10 +135,9 @@ impl Trigger {
     /// Memory ran out.
     pub fn start_of(
         &self,
-        alloc: Global,
+        batch: &Batch,
         instance: &Instance,
         view: &View,
-        batch: &Batch,
     ) -> Result<Start, AllocError>
         requires within { AreWithin view.now.records batch.now.files.items }
         requires now { batch.now.now ≤ max_number }
@@ -146,7 +145,7 @@ impl Trigger {
         ensures { IfOk result (λ start. start_data start ≡ start_of (trigger_data self.now).order
             (instance_data instance.now) (batch_at view.now.records batch.entry.now)) }
     {
-        start_of(alloc, &self.order, instance, view, batch)
+        start_of(view.allocator(), &self.order, instance, view, batch)
     }
 
     /// A round: starts the command at a view of its root, if it does not run and files changed.
@@ -154,7 +153,6 @@ impl Trigger {
     /// If want of memory keeps it from that, it gives an error. No answer depends on what was found ahead.
     pub fn fire<L: Launch>(
         &mut self,
-        alloc: Global,
         instance: &Instance,
         view: &View,
         ahead: Option<&Ahead>,
@@ -172,12 +170,12 @@ impl Trigger {
             return Ok(());
         }
         self.running = None;
-        let batch = self.follower.poll(alloc, view, ahead)?;
+        let batch = self.follower.poll(view, ahead)?;
         if batch.files.is_empty() {
             self.follower.commit(&batch);
             return Ok(());
         }
-        let start = start_of(alloc, &self.order, instance, view, &batch)?;
+        let start = start_of(view.allocator(), &self.order, instance, view, &batch)?;
         let Ok(run) = launcher.start(start) else {
             return Ok(());
         };

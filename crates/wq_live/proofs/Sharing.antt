@@ -1,5 +1,6 @@
 -- Steps that only add to the list keep the knowledge of threads.
-use Rattle.std.proofs.Common.{◌≡◌, ◌≢◌, ℕ, List, Option, Some, None, set, refl, subst, ◌∙◌, ⊎_elim}
+use Rattle.std.proofs.Common.{◌≡◌, ◌≢◌, ℕ, List, [], ◌∷◌, ◌++◌, Option, Some, None, Result, Ok, Err, MatchResult, fold, set, refl, ap, subst, ◌∙◌, ⊎_elim}
+use Rattle.std.proofs.lemmas.List.Sums.{fold-append}
 use mathlib.Core.Option.{some}
 use lib.ListN.{get_elem?}
 use Rattle.left_right.specs.Register.{Admits, TurnsAt, Forks, Merges}
@@ -42,3 +43,16 @@ pub merges : (seat : ℕ) (v : Option LogData) (other : ℕ) (w : Option LogData
 merges seat v other w x views h at apart there =
     let b : Knows w x = ⊎_elim (λ (t : (other ≡ seat) × (w ≡ w)). absurd (apart t.0)) (λ (t : (other ≢ seat) × (get_elem? views other ≡ some w)). h other w t.1) (at_set views seat other w w there) in
     set_known x (set views seat w) other None (set_known x views seat w h b) tt
+
+-- of values that are shown in turn the last one stays
+pub last_is : (shown : LogData) (pending : List LogData) (next : LogData) → fold (λ _ log. log) shown (pending ++ next ∷ []) ≡ next
+last_is shown pending next = fold-append (λ _ (log : LogData). log) shown pending (next ∷ [])
+
+-- a step that shows all that was lined up shows the last value; a step that is refused shows what was shown
+pub shows_last : {A E : Type 0} (ready still : Type 0) (done : Result A E) (shown now next : LogData) (knew knows : Option LogData) (pending : List LogData)
+    → fold (λ _ log. log) shown pending ≡ next
+    → MatchResult done (λ _. (now ≡ fold (λ _ log. log) shown pending) × ready) (λ _. (now ≡ shown) × still)
+    → MatchResult done (λ _. Sees knew now knows) (λ _. knows ≡ knew)
+    → MatchResult done (λ _. (now ≡ next) × (knows ≡ Some next)) (λ _. (now ≡ shown) × (knows ≡ knew))
+shows_last ready still (Ok it) shown now next knew knows pending is values rule = let same = values.0 ∙ is in (same, rule.1 ∙ ap Some same)
+shows_last ready still (Err it) shown now next knew knows pending is values rule = (values.0, rule)

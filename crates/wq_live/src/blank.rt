@@ -23,7 +23,7 @@ pub struct Blank {
 }
 
 impl Model for Blank {
-    ghost use Rattle.std.specs.Prelude.{◌≡◌, Some, [], drop};
+    ghost use Rattle.std.specs.Prelude.{◌≡◌, Some};
     ghost use Rattle.left_right.specs.Sides.{view as known};
     ghost use Rattle.wq_live.specs.Log.{LogData, log_code, head_of};
 
@@ -34,14 +34,13 @@ impl Model for Blank {
     ghost view = { λ b. b.writer.desk.shown.value };
 
     ghost invariant = { λ b. (known b.writer.desk.place ≡ Some b.writer.desk.shown.value)
-        × (b.head ≡ head_of b.writer.desk.shown.value.book)
-        × (drop b.writer.behind b.writer.log.items ≡ []) };
+        × (b.head ≡ head_of b.writer.desk.shown.value.book) };
 }
 
 impl Blank {
     /// A shared view with room for so many seats at once. It shows its first value once more, so that the writer has
     /// the memory that later values need.
-    pub fn new<R: Wait>(alloc: Global, rt: &R, seats: usize) -> Result<Blank, AllocError>
+    pub fn new<R: Wait>(rt: &R, alloc: Global, seats: usize) -> Result<Blank, AllocError>
         requires { (0 < seats) × (seats < 2 ^ 32) }
         ensures { IfOk result (λ blank. blank.log ≡ []) }
     {

@@ -1,5 +1,5 @@
 //! The publisher, which alone changes the list of events. It shows the table that follows from the list.
-ghost use Rattle.std.specs.Prelude.{if◌then◌else◌, ◌+◌, ◌↔◌, None, option_map, ◌≡◌, ◌<◌, ◌⊎◌, ◌++◌, ◌∷◌, [], Err, IfErr, IfOk, IsTrue, MatchResult, Some, drop, false, length, map, nat_lt, true};
+ghost use Rattle.std.specs.Prelude.{if◌then◌else◌, ◌+◌, ◌↔◌, None, option_map, ◌≡◌, ◌<◌, ◌⊎◌, ◌++◌, ◌∷◌, [], Err, IfErr, IfOk, IsTrue, MatchResult, Some, false, length, map, nat_lt, true};
 ghost use Rattle.left_right.specs.Sides.{view};
 ghost use Rattle.wq_live.specs.Log.{AgreeAs, BeginsLog, head_of};
 ghost use Rattle.wq_base.specs.Limit.{max_number, max_roots};
@@ -38,7 +38,7 @@ pub struct Publisher<N: Named, R: Wait + Drop> {
 }
 
 impl<N: Named, R: Wait + Drop> Model for Publisher<N, R> {
-    ghost use Rattle.std.specs.Prelude.{◌≡◌, List, Some, [], drop};
+    ghost use Rattle.std.specs.Prelude.{◌≡◌, List, Some};
     ghost use Rattle.left_right.specs.Sides.{view as known};
     ghost use Rattle.wq_live.specs.declared.event.RootEvent.{RootEvent};
     ghost use Rattle.wq_live.specs.Log.{events_code, head_of};
@@ -51,7 +51,6 @@ impl<N: Named, R: Wait + Drop> Model for Publisher<N, R> {
 
     ghost invariant = { λ p. (known p.writer.desk.place ≡ Some p.writer.desk.shown.value)
         × (p.writer.desk.shown.value.book ≡ N.book) × (p.head ≡ head_of N.book)
-        × (drop p.writer.behind p.writer.log.items ≡ [])
         × N.published N.book p.writer.desk.shown.value.log };
 }
 
@@ -76,7 +75,6 @@ impl<N: Named, R: Wait + Drop> Publisher<N, R> {
         requires known { view writer.desk.place ≡ Some writer.desk.shown.value }
         requires named { writer.desk.shown.value.book ≡ N.book }
         requires head { head ≡ head_of N.book }
-        requires ready { drop writer.behind writer.log.items ≡ [] }
         ensures list { result ≡ writer.desk.shown.value.log }
         ensures published { N.published N.book result }
     {

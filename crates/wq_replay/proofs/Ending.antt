@@ -8,7 +8,7 @@ use Rattle.wq_replay.specs.Replay.{DoesLine, Ends, EndsReading, FirstLines, Shut
 use Rattle.wq_replay.specs.Stage.{StageData, Turn, drafts, lists, hears, rests, fires, finishes, malformed, start, turn_of}
 use Rattle.wq_replay.specs.Step.{IsAt, TakesTurn}
 use Rattle.wq_replay.specs.Taken.{BeginsWith, TakesLine}
-use Rattle.wq_replay.specs.declared.fault.ReplayFault.TheVariants.{TooLong, Read, Memory as OutOfMemory}
+use Rattle.wq_replay.specs.declared.fault.ReplayFault.TheVariants.{Read, Memory as OutOfMemory}
 use Rattle.wq_replay.specs.declared.fault.StepFault.{StepFault}
 use Rattle.wq_replay.specs.declared.fault.StepFault.TheVariants.{Malformed, Write, NoMemory}
 use Rattle.wq_replay.specs.declared.fault.TakeFault.{TakeFault}
@@ -52,13 +52,13 @@ ends_well (Some bytes) left before now rest size n taken code line (at, rest_byt
 -- the line that was taken makes the script too long
 pub ends_too_long : (script left before now rest : Option (List ℕ)) (size n taken : ℕ) (code : Stage) (line : List ℕ)
     → Holds script left before now size n code → size ≤ max_script → max_script < size + taken
-    → IfSome left (λ bytes. TakesLine bytes taken line rest) → IfSome script (λ bytes. Ends bytes before now rest (Err TooLong))
+    → IfSome left (λ bytes. TakesLine bytes taken line rest) → IfSome script (λ bytes. Ends bytes before now rest (Err Read))
 ends_too_long None left before now rest size n taken code line holds within over takes = tt
 ends_too_long (Some bytes) left before now rest size n zero code line holds within over takes = absurd (omega arith)
 ends_too_long (Some bytes) left before now rest size n (suc taken) code line (at, rest_bytes, count, is, numbered, stands, sized, first) within over takes =
     let took : TakesLine rest_bytes (suc taken) line rest = taken_of left rest rest_bytes line (suc taken) is takes in
     let sizes = took.2 in
-    (count, at, rest_bytes, took.0, took.1, first, omega (arith, sized), omega (arith, sized, sizes))
+    inr (count, at, rest_bytes, took.0, took.1, first, omega (arith, sized), omega (arith, sized, sizes))
 
 -- the next line was not taken to its end
 ends_reading : (script left before now rest : Option (List ℕ)) (size n : ℕ) (code : Stage)
@@ -74,7 +74,7 @@ pub ends_taking : (script left before now rest : Option (List ℕ)) (size n : �
     → IfSome script (λ bytes. Ends bytes before now rest (Err (taking_fault fault)))
 ends_taking None left before now rest size n code fault holds stops = tt
 ends_taking (Some bytes) left before now rest size n code NotRead holds stops =
-    ends_reading (Some bytes) left before now rest size n code holds stops
+    inl (ends_reading (Some bytes) left before now rest size n code holds stops)
 ends_taking (Some bytes) left before now rest size n code NotKept holds stops =
     inl (ends_reading (Some bytes) left before now rest size n code holds stops)
 
@@ -236,8 +236,9 @@ ends_as script before now rest fault said same ends =
 -- no line was taken: the reader is where it was
 pub ends_untaken : (script left before now : Option (List ℕ)) (size n : ℕ) (code : Stage)
     → Holds script left before now size n code → IfSome script (λ bytes. Ends bytes before now left (Err Read))
-ends_untaken script left before now size n code holds =
-    ends_reading script left before now left size n code holds (within_kept left left (keeps_same left))
+ends_untaken None left before now size n code holds = tt
+ends_untaken (Some bytes) left before now size n code holds =
+    inl (ends_reading (Some bytes) left before now left size n code holds (within_kept left left (keeps_same left)))
 
 -- the world was not made
 pub ends_unmade : (script before : Option (List ℕ)) → IfSome script (λ bytes. Ends bytes before before script (Err OutOfMemory))

@@ -15,7 +15,8 @@ use Rattle.wq_session.specs.Need.{need_of}
 use Rattle.wq_ask.specs.Reading.{Asks}
 use Rattle.wq_ask.specs.declared.ask.Ask.{Ask}
 use Rattle.wq_crawl.specs.declared.fault.CrawlFault.{CrawlFault}
-use Rattle.wq_crawl.specs.declared.fault.CrawlFault.TheVariants.{Unreadable}
+use Rattle.wq_crawl.specs.declared.fault.CrawlFault.TheVariants.{Tree}
+use Rattle.wq_patch.specs.declared.tree.TreeFault.TheVariants.{Unreadable}
 use Rattle.wq_view.specs.Listing.{PassData}
 use Rattle.wq_replay.specs.Limit.{max_script}
 use Rattle.wq_replay.specs.Line.{lines_of}
@@ -29,7 +30,7 @@ use Rattle.wq_replay.specs.World.{ended, SentData}
 use Rattle.wq_replay.specs.Playing.{Runs}
 use Rattle.wq_replay.specs.World.{root_text}
 use Rattle.wq_replay.specs.declared.fault.ReplayFault.{ReplayFault}
-use Rattle.wq_replay.specs.declared.fault.ReplayFault.TheVariants.{Line, TooLong, Read, Write, Memory}
+use Rattle.wq_replay.specs.declared.fault.ReplayFault.TheVariants.{Line, Read, Write, Memory}
 
 -- the line that is written for one that is sent: the client's number with a space, if there is a
 -- client, and the text
@@ -52,7 +53,7 @@ crawled crawls tree = if crawls then crawl root_text (Ok tree) ∷ [] else []
 
 -- the listing of a root, if `/r` lists this: for `/r` it is this, and no other root can be read
 abbrev pub listed_root : PassData → List ℕ → Result PassData CrawlFault
-listed_root tree root = if bytes_eq root root_text then Ok tree else Err Unreadable
+listed_root tree root = if bytes_eq root root_text then Ok tree else Err (Tree Unreadable)
 
 -- the happenings before an ask, if `/r` lists this: the crawl or the watching that the ask needs,
 -- if any
@@ -220,8 +221,8 @@ abbrev pub Ends : List ℕ → Option (List ℕ) → Option (List ℕ) → Optio
 Ends script before after rest (Ok _) =
     EndsAll script before after rest ⊎ EndsServer script before after rest
 Ends script before after rest (Err (Line n)) = EndsAtLine n script before after
-Ends script before after rest (Err TooLong) = EndsTooLong script before after rest
-Ends script before after rest (Err Read) = EndsReading script before after rest
+Ends script before after rest (Err Read) =
+    EndsReading script before after rest ⊎ EndsTooLong script before after rest
 Ends script before after rest (Err Write) = EndsWriting script before after
 Ends script before after rest (Err Memory) =
     EndsReading script before after rest ⊎ EndsDoing script before after

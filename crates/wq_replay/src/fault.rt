@@ -12,10 +12,7 @@ pub enum ReplayFault {
     /// The line of this number, counted from 1, is malformed.
     #[error("script line {0}")]
     Line(u64),
-    /// The script is longer than [`MAX_SCRIPT`](crate::MAX_SCRIPT).
-    #[error("replay failed")]
-    TooLong,
-    /// The script could not be read.
+    /// The script could not be read, or is longer than [`MAX_SCRIPT`](crate::MAX_SCRIPT).
     #[error("replay failed")]
     Read,
     /// A reply could not be written.

@@ -14,6 +14,7 @@ use std::alloc::{AllocError, Global};
 use wq_ask::Ask;
 use wq_base::Text;
 use wq_crawl::{CrawlFault, Need};
+use wq_patch::TreeFault;
 use wq_session::need_of;
 use wq_view::Pass;
 
@@ -116,6 +117,6 @@ fn listed<'a>(tree: &'a Pass, root: &str) -> Result<&'a Pass, CrawlFault>
     if root == ROOT {
         Ok(tree)
     } else {
-        Err(CrawlFault::Unreadable)
+        Err(CrawlFault::Tree(TreeFault::Unreadable))
     }
 }

@@ -66,7 +66,7 @@ fn play<R: BufRead, W: Write>(
         }
         size += taken;
         if size > MAX_SCRIPT {
-            return Err(ReplayFault::TooLong);
+            return Err(ReplayFault::Read);
         }
         match step(alloc, stage, writer, line) {
             Ok(true) => {}

@@ -315,7 +315,7 @@ impl World {
         let instance = self.views.run.instance(number);
         let runs = mem::replace(&mut self.runs, RunSet::new(alloc));
         let mut launcher = MemoryLauncher::new(alloc, runs, answers);
-        round_ahead(alloc, &instance, view, &mut self.shelf, &[], &mut launcher);
+        round_ahead(&instance, view, &mut self.shelf, &[], &mut launcher);
         if launcher.spent {
             return Err(AllocError);
         }

@@ -108,7 +108,7 @@ fn tell(
     ensures wants { OnErr result (
         is_told ((subscription_data subscription.old).follower).last view.now.tick ≡ false) }
 {
-    let batch = subscription.poll(alloc, view)?;
+    let batch = subscription.poll(view)?;
     if !batch.files.is_empty() {
         let list = subscription.list(alloc, instance, view, &batch)?;
         lists.push(Line::of_text(list)?)?;

@@ -135,7 +135,6 @@ impl ReachedShelf<Trigger> {
     /// A round of the triggers of a root, at a view of it ([`round_ahead`]).
     pub fn round<L: Launch>(
         &mut self,
-        alloc: Global,
         instance: &Instance,
         view: &View,
         ahead: &[Option<Ahead>],
@@ -147,7 +146,7 @@ impl ReachedShelf<Trigger> {
             (L.shown launcher.old) (L.failures_of launcher.old) (shelf_data self.new)
             (L.shown launcher.new) (L.failures_of launcher.new) }
     {
-        round_ahead(alloc, instance, view, &mut self.shelf, ahead, launcher);
+        round_ahead(instance, view, &mut self.shelf, ahead, launcher);
     }
 }
 

@@ -8,7 +8,6 @@ ghost use Rattle.wq_session.specs.Round.{HasTurn, IsCountedRound, RoundsAt};
 ghost use Rattle.wq_session.specs.Shelved.{shelf_data};
 ghost use Rattle.wq_record.specs.RecordData.{RecordData};
 
-use std::alloc::Global;
 use wq_clock::Instance;
 use wq_crawl::At;
 use wq_follow::{Launch, Trigger};
@@ -18,13 +17,13 @@ use wq_view::View;
 
 /// A round of the triggers of the root that is looked at, in their order ([`round_ahead`]). Nothing was found ahead of it.
 /// It does nothing if the root shows no view, or is not on the shelf under its number.
-pub fn round<L: Launch>(alloc: Global, shelf: &mut Shelf<Trigger>, at: At<'_>, launcher: &mut L)
+pub fn round<L: Launch>(shelf: &mut Shelf<Trigger>, at: At<'_>, launcher: &mut L)
     ensures { RoundsAt (at_data at.entry) (shelf_data shelf.old) (L.shown launcher.old)
         (L.failures_of launcher.old) (shelf_data shelf.new) (L.shown launcher.new)
         (L.failures_of launcher.new) }
 {
     if let Some(view) = at.view {
-        round_ahead(alloc, &at.instance, view, shelf, &[], launcher);
+        round_ahead(&at.instance, view, shelf, &[], launcher);
     }
 }
 
@@ -36,7 +35,6 @@ pub fn round<L: Launch>(alloc: Global, shelf: &mut Shelf<Trigger>, at: At<'_>, l
 ///
 /// What was found ahead for the trigger at each place saves a run of its program, and changes no answer.
 pub fn round_ahead<L: Launch>(
-    alloc: Global,
     instance: &Instance,
     view: &View,
     shelf: &mut Shelf<Trigger>,
@@ -51,7 +49,7 @@ pub fn round_ahead<L: Launch>(
     let count = count_of(shelf, instance.root);
     for k in 0..count {
         let found = ahead_at(ahead, k);
-        fire_at(alloc, instance, view, shelf, k, found, launcher);
+        fire_at(instance, view, shelf, k, found, launcher);
     }
 }
 
@@ -78,7 +76,6 @@ fn count_of(shelf: &Shelf<Trigger>, number: u64) -> usize
 
 /// The turn of the trigger at a place.
 fn fire_at<L: Launch>(
-    alloc: Global,
     instance: &Instance,
     view: &View,
     shelf: &mut Shelf<Trigger>,
@@ -94,6 +91,6 @@ fn fire_at<L: Launch>(
 {
     if let Some(trigger) = shelf.trigger_mut(instance.root, k) {
         // If memory ran out, it has not moved, and has its turn in a later round.
-        let _ = trigger.fire(alloc, instance, view, ahead, launcher);
+        let _ = trigger.fire(instance, view, ahead, launcher);
     }
 }

@@ -134,7 +134,7 @@ fn talk_meeting<R: Threads + Wait + Copy + Drop + Sync>(
         bytes: Vec::new(alloc),
         told: client.told,
     };
-    let blank = Blank::new(alloc, &rt, 1).ok()?;
+    let blank = Blank::new(&rt, alloc, 1).ok()?;
     talk::<Brand, R, HeldLines<'_>, FirstReplyWriter<'_>>(
         rt,
         alloc,

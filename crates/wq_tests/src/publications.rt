@@ -180,7 +180,7 @@ const WRITTEN: &[u8] = br#"{"version":"wq-1","watch":"/r","watcher":"poll"}
 
 /// Whether a client gets the right lines while roots, desk and writer publish.
 fn is_well<R: Threads + Wait + Copy + Drop + Sync>(rt: R, alloc: Global) -> bool {
-    let Ok(blank) = Blank::new(alloc, &rt, 1) else {
+    let Ok(blank) = Blank::new(&rt, alloc, 1) else {
         return false;
     };
     match talk::<Brand, R>(rt, alloc, blank, LINES) {

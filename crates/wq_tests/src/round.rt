@@ -3,6 +3,7 @@
 use crate::world::{A, B, Happens, NAMES, NONE, check};
 use std::test::Fail;
 use wq_crawl::CrawlFault;
+use wq_patch::TreeFault;
 
 const TRIGGERS: &str = r#"["trigger","/r",{"name":"t","command":["r"],"append_files":true}]"#;
 
@@ -126,7 +127,7 @@ fn a_round_follows_a_refused_crawl(rt: HostRuntime) -> Result<(), Fail> {
         &rt,
         rt.alloc(),
         &[
-            Happens::Crawl("/r", Err(CrawlFault::Unreadable)),
+            Happens::Crawl("/r", Err(CrawlFault::Tree(TreeFault::Unreadable))),
             Happens::Round("/r", &[]),
             Happens::Line(1, NAMES),
         ],
@@ -136,7 +137,7 @@ fn a_round_follows_a_refused_crawl(rt: HostRuntime) -> Result<(), Fail> {
         &rt,
         rt.alloc(),
         &[
-            Happens::Crawl("/r", Err(CrawlFault::Unreadable)),
+            Happens::Crawl("/r", Err(CrawlFault::Tree(TreeFault::Unreadable))),
             Happens::Ended(1),
             Happens::Line(1, NAMES),
         ],

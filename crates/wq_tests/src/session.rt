@@ -169,7 +169,7 @@ const WATCH: Talk = (
 
 #[test]
 fn sessions_at_one_desk_share_programs(rt: HostRuntime) -> Result<(), Fail> {
-    let blank = Blank::new(rt.alloc(), &rt, 1)?;
+    let blank = Blank::new(&rt, rt.alloc(), 1)?;
     let well = play::<Brand, HostRuntime>(rt, rt.alloc(), blank, &SHARERS);
     assert_eq!(rt; well, Some(3));
     Ok(())
@@ -177,7 +177,7 @@ fn sessions_at_one_desk_share_programs(rt: HostRuntime) -> Result<(), Fail> {
 
 #[test]
 fn desks_over_one_lock_share_programs(rt: HostRuntime) -> Result<(), Fail> {
-    let blank = Blank::new(rt.alloc(), &rt, 1)?;
+    let blank = Blank::new(&rt, rt.alloc(), 1)?;
     let well = play_at_lock::<Brand, HostRuntime>(rt, rt.alloc(), blank, &SHARERS);
     assert_eq!(rt; well, Some(3));
     Ok(())
@@ -185,7 +185,7 @@ fn desks_over_one_lock_share_programs(rt: HostRuntime) -> Result<(), Fail> {
 
 #[test]
 fn roots_answer_when_nobody_is_there(rt: HostRuntime) -> Result<(), Fail> {
-    let blank = Blank::new(rt.alloc(), &rt, 1)?;
+    let blank = Blank::new(&rt, rt.alloc(), 1)?;
     assert_eq!(rt;
         outlive::<Brand, HostRuntime>(rt, rt.alloc(), blank),
         Some(true)

@@ -10,6 +10,7 @@ use wq_ask::Ask;
 use wq_base::{Table, Text};
 use wq_clock::Run;
 use wq_crawl::CrawlFault;
+use wq_patch::TreeFault;
 use wq_replay::{Happening, Sent, SentLines, World};
 use wq_session::ReplyLine;
 use wq_stream::Event;
@@ -140,7 +141,7 @@ fn line_event(alloc: Global, line: &str) -> Result<Event, AllocError> {
 
 fn seen(trees: &[Pass], tree: Result<usize, CrawlFault>) -> Result<&Pass, CrawlFault> {
     match tree {
-        Ok(at) => trees.get(at).ok_or(CrawlFault::Unreadable),
+        Ok(at) => trees.get(at).ok_or(CrawlFault::Tree(TreeFault::Unreadable)),
         Err(fault) => Err(fault),
     }
 }
@@ -235,7 +236,7 @@ fn a_refused_crawl_refuses_the_line_behind_it(rt: HostRuntime) -> Result<(), Fai
         &[
             Happens::Crawl("/r", Ok(A)),
             Happens::Line(1, NAMES),
-            Happens::Crawl("/r", Err(CrawlFault::Unreadable)),
+            Happens::Crawl("/r", Err(CrawlFault::Tree(TreeFault::Unreadable))),
             Happens::Line(1, NAMES),
             Happens::Line(1, NAMES_AT_ONCE),
             Happens::Line(1, NAMES),
@@ -257,12 +258,12 @@ fn a_refused_crawl_refuses_no_other_line(rt: HostRuntime) -> Result<(), Fail> {
         &rt,
         rt.alloc(),
         &[
-            Happens::Crawl("/r", Err(CrawlFault::TooManyFiles)),
+            Happens::Crawl("/r", Err(CrawlFault::Tree(TreeFault::TooManyRows))),
             Happens::Line(1, NAMES_AT_ONCE),
-            Happens::Crawl("/r", Err(CrawlFault::TooManyFiles)),
+            Happens::Crawl("/r", Err(CrawlFault::Tree(TreeFault::TooManyRows))),
             Happens::Line(2, r#"["version"]"#),
             Happens::Line(1, NAMES),
-            Happens::Crawl("/q", Err(CrawlFault::Unreadable)),
+            Happens::Crawl("/q", Err(CrawlFault::Tree(TreeFault::Unreadable))),
             Happens::Line(1, NAMES),
         ],
         concat!(
@@ -318,11 +319,11 @@ fn a_root_is_opened_for_its_watch(rt: HostRuntime) -> Result<(), Fail> {
         rt.alloc(),
         &[
             Happens::Line(1, watch),
-            Happens::Watch("/q", Err(CrawlFault::Unreadable)),
+            Happens::Watch("/q", Err(CrawlFault::Tree(TreeFault::Unreadable))),
             Happens::Line(1, watch),
             Happens::Watch("/q", Ok(A)),
             Happens::Line(1, watch),
-            Happens::Watch("/q", Err(CrawlFault::Unreadable)),
+            Happens::Watch("/q", Err(CrawlFault::Tree(TreeFault::Unreadable))),
             Happens::Line(2, watch),
             Happens::Line(1, r#"["clock","/q"]"#),
             Happens::Line(1, r#"["watch-list"]"#),
@@ -386,7 +387,7 @@ fn sixteen_roots_are_shown(rt: HostRuntime) -> Result<(), Fail> {
             Happens::Watch("/d", Ok(NONE)),
             Happens::Watch("/e", Ok(NONE)),
             Happens::Watch("/f", Ok(NONE)),
-            Happens::Watch("/q", Err(CrawlFault::Unreadable)),
+            Happens::Watch("/q", Err(CrawlFault::Tree(TreeFault::Unreadable))),
             Happens::Line(1, r#"["watch","/q"]"#),
             Happens::Line(1, r#"["watch-del","/r"]"#),
             Happens::Watch("/q", Ok(NONE)),
@@ -443,7 +444,7 @@ fn an_idle_moment_follows_a_refused_crawl(rt: HostRuntime) -> Result<(), Fail> {
         &rt,
         rt.alloc(),
         &[
-            Happens::Crawl("/r", Err(CrawlFault::Unreadable)),
+            Happens::Crawl("/r", Err(CrawlFault::Tree(TreeFault::Unreadable))),
             Happens::Idle(1, 1),
             Happens::Line(1, NAMES),
         ],

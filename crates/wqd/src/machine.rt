@@ -95,6 +95,6 @@ where
         },
         workers: settings.workers,
     };
-    let blank = Blank::new(alloc, &rt, SEATS)?;
+    let blank = Blank::new(&rt, alloc, SEATS)?;
     serve_clients::<Brand, R, T, S, O, P>(rt, alloc, listening, blank, parts)
 }

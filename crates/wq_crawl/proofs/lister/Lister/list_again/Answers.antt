@@ -36,9 +36,8 @@ returns-clause-listed g c events of_table =
       | in-Rows+in-Err-of_lawful w ↦
           let again : ListsAgain c.args.number text before (Rows w.in-Rows.rows) mid = subst (λ l. ListsAgain c.args.number text before l mid) w.in-Rows.is (c.in-Ok.ensures.listed events of_table) in
           subst (λ r. MatchResult r (λ relisted. IsRelisted c.args.number text before relisted after) (λ fault. IsNoPassOver text before fault after)) (sym w.result-is)
-          (subst (λ f. IsNoPassOver text before f after) (sym w.no_pass.ensures)
           (rows_fault c.args.number text before before mid shown clock second refl is c.listing.ensures.clock c.second-second.ensures w.in-Rows.rows.items w.in-Err-of_lawful.fault again.0 again.1 w.in-Err-of_lawful.ensures.whole
-          (ap (listing_fault w.in-Rows.rows.items) (sym back) ∙ w.in-Err-of_lawful.ensures.fault)))
+          (ap (listing_fault w.in-Rows.rows.items) (sym back) ∙ w.in-Err-of_lawful.ensures.fault))
       | in-Patches+in-None w ↦
           let again : ListsAgain c.args.number text before (Patches w.in-Patches.patches) mid = subst (λ l. ListsAgain c.args.number text before l mid) w.in-Patches.is (c.in-Ok.ensures.listed events of_table) in
           subst (λ r. MatchResult r (λ relisted. IsRelisted c.args.number text before relisted after) (λ fault. IsNoPassOver text before fault after)) (sym w.result-is)
@@ -49,8 +48,7 @@ returns-clause-listed g c events of_table =
       | in-Patches+in-Some w ↦
           let again : ListsAgain c.args.number text before (Patches w.in-Patches.patches) mid = subst (λ l. ListsAgain c.args.number text before l mid) w.in-Patches.is (c.in-Ok.ensures.listed events of_table) in
           subst (λ r. MatchResult r (λ relisted. IsRelisted c.args.number text before relisted after) (λ fault. IsNoPassOver text before fault after)) (sym w.result-is)
-          (subst (λ f. IsNoPassOver text before f after) (sym w.no_pass-in-Some.ensures)
           (patches_fault c.args.number text before before mid shown clock second refl is c.listing.ensures.clock c.second-second.ensures w.in-Patches.patches w.in-Some.fault again
           (subst (λ o. IfSome o (λ fault. IsTrue (is_of_whole fault))) w.in-Some.is w.fault_of_patches.ensures.whole)
-          (λ records ps rise fit lawful few. sym w.in-Some.is ∙ w.fault_of_patches.ensures.fault records ps rise fit lawful few ∙ ap (listing_fault (patched records ps)) back)))
+          (λ records ps rise fit lawful few. sym w.in-Some.is ∙ w.fault_of_patches.ensures.fault records ps rise fit lawful few ∙ ap (listing_fault (patched records ps)) back))
     ]
