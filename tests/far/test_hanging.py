@@ -6,16 +6,22 @@ import signal
 import threading
 import time
 from pathlib import Path
-from typing import List
+from typing import Any, Dict, List
 
 from case import Case
-from client import Client, Server, walked
+from client import VERSION, Client, Server, walked
 from follower import make_tree
+from waiting import look_until
 
 # A day, in microseconds.
 NEVER = 86_400_000_000
 # So long an answer may take that waits for no walk of another root, in seconds, on a busy machine.
 SOON = 5.0
+SESSIONS = 32
+# So many clients go: with those that stay they are more than there are places, or seats for sessions.
+GOING = 50
+TOO_MANY = {"error": "E17: too many sessions", **VERSION}
+NOT_WATCHED = "E14: root is not watched"
 
 
 def hanging(directory: Path) -> List[str]:
@@ -45,6 +51,44 @@ class Hanging(Case):
                     self.check_its_end(client, root, later)
                 self.check_the_end(server, client, f"later {later}")
 
+    def test_clients_that_go(self) -> None:
+        """Clients that ask for a tree that hangs and go give their places back. `watch-del` answers those that wait."""
+        self.check_installed("strace")
+        root = self.room / "hangs"
+        make_tree(root)
+        hung = root / "hung"
+        query = ["query", str(root), {"fields": ["name"]}]
+        with Server(self.room, interval=100, share=10, through=hanging(hung)) as server, server.client() as client:
+            client.ask("watch", str(root))
+            hung.mkdir()
+            with server.client() as scanning:
+                ask_and_wait(scanning, root, True)
+                for _ in range(GOING):
+                    with server.client() as going:
+                        going.send(*query)
+                others = [server.client_when_free() for _ in range(SESSIONS - 2)]
+                found = [other.ask("version") for other in others]
+                self.same("clients in the places of those that went", found, [VERSION] * len(others))
+                waiting = others[0]
+                waiting.send(*query)
+                time.sleep(0.5)
+                self.check_kept_place(server, root)
+                self.same("a client that waited for its turn", waiting.reply().get("error"), NOT_WATCHED)
+                self.same("the end from the kept place", kept(server, "shutdown-server").get("error"), None)
+                self.check_that_it_ends(server, "from the kept place")
+                for other in others:
+                    other.close()
+
+    def check_kept_place(self, server: Server, root: Path) -> None:
+        """All places are taken, but for one that is kept."""
+        with server.client() as late:
+            self.same("another command in the kept place", late.ask("watch-list"), TOO_MANY)
+        with server.client() as silent:
+            self.same("nothing in the kept place", silent.reply(), TOO_MANY)
+        before = time.monotonic()
+        self.same("a tree that hangs is given up", kept(server, "watch-del", str(root)).get("watch-del"), True)
+        self.check("that is soon", time.monotonic() - before < SOON)
+
     def check_others(self, server: Server, client: Client, other: Path, name: str) -> None:
         """Another root is watched, asked for and followed."""
         before = time.monotonic()
@@ -72,8 +116,11 @@ class Hanging(Case):
             self.same("a tree that hangs is not watched yet", str(root) in client.ask("watch-list")["roots"], False)
 
     def check_the_end(self, server: Server, client: Client, name: str) -> None:
-        """The server ends soon. `strace` lets go of a call that it delays only when it is killed."""
         client.ask("shutdown-server")
+        self.check_that_it_ends(server, name)
+
+    def check_that_it_ends(self, server: Server, name: str) -> None:
+        """The server ends soon. `strace` lets go of a call that it delays only when it is killed."""
         status = Path(f"/proc/{server.process.pid}/status")
         before = time.monotonic()
         while "\nState:\tZ" not in status.read_text() and time.monotonic() - before < SOON:
@@ -82,6 +129,16 @@ class Hanging(Case):
         tracer = next(line.split()[1] for line in status.read_text().splitlines() if line.startswith("TracerPid"))
         os.kill(int(tracer), signal.SIGKILL)
         self.same(f"the end beside it, {name}", server.process.wait(), 0)
+
+
+def kept(server: Server, *command: object) -> Dict[str, Any]:
+    """The answer to a client in the kept place, once nobody else has it."""
+
+    def answer() -> Dict[str, Any]:
+        with server.client() as client:
+            return client.ask(*command)
+
+    return look_until(answer, lambda reply: reply != TOO_MANY)
 
 
 def ask_and_wait(waiting: Client, root: Path, later: bool) -> threading.Thread:

@@ -1,15 +1,17 @@
 -- The answer under a lane's lock is the answer of some crawler.
-use Rattle.std.proofs.Common.{◌≡◌, ℕ, pos, List, Option, Some, None, Result, Ok, Err, IfOk, IsTrue, MatchResult, true, false, Bool, [], inl, inr, refl, sym, subst}
-use Rattle.wq_live.specs.Event.{number_of, passes_over}
+use Rattle.std.proofs.Common.{◌≡◌, ℕ, pos, List, Option, Some, None, Result, Ok, Err, IfOk, IsTrue, MatchResult, true, false, Bool, [], inl, inr, refl, rules, sym, subst}
+use Rattle.wq_live.specs.Event.{IsFull, number_of, passes_over}
 use Rattle.wq_live.specs.declared.event.RootEvent.{RootEvent}
 use Rattle.wq_view.specs.History.{last_stats}
 use Rattle.wq_view.specs.Listing.{PassData}
 use Rattle.wq_crawl.specs.declared.fault.CrawlFault.{CrawlFault}
 use Rattle.wq_crawl.specs.declared.fault.CrawlFault.TheVariants.{NoMemory}
 use Rattle.wq_crawl.specs.Crawl.{ListerData, crawler_at, makes, tells}
+use Rattle.wq_crawl.specs.Answer.{CrawlData, IsAnswer, told_list}
 use Rattle.wq_crawl.specs.Publish.{EndsRoot}
+use Rattle.wq_crawl.specs.declared.place.Place.TheVariants.{Free}
 use Rattle.wq_crawl.specs.Shared.{CrawledFrom, CrawledOnce, GlancedBetween, Shares}
-use Rattle.wq_crawl.specs.Roots.{GlanceAt, RootsGive, ending, passing}
+use Rattle.wq_crawl.specs.Roots.{GlanceAt, RootsGive, ending, passing, showing}
 
 -- a lister that shows nothing
 abbrev blind : ListerData
@@ -37,9 +39,28 @@ lacking_gives text events number shown = (
   refl,
 )
 
+-- a client that has gone and gets no root: it is as if memory had run out for one that was not shown
+pub left_gives : (text : List ℕ) → RootsGive None (showing text) (Err NoMemory) None
+left_gives text = (
+  crawler_at [] blind,
+  crawler_at [] blind,
+  (Err NoMemory, refl, (Free, (refl, λ (full : IsFull []). search (full, rules)), (refl, inr refl))),
+  refl,
+)
+
 -- a root that is not shown
 gone_gives : (text : List ℕ) (events : List RootEvent) → number_of text events ≡ None → RootsGive None (passing text) (Ok None) None
 gone_gives text events gone = (crawler_at events blind, crawler_at events blind, inl (gone, refl, refl), refl)
+
+-- an answer that a root is not shown
+pub gone_told : (published : List RootEvent → Type 0) (text : List ℕ) (crawl : Option CrawlData) → crawl ≡ None → IsAnswer published text crawl
+    → RootsGive None (passing text) (told_list (Ok crawl)) None
+gone_told published text None is (events, given, gone) = gone_gives text events gone
+gone_told published text (Some crawl) is answer = search (rules)
+
+-- a refusal while the root is shown
+pub lacking_told : (text : List ℕ) → ((events : List RootEvent) × (number : ℕ) × (number_of text events ≡ Some number)) → RootsGive None (passing text) (Err NoMemory) None
+lacking_told text (events, number, shown) = lacking_gives text events number shown
 
 shared_gives : (text : List ℕ) (result : Result (Option (List RootEvent)) CrawlFault) → Shares text result → RootsGive None (passing text) result None
 shared_gives text result (inl (events, gone, is)) = subst (λ r. RootsGive None (passing text) r None) (sym is) (gone_gives text events gone)

@@ -5,6 +5,7 @@ use crate::lane::Lane;
 use crate::lister::Lister;
 use crate::occupants::Occupants;
 use crate::seconds::Seconds;
+use crate::turn::LaneTurn;
 use std::alloc::{AllocError, Global};
 use std::sync::atomic::{AtomicU64, Ordering};
 use std::sync::{Arc, Mutex, Wait};
@@ -25,11 +26,12 @@ pub struct LaneParts<T: Tree + Drop, S: Seconds + Drop> {
     pub helped: Arc<AtomicU64>,
 }
 
-/// A lane that threads share, and the calls of clients that wait for it.
+/// A lane that threads share, and the calls of clients that wait for it. Only the thread that has the turn locks it.
 #[derive(Drop)]
 pub(crate) struct SharedLane<T: Tree + Drop, S: Seconds + Drop> {
     pub(crate) callers: Callers,
     helped: Arc<AtomicU64>,
+    pub(crate) turn: LaneTurn,
     pub(crate) lane: Mutex<Lane<T, S>>,
 }
 
@@ -47,6 +49,7 @@ impl<T: Tree + Drop, S: Seconds + Drop> SharedLane<T, S> {
         SharedLane {
             callers: Callers::new(parts.waiting),
             helped: parts.helped,
+            turn: LaneTurn::new(),
             lane: Mutex::new(Lane::new(Lister::new(parts.tree, parts.seconds))),
         }
     }

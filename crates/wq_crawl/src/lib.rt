@@ -29,6 +29,7 @@ mod shared_crawler;
 mod shared_publisher;
 mod shared_seconds;
 mod table_views;
+mod turn;
 mod views;
 
 pub use at::At;

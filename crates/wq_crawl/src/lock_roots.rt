@@ -9,7 +9,8 @@ use crate::roots::Roots;
 use crate::seconds::Seconds;
 use crate::shared_crawler::SharedCrawler;
 use std::sync::{Arc, Wait};
-use wq_base::Workers;
+use std::time::Clock;
+use wq_base::{Asker, Workers};
 use wq_live::{Named, Told};
 use wq_patch::Tree;
 
@@ -60,10 +61,10 @@ where
 impl<N, R, T, S, A> Roots<N> for LockRoots<'_, N, R, T, S, A>
 where
     N: Named,
-    R: Wait + Drop,
+    R: Wait + Clock + Drop,
     T: Tree + Drop,
     S: Seconds + Drop,
-    A: Caller,
+    A: Asker + Caller,
 {
     ghost use Rattle.std.specs.Prelude.{None};
 
@@ -71,12 +72,12 @@ where
 
     fn open(&mut self, root: &str) -> Result<Told<N>, CrawlFault> {
         self.caller.has_read();
-        self.crawler.open(&self.rt, root)
+        self.crawler.open(&self.rt, self.caller, root)
     }
 
     fn crawl(&mut self, root: &str) -> Result<Crawl<N>, CrawlFault> {
         self.caller.has_read();
-        self.crawler.crawl(&self.rt, root)
+        self.crawler.crawl(&self.rt, self.caller, root)
     }
 
     fn retire(&mut self, root: FoundRoot) -> Result<Told<N>, CrawlFault> {

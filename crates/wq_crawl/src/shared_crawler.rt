@@ -10,14 +10,18 @@ use crate::crawl::Crawl;
 use crate::fault::CrawlFault;
 use crate::found_root::FoundRoot;
 use crate::lane::Lane;
-use crate::lanes::{LaneParts, Lanes};
+use crate::lanes::{LaneParts, Lanes, SharedLane};
 use crate::seconds::Seconds;
 use crate::shared_publisher::SharedPublisher;
 use std::alloc::{AllocError, Global};
 use std::sync::{Mutex, Wait};
 use std::time::{Clock, Duration};
+use wq_base::Asker;
 use wq_live::{Named, Publisher, Told};
 use wq_patch::{Reach, Tree};
+
+/// For how many milliseconds a client waits for the turn at a lane, before it looks again whether it goes on waiting.
+const PATIENCE: u64 = 200;
 
 /// A crawler that threads share.
 #[derive(Drop)]
@@ -43,18 +47,6 @@ impl<N: Named, R: Wait + Drop, T: Tree + Drop, S: Seconds + Drop> SharedCrawler<
         })
     }
 
-    /// Crawls the root of this text for a client, publishes the pass, and returns the list of events. A crawl of the root
-    /// for nobody gives way to it.
-    ///
-    /// If another thread crawled the root meanwhile, and began after this call did, the call returns the present list.
-    pub fn crawl(&self, rt: &R, root: &str) -> Result<Crawl<N>, CrawlFault>
-        ensures given { RootsGive None (passing root.now) (told_list result) None }
-        ensures answer { IfOk result (IsAnswer (N.published N.book) root.now) }
-    {
-        // The thread reads the count before it waits for the lane.
-        self.crawl_soon(rt, self.begun.read(), root)
-    }
-
     /// This moment, for [`SharedCrawler::crawl_since`].
     pub fn ask(&self) -> Asked {
         self.begun.read()
@@ -69,7 +61,9 @@ impl<N: Named, R: Wait + Drop, T: Tree + Drop, S: Seconds + Drop> SharedCrawler<
     {
         let place = self.lanes.come(rt, root);
         let at = self.lanes.at(place);
+        at.turn.take(rt);
         let crawl = crawl_in(&self.begun, &self.shared, &at.lane, rt, asked, root);
+        at.turn.give(rt);
         self.lanes.go(rt, place);
         crawl
     }
@@ -83,7 +77,9 @@ impl<N: Named, R: Wait + Drop, T: Tree + Drop, S: Seconds + Drop> SharedCrawler<
         let place = self.lanes.come(rt, root);
         let at = self.lanes.at(place);
         at.callers.enter();
+        at.turn.take(rt);
         let crawl = crawl_in(&self.begun, &self.shared, &at.lane, rt, asked, root);
+        at.turn.give(rt);
         at.callers.leave(rt);
         self.lanes.go(rt, place);
         crawl
@@ -96,12 +92,14 @@ impl<N: Named, R: Wait + Drop, T: Tree + Drop, S: Seconds + Drop> SharedCrawler<
     {
         let place = self.lanes.come(rt, root);
         let at = self.lanes.at(place);
+        at.turn.take(rt);
         // The crawl for a client brings all changes.
         let made = if at.callers.is_any() {
             Ok(false)
         } else {
             glance_in(&self.shared, &at.lane, rt, root, reach)
         };
+        at.turn.give(rt);
         self.lanes.go(rt, place);
         made
     }
@@ -112,20 +110,6 @@ impl<N: Named, R: Wait + Drop, T: Tree + Drop, S: Seconds + Drop> SharedCrawler<
         let helped = self.lanes.at(place).helped();
         self.lanes.go(rt, place);
         helped
-    }
-
-    /// Finds the root of this text, or lists it and starts it, and returns the list of events. A crawl of the root for
-    /// nobody gives way to it.
-    pub fn open(&self, rt: &R, root: &str) -> Result<Told<N>, CrawlFault>
-        ensures { RootsGive None (showing root.now) (tells result) None }
-    {
-        let place = self.lanes.come(rt, root);
-        let at = self.lanes.at(place);
-        at.callers.enter();
-        let told = open_in(&self.shared, &at.lane, rt, root);
-        at.callers.leave(rt);
-        self.lanes.go(rt, place);
-        told
     }
 
     /// Publishes the end of a root that a look found, if it is shown, and returns the list of events. It waits for no
@@ -161,6 +145,107 @@ where
         self.lanes.go(rt, place);
         waits_none
     }
+
+    /// Crawls the root of this text for a client, publishes the pass, and returns the list of events. A crawl of the root
+    /// for nobody gives way to it. The call waits while another thread crawls the root, but no longer than until the root
+    /// is no longer shown or the client has gone. One that has gone gets a refusal, which nobody reads.
+    ///
+    /// If another thread crawled the root meanwhile, and began after this call did, the call returns the present list.
+    pub fn crawl<A: Asker>(&self, rt: &R, client: &A, root: &str) -> Result<Crawl<N>, CrawlFault>
+        ensures given { RootsGive None (passing root.now) (told_list result) None }
+        ensures answer { IfOk result (IsAnswer (N.published N.book) root.now) }
+    {
+        // The thread reads the count before it waits for the lane.
+        let asked = self.begun.read();
+        let place = self.lanes.come(rt, root);
+        let at = self.lanes.at(place);
+        at.callers.enter();
+        let crawl = crawl_in_turn(&self.begun, &self.shared, at, rt, client, asked, root);
+        at.callers.leave(rt);
+        self.lanes.go(rt, place);
+        crawl
+    }
+
+    /// Finds the root of this text, or lists it and starts it, and returns the list of events. A crawl of the root for
+    /// nobody gives way to it. The call waits while another thread crawls the root, but no longer than until the client
+    /// has gone. One that has gone gets a refusal, which nobody reads.
+    pub fn open<A: Asker>(&self, rt: &R, client: &A, root: &str) -> Result<Told<N>, CrawlFault>
+        ensures { RootsGive None (showing root.now) (tells result) None }
+    {
+        let place = self.lanes.come(rt, root);
+        let at = self.lanes.at(place);
+        at.callers.enter();
+        let told = open_in_turn(&self.shared, at, rt, client, root);
+        at.callers.leave(rt);
+        self.lanes.go(rt, place);
+        told
+    }
+}
+
+/// Crawls a root for a client that asked at this moment, in a lane whose turn it waits for.
+fn crawl_in_turn<N, R, T, S, A>(
+    begun: &Begun,
+    shared: &SharedPublisher<N, R>,
+    at: &SharedLane<T, S>,
+    rt: &R,
+    client: &A,
+    asked: Asked,
+    root: &str,
+) -> Result<Crawl<N>, CrawlFault>
+where
+    N: Named,
+    R: Wait + Clock + Drop,
+    T: Tree + Drop,
+    S: Seconds + Drop,
+    A: Asker,
+    ensures given { RootsGive None (passing root.now) (told_list result) None }
+    ensures answer { IfOk result (IsAnswer (N.published N.book) root.now) }
+{
+    let mut patience = Duration::ZERO;
+    for _ in rt.forever() {
+        if at.turn.take_within(rt, patience) {
+            let crawl = crawl_in(begun, shared, &at.lane, rt, asked, root);
+            at.turn.give(rt);
+            return crawl;
+        }
+        if let Some(answer) = shared.without_crawl(rt, root, client.is_gone()) {
+            return answer;
+        }
+        patience = Duration::from_millis(PATIENCE);
+    }
+    unreachable!()
+}
+
+/// Watches a root for a client, in a lane whose turn it waits for.
+#[tactic(auto, using(crate::proofs::Sharing::left_gives))]
+fn open_in_turn<N, R, T, S, A>(
+    shared: &SharedPublisher<N, R>,
+    at: &SharedLane<T, S>,
+    rt: &R,
+    client: &A,
+    root: &str,
+) -> Result<Told<N>, CrawlFault>
+where
+    N: Named,
+    R: Wait + Clock + Drop,
+    T: Tree + Drop,
+    S: Seconds + Drop,
+    A: Asker,
+    ensures { RootsGive None (showing root.now) (tells result) None }
+{
+    let mut patience = Duration::ZERO;
+    for _ in rt.forever() {
+        if at.turn.take_within(rt, patience) {
+            let told = open_in(shared, &at.lane, rt, root);
+            at.turn.give(rt);
+            return told;
+        }
+        if client.is_gone() {
+            return Err(CrawlFault::NoMemory);
+        }
+        patience = Duration::from_millis(PATIENCE);
+    }
+    unreachable!()
 }
 
 /// Crawls a root for a thread that asked at this moment, in a lane that it waits for.

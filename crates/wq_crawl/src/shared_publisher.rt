@@ -2,9 +2,10 @@
 ghost use Rattle.std.specs.Prelude.{◌≡◌, ℕ, IfErr, IfOk, IfSome, IsTrue, List, MatchOption, MatchResult, None, Some};
 ghost use Rattle.wq_live.specs.declared.event.RootEvent.{RootEvent};
 ghost use Rattle.wq_live.specs.Event.{number_of, passes_over};
-ghost use Rattle.wq_crawl.specs.Answer.{BeganSince, IsAnswer};
+ghost use Rattle.wq_crawl.specs.Answer.{BeganSince, IsAnswer, told_list};
 ghost use Rattle.wq_crawl.specs.Crawl.{IsRelisted, IsTakable, ListerData, crawler_at};
 ghost use Rattle.wq_crawl.specs.Publish.{EndsRoot};
+ghost use Rattle.wq_crawl.specs.Roots.{RootsGive, passing};
 ghost use Rattle.wq_crawl.specs.Shared.{FindsOrRefuses, Publishes, PublishesGlance, StartsRoot};
 
 use crate::crawl::{Began, Crawl};
@@ -75,12 +76,34 @@ impl<N: Named, R: Wait + Drop> SharedPublisher<N, R> {
     /// The answer that the root of this text is not shown, if it is not.
     pub(crate) fn gone(&self, rt: &R, root: &str) -> Option<Crawl<N>>
         ensures none { IfSome result (λ crawl. crawl ≡ None) }
+        ensures shown { result ≡ None → (events : List RootEvent) × (number : ℕ)
+            × (number_of root.now events ≡ Some number) }
         ensures answer { IfSome result (IsAnswer (N.published N.book) root.now) }
     {
         let publisher = self.publisher.lock(rt);
         match publisher.find(root) {
             Some(_) => None,
             None => Some(Crawl::gone(&publisher, root)),
+        }
+    }
+
+    /// The answer to a client that waits no longer for a crawl of the root of this text: the root is not shown, or the
+    /// client has gone and is refused. There is none if it goes on waiting.
+    pub(crate) fn without_crawl(
+        &self,
+        rt: &R,
+        root: &str,
+        is_gone: bool,
+    ) -> Option<Result<Crawl<N>, CrawlFault>>
+        ensures given { IfSome result (λ it.
+            RootsGive None (passing root.now) (told_list it) None) }
+        ensures answer { IfSome result
+            (λ it. IfOk it (IsAnswer (N.published N.book) root.now)) }
+    {
+        match self.gone(rt, root) {
+            Some(crawl) => Some(Ok(crawl)),
+            None if is_gone => Some(Err(CrawlFault::NoMemory)),
+            None => None,
         }
     }
 

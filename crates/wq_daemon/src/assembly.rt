@@ -19,7 +19,7 @@ use wq_registry::Cache;
 use wq_server::{Listening, Pace, Runtime, ToldTree, run};
 use wq_session::SharedShelf;
 
-/// How many seats a server has: one for each session, one for idle moments, one for rounds of triggers, and a few more.
+/// How many seats a server has: one for idle moments, one for rounds of triggers, and the others for sessions.
 pub const SEATS: usize = 48;
 
 /// How many lanes a server has beside the first one: enough for each root that is shown, and for one that each session

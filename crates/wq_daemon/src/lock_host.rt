@@ -90,10 +90,10 @@ fn lock_roots<'a, N, R, T, S, A>(
 ) -> Result<LockRoots<'a, N, R, T, S, A>, AllocError>
 where
     N: Named,
-    R: Wait + Copy + Drop,
+    R: Wait + Clock + Copy + Drop,
     T: Tree + Drop,
     S: Seconds + Drop,
-    A: Caller,
+    A: Asker + Caller,
 {
     Ok(LockRoots::new(caller, crawler.clone()?, rt, workers))
 }

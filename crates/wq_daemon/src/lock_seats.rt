@@ -1,10 +1,15 @@
 //! The seats that the threads of the server share: those of sessions, as long as no session has them, and one for looks at
 //! the roots that are shown.
 
+use crate::assembly::SEATS;
 use std::alloc::{AllocError, Global};
 use std::sync::{Mutex, Wait};
 use wq_live::{Named, Publisher, Seat};
-use wq_server::{MAX_SESSIONS, RootNumbers};
+use wq_server::RootNumbers;
+
+/// How many sessions may have a seat: all but the seat for looks and that of rounds. They are more than clients may be
+/// connected, since a session outlives a client that goes while it scans.
+const SESSION_SEATS: usize = SEATS - 2;
 
 /// Seats, each taken and given back under a lock.
 pub(crate) struct LockSeats<N: Named, R: Wait + Copy + Drop> {
@@ -78,8 +83,8 @@ fn session_seats<N: Named, R: Wait + Drop>(
     alloc: Global,
     publisher: &mut Publisher<N, R>,
 ) -> Result<Vec<Seat<N>>, AllocError> {
-    let mut seats = Vec::with_capacity(alloc, MAX_SESSIONS)?;
-    for _ in 0..MAX_SESSIONS {
+    let mut seats = Vec::with_capacity(alloc, SESSION_SEATS)?;
+    for _ in 0..SESSION_SEATS {
         seats.push(publisher.seat()?).map_err(AllocError::from)?;
     }
     Ok(seats)

@@ -11,7 +11,7 @@ mod queue;
 mod stream_reader;
 mod turnstile;
 
-pub use link::Link;
+pub use link::{Link, is_closed};
 pub use link_inbox::LinkInbox;
 pub use stream_reader::read_all;
 pub use turnstile::{Ticket, Turnstile};

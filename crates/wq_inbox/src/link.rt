@@ -2,6 +2,7 @@
 
 use crate::queue::Queue;
 use std::alloc::{AllocError, Global};
+use std::io::{ErrorKind, Write};
 use std::net::Shutdown;
 use std::os::unix::net::UnixStream;
 use std::sync::atomic::{AtomicBool, Ordering};
@@ -62,8 +63,25 @@ impl Link {
         stream.is_none()
     }
 
+    /// Whether the client has gone: nothing can be written to it any more.
+    pub fn has_gone<R: Wait>(&self, rt: &R) -> bool {
+        match &*self.stream.lock(rt) {
+            Some(stream) => is_closed(stream),
+            None => true,
+        }
+    }
+
     /// Whether the session's thread does nothing more.
     pub fn is_over(&self) -> bool {
         self.is_over.load(Ordering::SeqCst)
+    }
+}
+
+/// Whether nothing can be written to a stream any more: its client has closed it, or it was shut down.
+pub fn is_closed(mut stream: &UnixStream) -> bool {
+    // Nothing is written by that, and it waits for nobody: the system says only whether it would refuse a write.
+    match stream.write(&[]) {
+        Ok(_) => false,
+        Err(error) => error.kind() == ErrorKind::BrokenPipe,
     }
 }

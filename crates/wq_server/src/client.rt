@@ -1,6 +1,7 @@
 //! The two threads of one client: one reads its stream, and one runs its session.
 
 use crate::host::Host;
+use crate::placed_inbox::PlacedInbox;
 use crate::recipient::{Recipient, ReplyWriter};
 use crate::refusal::refuse;
 use crate::runtime::Runtime;
@@ -12,6 +13,15 @@ use std::thread::{self, JoinHandle};
 use wq_ask::Refusal;
 use wq_inbox::{Link, LinkInbox, Ticket, read_all};
 
+/// The place that a client has.
+#[derive(Clone, Copy, PartialEq, Eq, Drop)]
+pub(crate) enum ClientPlace {
+    /// One of those for everybody.
+    Usual,
+    /// The one that is kept for giving up a root, and for ending the server.
+    Kept,
+}
+
 /// Runs a client's session to its end, with a thread that reads its stream. If the session asked
 /// for it, the server ends. The handle of the client's stream is given back when the session has
 /// ended.
@@ -22,6 +32,7 @@ pub(crate) fn run_client<R, H>(
     alloc: Global,
     link: Arc<Link>,
     stream: Arc<UnixStream>,
+    place: ClientPlace,
     server: &Arc<Server<H>>,
 )
 where
@@ -30,7 +41,7 @@ where
 {
     let has_asked = match begin_reading(rt, alloc, &link, &stream) {
         Some(reader) => {
-            let has_asked = run_session(rt, &link, &stream, server);
+            let has_asked = run_session(rt, alloc, &link, &stream, place, server);
             link.end(&rt);
             reader.join(&rt);
             has_asked
@@ -63,7 +74,14 @@ fn begin_reading<R: Runtime>(
 }
 
 /// Runs a client's session, and says whether it asked that the server ends.
-fn run_session<R, H>(rt: R, link: &Arc<Link>, mut stream: &UnixStream, server: &Server<H>) -> bool
+fn run_session<R, H>(
+    rt: R,
+    alloc: Global,
+    link: &Arc<Link>,
+    mut stream: &UnixStream,
+    place: ClientPlace,
+    server: &Server<H>,
+) -> bool
 where
     R: Runtime,
     H: Host + Drop,
@@ -73,11 +91,12 @@ where
         return false;
     };
     let ticket = Ticket::new(&rt, &server.turnstile);
-    let mut inbox = LinkInbox {
+    let events = LinkInbox {
         link: theirs,
         rt,
         ticket: &ticket,
     };
+    let mut inbox = PlacedInbox::new(alloc, place, events);
     let client = Recipient {
         stream,
         ticket: &ticket,
@@ -87,6 +106,9 @@ where
         ticket: &ticket,
     };
     let has_asked = server.host.serve(&rt, &client, &mut inbox, &mut writer);
+    if inbox.is_refused {
+        refuse(&mut stream, Refusal::TooManySessions);
+    }
     ticket.leave();
     has_asked
 }

@@ -16,6 +16,7 @@ mod links;
 mod moments;
 mod pace;
 mod patience;
+mod placed_inbox;
 mod pulse;
 mod recipient;
 mod refusal;

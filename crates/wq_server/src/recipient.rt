@@ -1,12 +1,12 @@
 //! The client that gets the replies of a session.
 
-use std::io::{self, ErrorKind, Write};
+use std::io::{self, Write};
 use std::os::unix::net::UnixStream;
 use std::sync::Wait;
 use std::time::Clock;
 use wq_base::Asker;
 use wq_crawl::Caller;
-use wq_inbox::Ticket;
+use wq_inbox::{Ticket, is_closed};
 
 /// A client as the recipient of replies. It has gone when nothing can be written to it any more: it reads no more, or its
 /// session was told to end. A client that only sends no more still reads.
@@ -25,12 +25,7 @@ impl<R: Wait + Clock> Caller for Recipient<'_, R> {
 impl<R: Wait + Clock> Asker for Recipient<'_, R> {
     fn is_gone(&self) -> bool {
         self.ticket.leave();
-        // Nothing is written by that, and it waits for nobody: the system says only whether it would refuse a write.
-        let mut stream = self.stream;
-        match stream.write(&[]) {
-            Ok(_) => false,
-            Err(error) => error.kind() == ErrorKind::BrokenPipe,
-        }
+        is_closed(self.stream)
     }
 }
 

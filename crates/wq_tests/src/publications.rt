@@ -11,6 +11,7 @@ use std::marker::Brand;
 use std::sync::atomic::AtomicU64;
 use std::sync::{Arc, Wait};
 use std::thread::Threads;
+use std::time::Clock;
 use wq_base::{Stays, Workers};
 use wq_clock::Run;
 use wq_crawl::{
@@ -24,7 +25,7 @@ use wq_verify::StoredProgram;
 
 /// Roots that publish twice whenever they are called.
 #[derive(Drop)]
-struct Publishing<'a, N: Named, R: Wait + Drop> {
+struct Publishing<'a, N: Named, R: Wait + Clock + Drop> {
     roots: LockRoots<'a, N, R, Turning, Still, Stays>,
 }
 
@@ -34,7 +35,7 @@ fn publish_twice<N: Named, R: Roots<N>>(roots: &mut R) {
     let _ = roots.crawl("/r");
 }
 
-impl<N: Named, R: Wait + Drop> Roots<N> for Publishing<'_, N, R> {
+impl<N: Named, R: Wait + Clock + Drop> Roots<N> for Publishing<'_, N, R> {
     ghost use Rattle.std.specs.Prelude.{None};
 
     ghost crawler = { λ _. None };
@@ -62,12 +63,12 @@ impl<N: Named, R: Wait + Drop> Roots<N> for Publishing<'_, N, R> {
 
 /// A desk that publishes twice before it holds the shelf, also if it is to find a program or to keep one.
 #[derive(Drop)]
-struct PublishingDesk<'a, N: Named, R: Wait + Drop> {
+struct PublishingDesk<'a, N: Named, R: Wait + Clock + Drop> {
     desk: LockDesk<R>,
     roots: LockRoots<'a, N, R, Turning, Still, Stays>,
 }
 
-impl<N: Named, R: Wait + Drop> Desk for PublishingDesk<'_, N, R> {
+impl<N: Named, R: Wait + Clock + Drop> Desk for PublishingDesk<'_, N, R> {
     ghost use Rattle.std.specs.Prelude.{None};
 
     ghost shelf = { λ _. None };
@@ -95,12 +96,12 @@ impl<N: Named, R: Wait + Drop> Desk for PublishingDesk<'_, N, R> {
 
 /// A writer that publishes twice before each write.
 #[derive(Drop)]
-struct PublishingWriter<'a, N: Named, R: Wait + Drop> {
+struct PublishingWriter<'a, N: Named, R: Wait + Clock + Drop> {
     bytes: Vec<u8>,
     roots: LockRoots<'a, N, R, Turning, Still, Stays>,
 }
 
-impl<N: Named, R: Wait + Drop> Write for PublishingWriter<'_, N, R> {
+impl<N: Named, R: Wait + Clock + Drop> Write for PublishingWriter<'_, N, R> {
     fn write(&mut self, bytes: &[u8]) -> io::Result<usize> {
         publish_twice(&mut self.roots);
         self.bytes.write(bytes)
@@ -112,7 +113,7 @@ impl<N: Named, R: Wait + Drop> Write for PublishingWriter<'_, N, R> {
 }
 
 /// The bytes that a session writes for a client that sends these lines; none if it failed.
-fn talk<N: Named, R: Threads + Wait + Copy + Drop + Sync>(
+fn talk<N: Named, R: Threads + Wait + Clock + Copy + Drop + Sync>(
     rt: R,
     alloc: Global,
     blank: Blank,
@@ -179,7 +180,7 @@ const WRITTEN: &[u8] = br#"{"version":"wq-1","watch":"/r","watcher":"poll"}
 "#;
 
 /// Whether a client gets the right lines while roots, desk and writer publish.
-fn is_well<R: Threads + Wait + Copy + Drop + Sync>(rt: R, alloc: Global) -> bool {
+fn is_well<R: Threads + Wait + Clock + Copy + Drop + Sync>(rt: R, alloc: Global) -> bool {
     let Ok(blank) = Blank::new(&rt, alloc, 1) else {
         return false;
     };
