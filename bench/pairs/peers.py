@@ -98,7 +98,7 @@ def watchman(room: Path) -> Peer:
     return Peer("watchman", words, f"{room}/w", room)
 
 
-def wqd(room: Path, interval: int = AN_HOUR) -> Peer:
+def wqd(room: Path, interval: int = AN_HOUR, *more: str) -> Peer:
     program = os.environ.get("WQD") or str(TOP / "crates" / "wqd" / "out" / "wqd")
     words = [
         program,
@@ -111,6 +111,7 @@ def wqd(room: Path, interval: int = AN_HOUR) -> Peer:
         str(os.getpid()),
         "--interval",
         str(interval),
+        *more,
     ]
     return Peer("wqd", words, f"{room}/q", room)
 
