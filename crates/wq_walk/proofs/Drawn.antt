@@ -1,12 +1,12 @@
 -- Walks of pieces that threads drew, and what is left of them when one is taken.
-use Rattle.std.proofs.Common.{◌≡◌, ℕ, suc, ◌<◌, ◌+◌, get_or, List, [], ◌∷◌, ◌++◌}
-use Rattle.std.proofs.Common.{take, drop, length, ap, sym, subst, ◌∙◌, Ok, Vec}
+use Rattle.std.proofs.Common.{◌≡◌, ℕ, suc, ◌<◌, ◌+◌, arith, get_or, List, [], ◌∷◌, ◌++◌, Some}
+use Rattle.std.proofs.Common.{take, drop, length, ap, sym, subst, ◌∙◌, slice_get, Ok, Vec}
 use Rattle.std.specs.declared.alloc.Global.{Global}
-use Rattle.std.proofs.lemmas.List.{map-append}
+use Rattle.std.proofs.lemmas.List.{map-append, take_all, take_more}
 use Rattle.std.proofs.lemmas.List.Elements.{All-append, All-drop, All-get_or, All-nil}
 use Rattle.std.proofs.lemmas.List.Elements.{All-push, All-take}
+use Rattle.std.proofs.lemmas.Option.{get_or_from_slice_get, slice_get_within}
 use Rattle.std.specs.List.{All, remove}
-use Rattle.wq_base.proofs.Facts.{take_next}
 use Rattle.wq_walk.specs.declared.piece.Piece.{Piece}
 use Rattle.wq_walk.specs.declared.rows.Rows.{Rows}
 use Rattle.wq_walk.specs.declared.walks.Walked.{Walked}
@@ -15,6 +15,13 @@ use Rattle.wq_walk.specs.Listed.{walked_pieces}
 use Rattle.wq_walk.specs.Found.{found_rows}
 use Rattle.wq_walk.specs.Walk.{IsWalk}
 use Rattle.wq_disk.specs.Told.{FailsAt, GivesStat, Has}
+
+-- the first items of a list, and the next one
+pub take_next : {X : Type 0} (xs : List X) (n : ℕ) (x : X) → slice_get xs n ≡ Some x
+    → take (n + 1) xs ≡ take n xs ++ (x ∷ [])
+take_next xs n x is =
+    take_more xs n x (slice_get_within xs n x is)
+    ∙ ap (λ y. take n xs ++ (y ∷ [])) (get_or_from_slice_get xs n x x is)
 
 -- the rows of the first pieces, and those of the next one
 pub one_more : (says : GivesStat) (has : Has) (root : List ℕ) (walked new : List Rows) (rows : Rows)
@@ -31,6 +38,11 @@ one_more says has root walked new rows pieces place is walk (walks, of) = (
       ∙ ap (λ all. all ++ (rows.piece ∷ [])) of
       ∙ sym (take_next pieces place rows.piece walk.1),
 )
+
+-- all pieces
+pub whole : (walked : List Rows) (pieces : List Piece) (count : ℕ) → count ≡ length pieces
+    → walked_pieces walked ≡ take count pieces → walked_pieces walked ≡ pieces
+whole walked pieces count is of = of ∙ take_all count pieces (omega (arith, is))
 
 -- the rows are those of a walk of the piece at their place
 abbrev Is : GivesStat → Has → List ℕ → List Piece → Walked → Type 0
