@@ -53,4 +53,4 @@ def state_of(file: Optional[File]) -> List[Any]:
 
 
 def told(file: File) -> File:
-    return {key: file[key] for key in FIELDS}
+    return {key: value for key, value in file.items() if key in FIELDS}

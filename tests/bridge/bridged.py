@@ -1,5 +1,7 @@
 """A bridge beside a server that runs, and clients of it."""
 
+import json
+import os
 import socket
 import struct
 import subprocess
@@ -152,3 +154,50 @@ def make_files(root: Path, names: List[str]) -> None:
 def text_of(path: Path, is_right: Callable[[str], object]) -> str:
     """The text of a file, as soon as it is right."""
     return look_until(lambda: path.read_text() if path.exists() else "", is_right)
+
+
+def names_of(client: Client, root: Path, query: Dict[str, object]) -> List[str]:
+    reply = client.ask("query", str(root), {"fields": ["name"], "sync_timeout": 0, **query})
+    if "error" in reply:
+        raise ValueError(f"{query}: {reply}")
+    return sorted(reply["files"])
+
+
+def move_in(aside: Path, root: Path, names: List[str]) -> None:
+    """Moves files to a root that were made aside, so that no walk sees one half written."""
+    make_files(aside, names)
+    for name in names:
+        (aside / name).rename(root / name)
+
+
+def set_for(root: Path, settings: Dict[str, object]) -> None:
+    root.mkdir(parents=True, exist_ok=True)
+    (root / ".watchmanconfig").write_text(json.dumps(settings))
+
+
+def run(
+    room: Path,
+    *words: str,
+    sockname: str = "sock",
+    output: int = subprocess.PIPE,
+    given: bytes = b"",
+    **variables: str,
+) -> subprocess.CompletedProcess:
+    """Runs the command in a directory, with names that are relative to it, and with bytes on its standard input."""
+    environment = {
+        **os.environ,
+        "WATCHMAN_SOCK": sockname,
+        "WQD": os.path.relpath(str(built.program_path()), str(room)),
+        "XDG_STATE_HOME": str(room.resolve() / "state"),
+        **variables,
+    }
+    environment.pop("WQD_SOCK", None)
+    return subprocess.run(
+        [str(COMMAND), *words],
+        env=environment,
+        cwd=str(room),
+        input=given,
+        stdout=output,
+        stderr=subprocess.PIPE,
+        timeout=PATIENCE,
+    )

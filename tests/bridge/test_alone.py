@@ -4,11 +4,10 @@ import json
 from pathlib import Path
 from typing import Dict, List, Tuple
 
-from bridged import NO_CODEC, VERSION, Bridge, codec
+from bridged import Bridge, NO_CODEC, VERSION, codec, run
 from case import Case
-from test_starts import run
 
-VALIDATED = {"cli_validated": True, "version": VERSION}
+VALIDATED: Dict[str, object] = {"cli_validated": True, "version": VERSION}
 SHAPE = "invalid command (expected an array with some elements!)"
 NAME = "invalid command: expected element 0 to be the command name"
 # Commands on standard input that nobody is asked for, and why.
@@ -22,8 +21,8 @@ REFUSED: List[Tuple[object, str]] = [
 ]
 
 
-def said(room: Path, *words: str, **given: bytes) -> Tuple[int, Dict[str, object]]:
-    ended = run(room, "--no-spawn", *words, **given)
+def said(room: Path, *words: str, given: bytes = b"") -> Tuple[int, Dict[str, object]]:
+    ended = run(room, "--no-spawn", *words, given=given)
     return ended.returncode, json.loads(ended.stdout)
 
 
@@ -59,9 +58,9 @@ class Alone(Case):
     def test_wrong_commands(self) -> None:
         for command, words in REFUSED:
             found = said(self.room, "-j", given=json.dumps(command).encode())
-            self.same(f"{command}", found, (1, {**VALIDATED, "error": words}))
+            self.same(f"{command}", found, (1, dict(VALIDATED, error=words)))
         self.same(
-            "a clock of no root", said(self.room, "clock"), (1, {**VALIDATED, "error": "wrong number of arguments"})
+            "a clock of no root", said(self.room, "clock"), (1, dict(VALIDATED, error="wrong number of arguments"))
         )
         for data in (b"7", b"null", b"[", b"", b"\x00\x03"):
             ended = run(self.room, "--no-spawn", "-j", given=data)
@@ -69,8 +68,8 @@ class Alone(Case):
             self.same(f"{data!r}", (ended.returncode, ended.stdout, is_said), (1, b"", True))
         for option in ("--server-encoding", "--output-encoding"):
             ended = run(self.room, "--no-spawn", f"{option}=frob", "version")
-            words = b"watchman: Invalid encoding 'frob', use one of json, bser or bser-v2\n"
-            self.same(f"{option}=frob", (ended.returncode, ended.stdout, ended.stderr), (64, b"", words))
+            invalid = b"watchman: Invalid encoding 'frob', use one of json, bser or bser-v2\n"
+            self.same(f"{option}=frob", (ended.returncode, ended.stdout, ended.stderr), (64, b"", invalid))
         self.same("an encoding that is one", said(self.room, "--server-encoding=bser-v2", "version")[0], 0)
 
     def test_options(self) -> None:
@@ -84,14 +83,15 @@ class Alone(Case):
             ["--", "version"],
         ):
             self.same(f"{words}", said(self.room, *words), (0, {"version": VERSION}))
-        for words, reason in (
+        wrong: List[Tuple[List[str], str]] = [
             (["--frob"], "Unknown or invalid option! option --frob not recognized"),
             (["--sockname"], "Unknown or invalid option! option --sockname requires argument"),
             (["--help=3"], "Unknown or invalid option! option --help must not have an argument"),
             (["-x"], "Unknown or invalid option! option -x not recognized"),
             (["-f"], "watchman: --foreground is not supported; start wqd serve and clients/bridge by themselves"),
             ([], "watchman: there is no command"),
-        ):
+        ]
+        for words, reason in wrong:
             ended = run(self.room, "--no-spawn", *words)
             self.same(f"{words}", (ended.returncode, ended.stderr.decode().splitlines()[0]), (1, reason))
 

@@ -5,12 +5,11 @@ import json
 import os
 import signal
 from pathlib import Path
+from typing import Dict, List, Tuple
 
-from bridged import Bridge, make_files
+from bridged import Bridge, make_files, names_of, run
 from case import Case
 from client import Client
-from test_lists import names_of
-from test_starts import run
 from waiting import wait_until
 
 SECOND = 1_700_000_000
@@ -72,14 +71,15 @@ class Clocks(Case):
             clock = client.ask("clock", str(root))["clock"]
             make_files(root, ["new"])
             changed = ["allof", ["type", "f"], ["since", {"clock": clock}]]
-            for query, expected in (
+            queries: List[Tuple[Dict[str, object], List[str]]] = [
                 ({"since": {"clock": clock}}, ["new"]),
                 ({"since": {}}, sorted([*FILES, "new"])),
                 ({"since": -5}, sorted([*FILES, "new"])),
                 ({"since": "n:"}, sorted([*FILES, "new"])),
                 ({"since": "n:"}, []),
                 ({"expression": changed}, ["new"]),
-            ):
+            ]
+            for query, expected in queries:
                 given = {"expression": ["type", "f"], "sync_timeout": 1000, **query}
                 self.same(f"{query}".replace(clock, "CLOCK"), names_of(client, root, given), expected)
             self.check_the_second_of_a_change(root, client)

@@ -3,18 +3,12 @@
 import json
 import os
 from pathlib import Path
-from typing import Dict, List
+from typing import Dict, List, Optional, Tuple, Union
 
-from bridged import VERSION, Bridge, is_silent, make_files
+from bridged import Bridge, VERSION, is_silent, make_files, move_in, names_of, set_for
 from case import Case
 from client import Client
-from test_lists import move_in, names_of
 from waiting import look_until
-
-
-def set_for(root: Path, settings: Dict[str, object]) -> None:
-    root.mkdir(parents=True, exist_ok=True)
-    (root / ".watchmanconfig").write_text(json.dumps(settings))
 
 
 class Configured(Case):
@@ -66,7 +60,7 @@ class Configured(Case):
         """`root_files` say what a project is, and whether others may be watched."""
         trees = self.room / "trees"
         make_files(trees, ["a/.foo", "a/b/c/", "d/e/", "g/.git/"])
-        for settings, path, expected in (
+        projects: List[Tuple[Dict[str, object], str, Union[str, Tuple[str, Optional[str]]]]] = [
             ({"root_files": [".foo"]}, "a/b/c", ("a", "b/c")),
             ({"root_files": [".foo"]}, "d/e", ("d/e", None)),
             ({"root_files": [".foo"]}, "g", ("g", None)),
@@ -77,7 +71,8 @@ class Configured(Case):
             ),
             ({"root_restrict_files": [".git"]}, "g", ("g", None)),
             ({"root_restrict_files": [".git"]}, "a", "none of the files listed in global config root_files"),
-        ):
+        ]
+        for settings, path, expected in projects:
             with configured(self.room, settings) as bridge, bridge.client() as client:
                 reply = client.ask("watch-project", str(trees / path))
                 found = (
@@ -98,11 +93,12 @@ class Configured(Case):
         """A directory on a file system that the settings forbid may not be watched. Those that are near are all of one
         name."""
         root = self.directory("root")
-        for settings, words in (
+        forbidden: List[Tuple[Dict[str, object], Optional[str]]] = [
             ({"illegal_fstypes": ["unknown"], "illegal_fstypes_advice": "go away"}, "illegal_fstypes: go away"),
             ({"illegal_fstypes": ["unknown"]}, "illegal_fstypes: relocate the dir to an allowed filesystem type"),
             ({"illegal_fstypes": ["nfs", "cifs"]}, None),
-        ):
+        ]
+        for settings, words in forbidden:
             with configured(self.room, settings) as bridge, bridge.client() as client:
                 error = client.ask("watch", str(root)).get("error")
                 expected = words and (

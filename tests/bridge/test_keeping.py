@@ -9,7 +9,7 @@ import sys
 import threading
 import time
 from pathlib import Path
-from typing import Dict, List
+from typing import Any, Dict, List
 from unittest.mock import patch
 
 import built
@@ -131,6 +131,7 @@ class Keeping(Case):
             bridge.process.wait()
             third = subprocess.Popen(command, stderr=subprocess.PIPE)
             listening = f"bridge: listening on {bridge.sockname}\n".encode()
+            assert third.stderr is not None
             self.same("a socket that was left is replaced", listening in iter(third.stderr.readline, b""), True)
             third.terminate()
             self.same("SIGTERM ends a bridge", third.wait(PATIENCE), 0)
@@ -166,6 +167,7 @@ class Keeping(Case):
             subscribing = begin(
                 "-j", "--persistent", script=json.dumps(["subscribe", str(root), "s", {"fields": ["name"]}]).encode()
             )
+            assert subscribing.stdout is not None
             found = [json.loads(subscribing.stdout.readline()) for _ in range(2)]
             subscribing.kill()
             subscribing.communicate()
@@ -173,7 +175,7 @@ class Keeping(Case):
             self.same("an error has status 0", "error" in said(begin("frob")), True)
         finally:
             self.same("shutdown-server", said(begin("--no-spawn", "shutdown-server"))["shutdown-server"], True)
-        refused = "unable to talk to your watchman" in said(begin("--no-spawn", "--no-local", "version"))
+        refused = "unable to talk to your watchman" in str(said(begin("--no-spawn", "--no-local", "version")))
         self.same("without a server", refused, True)
 
 
@@ -182,16 +184,18 @@ def begun(command: List[str], script: bytes, environment: Dict[str, str]) -> sub
     process = subprocess.Popen(
         command, env=environment, stdin=subprocess.PIPE, stdout=subprocess.PIPE, stderr=subprocess.PIPE
     )
+    assert process.stdin is not None
     process.stdin.write(script)
     process.stdin.close()
     process.stdin = None
     return process
 
 
-def said(process: subprocess.Popen) -> object:
-    """The reply that a command prints, or its error."""
+def said(process: subprocess.Popen) -> Dict[str, Any]:
+    """The reply that a command prints; without one its error, as a key."""
     output, errors = process.communicate(timeout=PATIENCE)
-    return json.loads(output) if process.returncode == 0 else errors.decode()
+    found: Dict[str, Any] = json.loads(output) if process.returncode == 0 else {errors.decode(): None}
+    return found
 
 
 def comes_back(client: Client, root: Path) -> bool:

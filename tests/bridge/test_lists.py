@@ -7,9 +7,9 @@ import os
 import random
 import shutil
 from pathlib import Path
-from typing import Dict, List
+from typing import Dict, List, Tuple
 
-from bridged import NO_CODEC, VERSION, Bridge, BserClient, codec, is_silent, make_files
+from bridged import Bridge, BserClient, NO_CODEC, VERSION, codec, is_silent, make_files, move_in, names_of
 from case import Case
 from client import Client
 
@@ -19,13 +19,6 @@ NAMES = ["a.c", "b.h", ".a.c", "A.C", "x", "s*r", "s?r", "[q]"]
 DRAWS = 80
 # So many files have long lists.
 LONG = 2_000
-
-
-def names_of(client: Client, root: Path, query: Dict[str, object]) -> List[str]:
-    reply = client.ask("query", str(root), {"fields": ["name"], "sync_timeout": 0, **query})
-    if "error" in reply:
-        raise ValueError(f"{query}: {reply}")
-    return sorted(reply["files"])
 
 
 IN_BSER: List[Dict[str, object]] = [
@@ -76,7 +69,7 @@ class Lists(Case):
         root = self.room / "root"
         make_files(root, ["a.c", "B.C", "d/c.c", "d/.e.c", "d/f.h"])
         with Bridge(self.room, 3_600_000) as bridge, bridge.client(root) as client:
-            for query, expected in (
+            queries: List[Tuple[Dict[str, object], List[str]]] = [
                 ({"glob": ["*.c"]}, ["a.c"]),
                 ({"glob": ["**/*.c"]}, ["a.c", "d/c.c"]),
                 ({"glob": ["**/*.c"], "glob_includedotfiles": True}, ["a.c", "d/.e.c", "d/c.c"]),
@@ -101,7 +94,8 @@ class Lists(Case):
                 ({"expression": ["name", "x" * 2_000_000]}, []),
                 ({"expression": ["name", "b.c"], "case_sensitive": False}, ["B.C"]),
                 ({"expression": ["name", "b.c"], "case_sensitive": True}, []),
-            ):
+            ]
+            for query, expected in queries:
                 self.same(f"{query}", names_of(client, root, query), expected)
             self.same(
                 "find", sorted(row["name"] for row in client.ask("find", str(root), "*.c", "-X", "a*")["files"]), []
@@ -114,11 +108,12 @@ class Lists(Case):
         """Beside a clock a glob gives files that exist, and the clock those that changed."""
         clock = client.ask("clock", str(root))["clock"]
         make_files(root, ["new.c", "d/new.c", "d/.new.c"])
-        for query, expected in (
+        queries: List[Tuple[Dict[str, object], List[str]]] = [
             ({"glob": ["d/*.c"]}, ["d", "d/.new.c", "d/c.c", "d/new.c", "new.c"]),
             ({"glob": ["a.c"], "expression": ["suffix", "c"]}, ["a.c", "d/.new.c", "d/new.c", "new.c"]),
             ({"glob": ["c.c"], "relative_root": "d", "expression": ["suffix", "c"]}, [".new.c", "c.c", "new.c"]),
-        ):
+        ]
+        for query, expected in queries:
             self.same(
                 f"{query} since", names_of(client, root, {**query, "since": clock, "sync_timeout": 1000}), expected
             )
@@ -299,8 +294,10 @@ def drawn_term(draw: random.Random, depth: int) -> object:
     if depth < 3 and draw.random() < 0.4:
         head = draw.choice(["not", "allof", "anyof"])
         return [head, *(drawn_term(draw, depth + 1) for _ in range(1 if head == "not" else draw.randrange(1, 3)))]
-    i, scope = draw.choice(["", "i"]), draw.choice([[], ["basename"], ["wholename"]])
-    flags = (
+    scopes: List[List[str]] = [[], ["basename"], ["wholename"]]
+    depths: List[List[object]] = [[], [["depth", "ge", 1]]]
+    i, scope = draw.choice(["", "i"]), draw.choice(scopes)
+    flags: List[Dict[str, bool]] = (
         [{"includedotfiles": draw.random() < 0.5, "noescape": draw.random() < 0.5}]
         if scope and draw.random() < 0.5
         else []
@@ -318,7 +315,7 @@ def drawn_term(draw: random.Random, depth: int) -> object:
             [
                 f"{i}dirname",
                 draw.choice(["", "x.d", "a.d/", "A.D", "a.d/s?r"]),
-                *draw.choice([[], [["depth", "ge", 1]]]),
+                *draw.choice(depths),
             ],
         ]
     )
@@ -338,10 +335,3 @@ def looked_at(path: Path, name: str) -> Dict[str, object]:
         "symlink_target": os.readlink(path) if path.is_symlink() else None,
         "content.sha1hex": None if path.is_symlink() or path.is_dir() else hashlib.sha1(path.read_bytes()).hexdigest(),
     }
-
-
-def move_in(aside: Path, root: Path, names: List[str]) -> None:
-    """Moves files to a root that were made aside, so that no walk sees one half written."""
-    make_files(aside, names)
-    for name in names:
-        (aside / name).rename(root / name)

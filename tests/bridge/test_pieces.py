@@ -2,7 +2,8 @@
 
 import json
 import random
-from typing import Dict, List
+import socket
+from typing import Dict, List, cast
 
 from bridged import VERSION, codec
 from case import Case
@@ -65,7 +66,11 @@ class Drawn:
         if self.comes_by_itself:
             value.update(root='/r,"d', subscription='],"is_fresh_instance":', unilateral=True)
         self.line = json.dumps(value, sort_keys=True, separators=(",", ":"), ensure_ascii=False).encode()
-        self.expected = {**value, "version": VERSION, "files": [told(row, wanted, "") for row in rows]}
+        self.expected: Dict[str, object] = {
+            **value,
+            "version": VERSION,
+            "files": [told(row, wanted, "") for row in rows],
+        }
 
 
 def drawn_name(draw: random.Random) -> str:
@@ -103,11 +108,16 @@ class Pieces(Case):
             encoding = draw.choice(ENCODINGS if bser else ENCODINGS[:1])
             drawn = Drawn(draw, encoding)
             receiver = Receiver()
-            listed: Listed = list_for(drawn.lister, Writer(bser), encoding, receiver)
+            listed: Listed = list_for(drawn.lister, Writer(bser), encoding, cast(socket.socket, receiver))
             passed += isinstance(listed, Passing)
             listed.end(drawn.line if drawn.comes_by_itself else all_but_the_last(draw, drawn.line, listed))
             listed.tell()
-            found = json.loads(receiver.data) if encoding == JSON else bser.loads(receiver.data, value_encoding="utf-8")
+            assert bser is not None or encoding == JSON
+            found = (
+                bser.loads(receiver.data, value_encoding="utf-8")
+                if bser and encoding != JSON
+                else json.loads(receiver.data)
+            )
             if found != drawn.expected:
                 wrong.append(f"{encoding}: {drawn.line!r}: {receiver.data!r} and not {drawn.expected}")
         self.check(f"{DRAWS} lists in pieces", not wrong, wrong[:3])

@@ -5,41 +5,12 @@ import os
 import subprocess
 import sys
 from pathlib import Path
-from typing import Callable, Dict, List
+from typing import Any, Callable, Dict, List, Tuple
 
-import built
-from bridged import COMMAND, PROGRAM, VERSION, Bridge, codec
+from bridged import Bridge, COMMAND, PROGRAM, VERSION, codec, run
 from case import Case
 from client import PATIENCE, Client
 from waiting import wait_until
-
-
-def run(
-    room: Path,
-    *words: str,
-    sockname: str = "sock",
-    output: int = subprocess.PIPE,
-    given: bytes = b"",
-    **variables: str,
-) -> subprocess.CompletedProcess:
-    """Runs the command in a directory, with names that are relative to it, and with bytes on its standard input."""
-    environment = {
-        **os.environ,
-        "WATCHMAN_SOCK": sockname,
-        "WQD": os.path.relpath(str(built.program_path()), str(room)),
-        "XDG_STATE_HOME": str(room.resolve() / "state"),
-        **variables,
-    }
-    environment.pop("WQD_SOCK", None)
-    return subprocess.run(
-        [str(COMMAND), *words],
-        env=environment,
-        cwd=str(room),
-        input=given,
-        stdout=output,
-        stderr=subprocess.PIPE,
-        timeout=PATIENCE,
-    )
 
 
 # What the command says without Python, and what it leaves to it.
@@ -84,12 +55,13 @@ class Starts(Case):
 
     def test_words_of_the_server(self) -> None:
         """How a server works that the command starts: as wq starts one, unless variables say otherwise."""
-        for variables, expected in (
+        rows: List[Tuple[Dict[str, str], Dict[str, str]]] = [
             ({}, {"--share": "10", "--interval": "100"}),
             ({"WQD_INTERVAL": "500"}, {"--share": "10", "--interval": "500"}),
             ({"WQD_SHARE": "50", "WQD_INTERVAL": "20"}, {"--share": "50", "--interval": "20"}),
-        ):
-            run(self.room, "version", **variables)
+        ]
+        for variables, expected in rows:
+            run(self.room, "version", sockname="sock", output=subprocess.PIPE, given=b"", **variables)
             with Client(str(self.room / "sock.wqd")) as client:
                 words = Path(f"/proc/{client.peer().process}/cmdline").read_text().split("\0")
             workers = {"--workers": str(min(4, len(os.sched_getaffinity(0))))}
@@ -104,9 +76,9 @@ class Starts(Case):
         (tree / "below").mkdir(parents=True)
         (tree / "file.c").touch()
 
-        def found(directory: Path, *words: str, given: bytes = b"") -> Dict[str, object]:
+        def found(directory: Path, *words: str, given: bytes = b"") -> Dict[str, Any]:
             sockname = os.path.relpath(str(self.room / "sock"), str(directory))
-            reply: Dict[str, object] = json.loads(run(directory, *words, sockname=sockname, given=given).stdout)
+            reply: Dict[str, Any] = json.loads(run(directory, *words, sockname=sockname, given=given).stdout)
             return reply
 
         try:
@@ -197,12 +169,12 @@ class Starts(Case):
                 self.same(f"{words[0]} of a bridge by hand", (ended.returncode, stray.exists()), (0, False))
             bridge.server.kill()
             ended = run(self.room, "watch-list", sockname=bridge.sockname)
-            words = (
+            reason = (
                 f"watchman: nobody listens on {bridge.server.sockname}, "
                 f"which the bridge at {bridge.sockname} asks\n"
             )
             self.same(
-                "its server has gone", (ended.returncode, ended.stderr.decode(), stray.exists()), (1, words, False)
+                "its server has gone", (ended.returncode, ended.stderr.decode(), stray.exists()), (1, reason, False)
             )
 
     def test_a_command_that_stays(self) -> None:
@@ -213,6 +185,7 @@ class Starts(Case):
                 stdout=subprocess.PIPE,
                 stderr=subprocess.PIPE,
             )
+            assert staying.stdout is not None
             self.same("a command that stays is answered", staying.stdout.readline(), b"{\n")
             bridge.process.terminate()
             _, errors = staying.communicate(timeout=PATIENCE)

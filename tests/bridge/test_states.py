@@ -4,12 +4,11 @@ end."""
 import random
 import time
 from pathlib import Path
-from typing import Dict, List
+from typing import Callable, Dict, List
 
-from bridged import VERSION, Bridge, is_silent, make_files
+from bridged import Bridge, VERSION, is_silent, make_files, move_in
 from case import Case
 from client import Client
-from test_lists import move_in
 
 # So many files come while lists are held back and let go.
 DRAWS = 60
@@ -154,9 +153,9 @@ class States(Case):
         root = self.room / "root"
         make_files(root, ["a", ".git/HEAD"])
         with Bridge(self.room) as bridge, bridge.client() as client:
-            query = {"expression": ["suffix", "c"], "fields": ["name"]}
+            query: Dict[str, object] = {"expression": ["suffix", "c"], "fields": ["name"]}
             client.ask("subscribe", str(root), "waits", query)
-            client.ask("subscribe", str(root), "goes on", {**query, "defer_vcs": False})
+            client.ask("subscribe", str(root), "goes on", dict(query, defer_vcs=False))
             (root / ".git" / "index.lock").touch()
             for name in ("b.c", "c.c"):
                 move_in(self.room / "aside", root, [name])
@@ -184,7 +183,7 @@ class States(Case):
                     told.extend(reply.get("files", []))
                     reply = client.reply()
 
-            steps = [
+            steps: List[Callable[[], object]] = [
                 lambda: other.ask("state-enter", str(root), "x"),
                 lambda: other.ask("state-leave", str(root), "x"),
                 lambda: ask("debug-set-subscriptions-paused", {"s": True}),
@@ -217,7 +216,7 @@ class States(Case):
         with Bridge(self.room) as bridge, bridge.client() as client, bridge.client() as other:
             client.ask("watch", str(root))
             self.check_a_query_that_waits(self.room, root, client)
-            reply = client.ask("query", str(root), {**NAMES, "settle_period": 300, "settle_timeout": 100})
+            reply = client.ask("query", str(root), dict(NAMES, settle_period=300, settle_timeout=100))
             self.same(
                 "a query that waits too long",
                 reply.get("error"),
@@ -231,7 +230,7 @@ class States(Case):
         is tried."""
         expected = [".watchmanconfig", "a"]
         for turn in range(TRIES):
-            client.send("query", str(root), {**NAMES, "settle_period": round(PERIOD * 1000)})
+            client.send("query", str(root), dict(NAMES, settle_period=round(PERIOD * 1000)))
             time.sleep(PERIOD / 3)
             expected.append(f"b{turn}")
             changed = time.monotonic()
@@ -284,7 +283,7 @@ class States(Case):
             self.same("one is left", len(client.ask("debug-get-subscriptions", str(root))["subscribers"]), 1)
             others = [bridge.server.client_when_free() for _ in range(30)]
             self.same("the places of the others are free again", direct.ask("version"), {"version": "wq-1"})
-            query = {**NAMES, "empty_on_fresh_instance": True}
+            query = dict(NAMES, empty_on_fresh_instance=True)
             refused = [client.ask("subscribe", str(root), f"t{number}", query) for number in range(64)]
             self.same(
                 "without a place it is said",

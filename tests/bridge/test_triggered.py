@@ -4,12 +4,10 @@ log."""
 import contextlib
 import json
 import time
-from typing import Dict
+from typing import Dict, List, Tuple
 
-from bridged import VERSION, Bridge, make_files, text_of
+from bridged import Bridge, VERSION, make_files, move_in, set_for, text_of
 from case import Case
-from test_configured import set_for
-from test_lists import move_in
 
 # So many clients the server takes.
 PLACES = 32
@@ -44,7 +42,7 @@ class Triggered(Case):
             whole = f"|{root}|t|{bridge.sockname}"
             below = f"{root}/d|{root}|t|{bridge.sockname}"
             mode = (root / "d" / "b.c").stat().st_mode
-            for keys, expected in (
+            triggers: List[Tuple[Dict[str, object], List[str]]] = [
                 ({"append_files": True}, [str(root), "a.c", "d/b.c", whole]),
                 ({"chdir": "d/e", "stdin": "NAME_PER_LINE"}, ["a.c", "d/b.c", f"{root}/d/e", whole]),
                 (
@@ -57,7 +55,8 @@ class Triggered(Case):
                     [json.dumps([{"name": "b.c", "size": 5, "mode": mode}], separators=(",", ":")), f"{root}/d", below],
                 ),
                 ({"stdin": "NAME_PER_LINE", "max_files_stdin": 1}, ["a.c", str(root), whole]),
-            ):
+            ]
+            for keys, expected in triggers:
                 out.write_text("")
                 reply = client.ask("trigger", str(root), trigger_of("t", {**keys, "stdout": f">{out}"}))
                 self.same(f"{keys} is registered", reply.get("triggerid"), "t")
@@ -140,7 +139,7 @@ class Triggered(Case):
         make_files(root, ["a.c"])
         log, errors = self.room / "log", self.room / "errors"
         with Bridge(self.room) as bridge, bridge.client() as client:
-            definition = {
+            definition: Dict[str, object] = {
                 "name": "t",
                 "command": ["sh", "-c", "echo out; echo err >&2; echo end"],
                 "expression": ["suffix", "c"],
@@ -162,7 +161,7 @@ class Triggered(Case):
             )
             self.same(
                 "another",
-                client.ask("trigger", str(root), {**definition, "stdout": f">{log}"})["disposition"],
+                client.ask("trigger", str(root), dict(definition, stdout=f">{log}"))["disposition"],
                 "replaced",
             )
             client.ask("trigger", str(root), "u", "*.c", "-X", "b*", "--", "true", "x")
@@ -197,15 +196,15 @@ class Triggered(Case):
         """A subscription from a cursor begins with its list; generators change nothing, as in Watchman."""
         root = self.room / "root"
         make_files(root, ["a.c", "d/b.h"])
-        query = {"fields": ["name"], "expression": ["type", "f"]}
+        query: Dict[str, object] = {"fields": ["name"], "expression": ["type", "f"]}
         with Bridge(self.room) as bridge, bridge.client(root) as client:
-            client.ask("subscribe", str(root), "s", {**query, "suffix": ["c"], "path": ["d"], "glob": ["x"]})
+            client.ask("subscribe", str(root), "s", dict(query, suffix=["c"], path=["d"], glob=["x"]))
             self.same("generators of a subscription", client.reply()["files"], ["a.c", "d/b.h"])
             client.ask("unsubscribe", str(root), "s")
-            client.ask("query", str(root), {**query, "since": "n:k"})
+            client.ask("query", str(root), dict(query, since="n:k"))
             move_in(self.room / "aside", root, ["new"])
             client.ask("query", str(root), query)
-            reply = client.ask("subscribe", str(root), "s", {**query, "since": "n:k"})
+            reply = client.ask("subscribe", str(root), "s", dict(query, since="n:k"))
             self.same("a subscription from a cursor", reply.get("subscribe"), "s")
             first = client.reply()
             self.same("begins with what changed", (first["files"], first["is_fresh_instance"]), (["new"], False))
@@ -213,5 +212,5 @@ class Triggered(Case):
             later = client.reply()
             self.same("and goes on", (later["files"], later["since"]), (["newer"], first["clock"]))
             self.same(
-                "the cursor has moved", client.ask("query", str(root), {**query, "since": "n:k"})["files"], ["newer"]
+                "the cursor has moved", client.ask("query", str(root), dict(query, since="n:k"))["files"], ["newer"]
             )

@@ -266,7 +266,7 @@ def errors_of_commands(root: str, other: str) -> List[Tuple[List[object], str]]:
 
 
 def errors_of_triggers(root: str) -> List[Tuple[List[object], str]]:
-    named = {"name": "t", "command": ["x"]}
+    named: Dict[str, object] = {"name": "t", "command": ["x"]}
     return [
         (["trigger"], "wrong number of arguments"),
         (["trigger", root], "not enough arguments"),
@@ -278,11 +278,11 @@ def errors_of_triggers(root: str) -> List[Tuple[List[object], str]]:
         (["trigger", root, "t", "--", 123], "failed to parse query: rule @ position 4 is not a string value"),
         (["trigger", root, {}], "invalid or missing name"),
         (["trigger", root, {"name": "t"}], "invalid command array"),
-        (["trigger", root, {**named, "stdin": 7}], "invalid value for stdin"),
-        (["trigger", root, {**named, "stdin": "foo"}], "invalid stdin value foo"),
-        (["trigger", root, {**named, "stdout": "foo"}], "stdout: must be prefixed with either > or >>, got foo"),
-        (["trigger", root, {**named, "max_files_stdin": -1}], "max_files_stdin must be >= 0"),
-        (["trigger", root, {**named, "expression": ["frob"]}], "failed to parse query: unknown expression term 'frob'"),
+        (["trigger", root, dict(named, stdin=7)], "invalid value for stdin"),
+        (["trigger", root, dict(named, stdin="foo")], "invalid stdin value foo"),
+        (["trigger", root, dict(named, stdout="foo")], "stdout: must be prefixed with either > or >>, got foo"),
+        (["trigger", root, dict(named, max_files_stdin=-1)], "max_files_stdin must be >= 0"),
+        (["trigger", root, dict(named, expression=["frob"])], "failed to parse query: unknown expression term 'frob'"),
         (["trigger-del", root], "wrong number of arguments"),
         (["trigger-del", root, 7], "expected 2nd parameter to be trigger name"),
     ]

@@ -13,7 +13,7 @@ import built
 from case import Beside
 from client import PATIENCE
 from runs import Log, change_until, command, has_runs
-from scene import COMMAND, AtTerminal, Scene, called_at_terminal, following, said, wrong
+from scene import COMMAND, AtTerminal, Scene, called_at_terminal, following, said, without_delays, wrong
 from waiting import wait_until
 
 SHOWS = 'printf "%s %s [%s]\\n" "$WQ_ROOT" "$WQ_CHANGED_COUNT" "$WQ_CHANGED"'
@@ -61,7 +61,9 @@ class WaysOfRuns(Beside):
         self.check("names for several processes", len(counts) > 1 and sum(counts) == 900, [str(ended)[:300]])
         status = 1 if max(counts or [0]) > 400 else 0
         self.same(
-            "how they end together", (ended.status, ended.errors), (status, said(f"sh ended with status {status}"))
+            "how they end together",
+            (ended.status, without_delays(ended.errors)),
+            (status, said(f"sh ended with status {status}")),
         )
 
     def check_shell(self, scene: Scene) -> None:
