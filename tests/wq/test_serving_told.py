@@ -27,6 +27,9 @@ from wqclient.unit import listens_soon
 
 A_HOUR = 3_600
 
+# As many as a server gets that is started without a word of them.
+WORKERS = ["--workers", str(min(4, len(os.sched_getaffinity(0))))]
+
 
 class ServingTold(Beside):
     def test_server(self) -> None:
@@ -54,20 +57,16 @@ class ServingTold(Beside):
             self.same(
                 "restart with words", scene.wq("restart", "--share", "50"), built.Ended(b"", ended + gone + started, 0)
             )
-            workers = ["--workers", str(min(4, len(os.sched_getaffinity(0))))]
-            those = ["--interval", "100", *workers, "--share", "50"]
+            those = ["--interval", "100", *WORKERS, "--share", "50"]
             self.same("those words", words_of(facts(scene)["process"])[-6:], those)
             self.same("stop", scene.wq("stop"), built.Ended(b"", ended, 0))
             self.same("restart of none", scene.wq("restart"), built.Ended(b"", started, 0))
-            usual = ["--share", "10", "--interval", "100", *workers]
+            usual = ["--share", "10", "--interval", "100", *WORKERS]
             self.same("the usual words", words_of(facts(scene)["process"])[-6:], usual)
             scene.wq("stop")
             failed = scene.wq("start", "--interval", "1")
-            self.same(
-                "start with a wrong word",
-                (failed.status, b"--interval takes a number from 10" in failed.errors),
-                (3, True),
-            )
+            has_reason = b"--interval takes a number from 10" in failed.errors
+            self.same("start with a wrong word", (failed.status, has_reason), (3, True))
             self.check_starts_at_once(scene)
             self.check_sockets(scene)
 
