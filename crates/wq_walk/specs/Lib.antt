@@ -9,4 +9,3 @@ pub mod Once
 pub mod Tiles
 pub mod Found
 pub mod Glance
-pub mod Threads

@@ -1,6 +1,5 @@
 //! The progress of the threads that walk one tree. Another module walks the pieces.
-ghost use Rattle.std.specs.Prelude.{◌≡◌, IfErr, min};
-ghost use Rattle.wq_walk.specs.Threads.{work_of_others};
+ghost use Rattle.std.specs.Prelude.{◌≡◌, IfErr};
 ghost use Rattle.wq_patch.specs.declared.tree.TreeFault.TheVariants.{GaveWay, TooManyRows};
 
 use crate::piece::MOST_PIECES;
@@ -26,10 +25,6 @@ pub(crate) struct Progress<'a> {
     directories: AtomicU64,
     /// The processor time of the threads beside the one that asked, in nanoseconds.
     helped: AtomicU64,
-    /// How many pieces the thread that asked walked.
-    own: AtomicUsize,
-    /// How many pieces others walked.
-    others: AtomicUsize,
 }
 
 impl<'a> Progress<'a> {
@@ -42,8 +37,6 @@ impl<'a> Progress<'a> {
             names: AtomicU64::new(0),
             directories: AtomicU64::new(0),
             helped: AtomicU64::new(0),
-            own: AtomicUsize::new(0),
-            others: AtomicUsize::new(0),
         }
     }
 
@@ -52,46 +45,19 @@ impl<'a> Progress<'a> {
         self.helped.load(Ordering::SeqCst)
     }
 
-    /// Counts the work of other threads that walked so many parts, if the one that asked walked so many. It had used this
-    /// processor time before, and has used this now.
+    /// Counts the work of the other ones of so many threads, if this one had used this processor time before its own part
+    /// and has used this now. They share what there is to do, so each of them counts as much as this one.
     pub(crate) fn count_help(
         &self,
-        own: usize,
-        others: usize,
+        threads: usize,
         before: io::Result<Duration>,
         after: io::Result<Duration>,
     ) {
         if let (Ok(before), Ok(after)) = (before, after) {
-            let worked = after.saturating_sub(before);
-            let worked = u64::try_from(worked.as_nanos()).unwrap_or(u64::MAX);
-            self.helped
-                .fetch_add(work_of_others(worked, own, others), Ordering::SeqCst);
-        }
-    }
-
-    /// Counts the pieces that the thread that asked walked.
-    pub(crate) fn count_own(&self, pieces: usize) {
-        self.own.store(pieces, Ordering::SeqCst);
-    }
-
-    /// Counts pieces that another thread than the one that asked walked.
-    pub(crate) fn count_others(&self, pieces: usize) {
-        self.others.fetch_add(pieces, Ordering::SeqCst);
-    }
-
-    /// How many pieces other threads than the one that asked walked.
-    pub(crate) fn others(&self) -> usize {
-        self.others.load(Ordering::SeqCst)
-    }
-
-    /// How many of so many files the thread that asked looked at, if each piece has as many.
-    pub(crate) fn own_files(&self, files: usize) -> usize {
-        let own = self.own.load(Ordering::SeqCst);
-        let pieces = own.saturating_add(self.others());
-        if pieces == 0 {
-            files
-        } else {
-            files.saturating_mul(own) / pieces
+            let own = after.saturating_sub(before).as_nanos();
+            let others = own.saturating_mul(threads.saturating_sub(1) as u128);
+            let nanoseconds = u64::try_from(others).unwrap_or(u64::MAX);
+            self.helped.fetch_add(nanoseconds, Ordering::SeqCst);
         }
     }
 
@@ -152,18 +118,5 @@ impl<'a> Progress<'a> {
     /// Counts a name no longer that was counted, since it gave no row.
     pub(crate) fn count_less(&self) {
         self.counted.fetch_sub(1, Ordering::SeqCst);
-    }
-}
-
-/// The work of other threads that walked so many parts, if one thread worked so long on its own parts. It is no more than
-/// a machine word holds.
-fn work_of_others(worked: u64, own: usize, others: usize) -> u64
-    ensures { result ≡ min (work_of_others worked own others) 18_446_744_073_709_551_615 }
-{
-    let work = u128::from(worked) * others as u128 / own.max(1) as u128;
-    if work > u128::from(u64::MAX) {
-        u64::MAX
-    } else {
-        work as u64
     }
 }

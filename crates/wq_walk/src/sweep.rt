@@ -55,13 +55,7 @@ pub(crate) fn changed_directories<'a, T: Threads + CpuClock, D: Disk + Sync>(
     let count = walkers.count.min(last.len() / LEAST + 1);
     let before = threads.thread_cpu_time();
     let mut names = sweep.changed_by(threads, 0, last.len(), count)?;
-    // Each thread looks at as many records.
-    progress.count_help(
-        1,
-        count.saturating_sub(1),
-        before,
-        threads.thread_cpu_time(),
-    );
+    progress.count_help(count, before, threads.thread_cpu_time());
     names.sort_unstable();
     Ok(names)
 }

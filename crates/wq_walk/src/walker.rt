@@ -13,13 +13,13 @@ ghost use Rattle.wq_walk.specs.System.{IsGlancedHere, IsListedHere, IsUnreadHere
 use crate::glance::glanced;
 use crate::listing::{first_rows, rows_again};
 use crate::progress::Progress;
-use crate::walkers::{SlowRoots, Spent, Walkers};
+use crate::walkers::{SlowRoots, Walkers};
 use std::alloc::Global;
 use std::io;
 use std::sync::Arc;
 use std::sync::atomic::{AtomicU64, Ordering};
 use std::thread::Threads;
-use std::time::{Clock, CpuClock, Duration, Instant};
+use std::time::{Clock, CpuClock, Instant};
 use wq_base::{Text, Workers};
 use wq_disk::{Block, Disk, FileDisk, Way, with_slash};
 use wq_patch::{LeftOut, Listing, Recent, Tree, TreeFault};
@@ -105,43 +105,19 @@ fn failures_after<X>(before: u64, listed: &Result<X, TreeFault>) -> u64
     }
 }
 
-/// The clock and the processor time of a thread when it began a walk.
-#[derive(Drop)]
-struct Beginning {
-    clock: io::Result<Instant>,
-    worked: io::Result<Duration>,
-}
-
-impl<T: Threads + Clock + CpuClock + Drop, D: Disk + Drop> Walker<T, D> {
-    /// The clock and this thread's processor time now.
-    fn begin(&self) -> Beginning {
-        Beginning {
-            clock: Instant::now(&self.threads),
-            worked: self.threads.thread_cpu_time(),
-        }
-    }
-
-    /// Learns from a walk that began then, in which this thread looked at so many files, how long the disk of a root lets
-    /// it wait.
-    fn learn(&mut self, root: &str, walkers: Walkers, files: usize, began: Beginning)
+impl<T: Threads + Clock + Drop, D: Disk + Drop> Walker<T, D> {
+    /// Learns from a walk that began then how long the disk of a root lets it wait.
+    fn learn(&mut self, root: &str, walkers: Walkers, files: usize, began: io::Result<Instant>)
         ensures disk { self.new.disk ≡ self.old.disk }
         ensures failures { self.new.failures ≡ self.old.failures }
         ensures mounted { self.new.mounted ≡ self.old.mounted }
     {
-        let (Ok(clock), Ok(before)) = (began.clock, began.worked) else {
+        let Ok(began) = began else {
             return;
         };
-        let (Ok(took), Ok(after)) = (clock.elapsed(&self.threads), self.threads.thread_cpu_time())
-        else {
-            return;
-        };
-        let worked = after.saturating_sub(before);
-        let spent = Spent {
-            files,
-            worked,
-            waited: took.saturating_sub(worked),
-        };
-        self.slow.learn(root, walkers, spent);
+        if let Ok(took) = began.elapsed(&self.threads) {
+            self.slow.learn(root, walkers, files, took);
+        }
     }
 
     /// Guesses before a first walk whether the disk of a root is slow, by reading the root's directory. Nothing is
@@ -182,13 +158,13 @@ impl<T: Threads + Clock + CpuClock + Drop, D: Disk + Sync + Drop> Walker<T, D> {
         ensures whole { self.new.is_whole ≡ true }
     {
         self.guess(root);
-        let began = self.begin();
+        let began = Instant::now(&self.threads);
         let (walkers, _) = self.walkers_now(root);
         let progress = Progress::new(Way::Keeps);
         let threads = &self.threads;
         let listed = first_rows(threads, walkers, &progress, &self.disk, self.alloc, root);
         if let Ok(rows) = &listed {
-            self.learn(root, walkers, progress.own_files(rows.len()), began);
+            self.learn(root, walkers, rows.len(), began);
         }
         self.left_out = progress.left_out();
         self.helped.store(progress.helped(), Ordering::SeqCst);
@@ -217,7 +193,7 @@ impl<T: Threads + Clock + CpuClock + Drop, D: Disk + Sync + Drop> Walker<T, D> {
         ensures kept { OnOk result (self.new.failures ≡ self.old.failures) }
         ensures mounted { self.new.mounted ≡ self.old.mounted }
     {
-        let began = self.begin();
+        let began = Instant::now(&self.threads);
         let (walkers, way) = self.walkers_now(root);
         let progress = Progress::new(way);
         let threads = &self.threads;
@@ -225,11 +201,10 @@ impl<T: Threads + Clock + CpuClock + Drop, D: Disk + Sync + Drop> Walker<T, D> {
             threads, walkers, &progress, &self.disk, self.alloc, root, last,
         );
         let left_out = progress.left_out();
-        let files = progress.own_files(last.len());
         self.helped.store(progress.helped(), Ordering::SeqCst);
         drop(progress);
         if listed.is_ok() {
-            self.learn(root, walkers, files, began);
+            self.learn(root, walkers, last.len(), began);
         }
         self.left_out = left_out;
         self.is_whole = true;

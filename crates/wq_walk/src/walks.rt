@@ -54,11 +54,8 @@ impl<'a, D: Disk + Sync> Walks<'a, '_, D> {
         let count = self.pieces.len().min(walkers.count);
         let before = threads.thread_cpu_time();
         let walked = self.drawn_by(threads, count)?;
-        let others = self.progress.others();
-        let own = walked.len().saturating_sub(others);
-        self.progress.count_own(own);
         self.progress
-            .count_help(own, others, before, threads.thread_cpu_time());
+            .count_help(count, before, threads.thread_cpu_time());
         self.in_order(walked)
     }
 
@@ -76,7 +73,7 @@ impl<'a, D: Disk + Sync> Walks<'a, '_, D> {
             ensures { IsDrawn (D.says self.entry.now.disk.now) (D.has self.entry.now.disk.now)
                 (D.fails self.entry.now.disk.now) self.entry.now.root.now
                 self.entry.now.pieces.now result }
-        { self.drawn_for_other() };
+        { self.drawn() };
         let this = || -> Result<Vec<Walked<'_>>, TreeFault>
             requires { IsSync D.row × 1 ≤ left }
             ensures { IsDrawn (D.says self.entry.now.disk.now) (D.has self.entry.now.disk.now)
@@ -89,18 +86,6 @@ impl<'a, D: Disk + Sync> Walks<'a, '_, D> {
 }
 
 impl<'a, D: Disk> Walks<'a, '_, D> {
-    /// Draws pieces as another thread than the one that asked.
-    fn drawn_for_other(&self) -> Result<Vec<Walked<'a>>, TreeFault>
-        ensures { IsDrawn (D.says self.now.disk.now) (D.has self.now.disk.now)
-            (D.fails self.now.disk.now) self.now.root.now self.now.pieces.now result }
-    {
-        let drawn = self.drawn();
-        if let Ok(walked) = &drawn {
-            self.progress.count_others(walked.len());
-        }
-        drawn
-    }
-
     /// Draws pieces as long as there are some, and walks them. Nothing rests on the places that are
     /// drawn.
     #[tactic(auto, unfolding(crate::specs::Listed::IsDrawn), using(crate::proofs::Drawn::none, crate::proofs::Drawn::pushed))]
