@@ -61,7 +61,7 @@ module _ (shelf : ShelfNow) (valid : (name : List ℕ) (raw : Raw) → under nam
         → query_of here.instance d ≡ Ok query → program_for query shelf ≡ Ok program
         → begun_of (here.instance).root view.tick query program shelf ≡ begun
         → Gives (Ok begun) → ListsExactly here shelf d out
-    lists here view query program begun there shown asks named is gives = record {
+    lists here view query program begun found shown asks named is gives = record {
       view = view;
       shown = shown;
       query = query;
@@ -70,7 +70,7 @@ module _ (shelf : ShelfNow) (valid : (name : List ℕ) (raw : Raw) → under nam
       named = named;
       valid = named_valid query.program query program named;
       told = gives ∙ ap (λ (b : BegunData). (finished b.work at follows).out) (sym is)
-          ∙ ap (λ a. (finished (evaluates (plan_at (here.instance).root query program shelf) (moved_cursor (here.instance).root query.since)) a follows).out) (there root at shelf here there)
+          ∙ ap (λ a. (finished (evaluates (plan_at (here.instance).root query program shelf) (moved_cursor (here.instance).root query.since)) a follows).out) (there root at shelf here found)
           ∙ ap (λ v. option_map_or (λ view. replies (reply_of (plan_at (here.instance).root query program shelf) here.instance view)) v (silence true)) shown;
     }
 
