@@ -23,7 +23,8 @@ usage: wqd serve [--sockname PATH] [--interval MS] [--share P] [--workers N]
   --share P         how much of one processor rounds may take at most, in
                     percent, 1 to 100; no limit if left out. A query that
                     synchronises never waits for the pause that this makes
-  --workers N       how many threads a query may use, 1 to 16; 1 if left out
+  --workers N       how many threads a query may use, 1 to 16, or auto: one for
+                    each processor, at most 4; 1 if left out
   --start N         the second of the start, and
   --pid N           the number of the process: they name this run in clock
                     ids. Each is 0 to 2^62, and filled in if left out
@@ -81,7 +82,7 @@ value_fault() {
         --start | --pid) is_number 0 4611686018427387904 || { say "$name takes a number from 0 to 2^62"; return 1; } ;;
         --interval) is_number 10 3600000 || { say "$name takes a number from 10 to 3600000"; return 1; } ;;
         --share) is_number 1 100 || { say "$name takes a number from 1 to 100"; return 1; } ;;
-        --workers) is_number 1 16 || { say "$name takes a number from 1 to 16"; return 1; } ;;
+        --workers) [ "$value" = auto ] || is_number 1 16 || { say "$name takes a number from 1 to 16, or auto"; return 1; } ;;
     esac
 }
 
@@ -183,6 +184,13 @@ except OSError:
     sys.exit(1)' "$1" 2> /dev/null
 }
 
+# How many threads `--workers auto` is: one for each processor that this process may use, and at most four.
+usual_workers() {
+    count=$(nproc 2> /dev/null || echo 1)
+    if [ "$count" -gt 4 ]; then count=4; fi
+    say "$count"
+}
+
 # Raises the limit of open files to 4,096, or as far as it may be: a client takes two, and a command of a trigger one.
 raise_handles() {
     soft=$(ulimit -S -n)
@@ -207,6 +215,16 @@ run() {
             sockname=$(default_sockname) || exit 1
             set -- "$@" --sockname "$sockname"
         fi
+        last=
+        for word in "$@"; do
+            shift
+            case "$last $word" in
+                '--workers auto') word=$(usual_workers) ;;
+                *' --workers=auto') word=--workers=$(usual_workers) ;;
+            esac
+            last=$word
+            set -- "$@" "$word"
+        done
         has_option --start "$@" || set -- "$@" --start "$(date +%s)"
         has_option --pid "$@" || set -- "$@" --pid $$
         raise_handles

@@ -34,7 +34,7 @@ VALUES = {
     "--delay": "500 1000",
     "--share": "5 10 25 50 100",
     "--interval": "100 1000 60000 600000",
-    "--workers": "1 2 4",
+    "--workers": "auto 1 2 4",
 }
 
 # Options and commands that take names of the server, by `wq --names KIND`, and the commands that run another one.

@@ -86,7 +86,10 @@ OTHERS = (
         [
             f"Depends: wqd (= {version()}), {LEAST_PYTHON}",
             "Recommends: python3-pywatchman",
+            # Debian's pywatchman depends on `watchman`, and is as good with this one.
+            "Provides: watchman",
             "Conflicts: watchman",
+            "Replaces: watchman",
         ],
         """command watchman that asks wqd
  Clients of Watchman, such as those of Mercurial and of bundlers, find the

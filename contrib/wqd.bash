@@ -11,7 +11,7 @@ _wqd() {
             --pid) choices=$$ ;;
             --interval) choices="100 1000 60000 600000" ;;
             --share) choices="5 10 25 50 100" ;;
-            --workers) choices=1 ;;
+            --workers) choices="auto 1" ;;
             *) choices="--sockname --start --pid --interval --share --workers" ;;
         esac
     elif [ "$command" = check ] && [ "$COMP_CWORD" -eq 2 ]; then

@@ -15,9 +15,8 @@ from .sockets import is_listened_on
 PAUSE = 0.02
 PATIENCE = 60.0
 SOME_SECONDS = 5.0
-# How a server works that its user started without a word of that: how much of one processor its rounds may take, in
-# percent, and how soon it looks again at directories in which something changed lately, in milliseconds.
-USUAL = {"--share": "10", "--interval": "100"}
+# The most threads that a query may use at a server which its user started without a word of that.
+MOST_WORKERS = 4
 # Of the last line of a log at most so many bytes are told.
 LONGEST_LINE = 4_096
 
@@ -26,12 +25,20 @@ class Unstarted(Exception):
     """The program did not start, for this reason."""
 
 
+def usual() -> Dict[str, str]:
+    """How a server works that its user started without a word of that: how much of one processor its rounds may take, in
+    percent; how soon it looks again at directories in which something changed lately, in milliseconds; and how many
+    threads a query may use."""
+    workers = min(MOST_WORKERS, len(os.sched_getaffinity(0)))
+    return {"--share": "10", "--interval": "100", "--workers": str(workers)}
+
+
 def serve_words(sockname: str, given: Sequence[str] = ()) -> List[str]:
     """The words of a server at this socket, which name this second and this process as its run. It works as usual, but
     for the options that are given with their values."""
     numbers = ["--start", str(int(time.time())), "--pid", str(os.getpid())]
-    usual = [word for option, value in USUAL.items() if option not in given for word in (option, value)]
-    return ["serve", "--sockname", sockname, *numbers, *usual, *given]
+    rest = [word for option, value in usual().items() if option not in given for word in (option, value)]
+    return ["serve", "--sockname", sockname, *numbers, *rest, *given]
 
 
 @contextlib.contextmanager

@@ -55,16 +55,18 @@ class Starts(Case):
 
     def test_words_of_the_server(self) -> None:
         """How a server works that the command starts: as wq starts one, unless variables say otherwise."""
-        rows: List[Tuple[Dict[str, str], List[str]]] = [
-            ({}, ["--share", "10", "--interval", "100"]),
-            ({"WQD_INTERVAL": "500"}, ["--share", "10", "--interval", "500"]),
-            ({"WQD_SHARE": "50", "WQD_INTERVAL": "20"}, ["--share", "50", "--interval", "20"]),
+        rows: List[Tuple[Dict[str, str], Dict[str, str]]] = [
+            ({}, {"--share": "10", "--interval": "100"}),
+            ({"WQD_INTERVAL": "500"}, {"--share": "10", "--interval": "500"}),
+            ({"WQD_SHARE": "50", "WQD_INTERVAL": "20"}, {"--share": "50", "--interval": "20"}),
         ]
         for variables, expected in rows:
             run(self.room, "version", sockname="sock", output=subprocess.PIPE, given=b"", **variables)
             with Client(str(self.room / "sock.wqd")) as client:
                 words = Path(f"/proc/{client.peer().process}/cmdline").read_text().split("\0")
-            self.same(f"words of the server with {variables}", words[-5:-1], expected)
+            workers = {"--workers": str(min(4, len(os.sched_getaffinity(0))))}
+            said = dict(zip(words[-7:-1:2], words[-6:-1:2]))
+            self.same(f"words of the server with {variables}", said, {**expected, **workers})
             run(self.room, "--no-spawn", "shutdown-server")
 
     def test_roots_by_relative_names(self) -> None:

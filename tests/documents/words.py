@@ -33,12 +33,12 @@ COVERED = (
 # The most words of each other page, or of several together. Shorten before you raise one.
 MOST = {
     "CONTRIBUTING.md": 1600,
-    "CHANGELOG.md": 2000,
+    "CHANGELOG.md": 2400,
     "docs/DECISIONS.md": 2250,
     "crates/*/DECISIONS.md": 8050,
     "docs/RECIPES.md": 1660,
     "docs/crates": 3600,
-    "tests/README.md": 1880,
+    "tests/README.md": 1950,
 }
 # A sentence of more words is long.
 LONG = 30

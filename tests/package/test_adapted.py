@@ -1,5 +1,5 @@
-"""The adapters: what ./install --adapters puts below a prefix, and the packages for npm and pip that
-./package --adapters makes."""
+"""The adapters and the clients for tools: what ./install --adapters puts below a prefix, and the packages for npm and
+pip that ./package --adapters makes."""
 
 import base64
 import hashlib
@@ -11,7 +11,7 @@ import sys
 import tarfile
 import zipfile
 from pathlib import Path
-from typing import Dict, List, Tuple
+from typing import Dict, List
 
 import built
 from case import Case
@@ -19,9 +19,12 @@ from client import PATIENCE
 from test_installed import FILES, call, listing, modes, version_of
 
 NODE_PLACE, PYTHON_PLACE = "lib/node_modules/wqd-chokidar", "lib/wqd/python/wqd_watchdog"
+NODE_CLIENT_PLACE, PYTHON_CLIENT_PLACE = "lib/node_modules/wqd-client", "lib/wqd/python/wqclient"
 LAUNCHER = "bin/wqd-watchdog"
 HELP = b"Runs a tool that watches files by Python's watchdog, and has wqd watch them."
 API = "const {watch, FSWatcher} = require(process.argv[1]); console.log(typeof watch, typeof FSWatcher)"
+CLIENT_API = "const c = require(process.argv[1]); console.log(typeof c.Session, typeof c.defaultSockname)"
+OF_CLIENT = "import wqclient.client as c; print(c.__file__, hasattr(c.Client, 'ask'))"
 
 
 OF_NODE = """
@@ -59,6 +62,9 @@ class Adapted(Case):
         self.same("the launcher", head_of([str(prefix / LAUNCHER), "--help"], self.room), HELP)
         self.same("python3 -m", head_of([sys.executable, "-m", "wqd_watchdog", "--help"], self.room), HELP)
         self.same("the API for Node", api_of(prefix / NODE_PLACE), "function function\n")
+        self.same("the client for Node", api_of(prefix / NODE_CLIENT_PLACE, CLIENT_API), "function function\n")
+        said = f"{prefix / PYTHON_CLIENT_PLACE}/client.py True".encode()
+        self.same("the client for Python", head_of([sys.executable, "-c", OF_CLIENT], self.room), said)
         call(self.room, "install")
         self.same("a later install keeps them", modes(prefix, expected), expected)
         call(self.room, "install", "--no-adapters")
@@ -125,21 +131,24 @@ class Adapted(Case):
 
     def test_packages_of_adapters(self) -> None:
         """They are the same whenever and by whomever they are made, and need no program."""
-        first, second = made(self.room, "one"), made(
-            self.room, "two", SOURCE_DATE_EPOCH="7", WQD="/none", TZ="Asia/Tokyo"
-        )
+        first = made(self.room, "one")
+        second = made(self.room, "two", SOURCE_DATE_EPOCH="7", WQD="/none", TZ="Asia/Tokyo")
         version = version_of(self.room)
-        self.same(
-            "their names",
-            [path.name for path in first],
-            [f"wqd-chokidar-{version}.tgz", f"wqd_watchdog-{version}-py3-none-any.whl"],
-        )
+        npm = [f"wqd-chokidar-{version}.tgz", f"wqd-client-{version}.tgz"]
+        pip = [f"wqd_watchdog-{version}-py3-none-any.whl", f"wqclient-{version}-py3-none-any.whl"]
+        self.same("their names", [path.name for path in first], [*npm, *pip])
         self.same("made twice", [path.read_bytes() for path in first], [path.read_bytes() for path in second])
-        self.check_npm_package(first[0], self.room)
-        self.check_wheel(first[1], self.room)
+        adapter = self.unpacked(first[0], NODE_PLACE)
+        self.same("the API from the npm package", api_of(adapter), "function function\n")
+        client = self.unpacked(first[1], NODE_CLIENT_PLACE)
+        self.same("the API from the client's", api_of(client, CLIENT_API), "function function\n")
+        self.check_wheel(first[2], PYTHON_PLACE)
+        self.check_wheel(first[3], PYTHON_CLIENT_PLACE)
+        self.check_by_pip(first[2], first[3])
 
-    def check_npm_package(self, path: Path, room: Path) -> None:
-        """As `npm pack` lays it out: all files are below package/, and none is of a user."""
+    def unpacked(self, path: Path, place: str) -> Path:
+        """A package that is as `npm pack` lays it out: all files are below package/, and none is of a user."""
+        room = self.directory(path.stem)
         with tarfile.open(path) as archive:
             entries = archive.getmembers()
             archive.extractall(room)
@@ -147,13 +156,13 @@ class Adapted(Case):
         self.same("entries that are no files of package/", below, [])
         owners = {(entry.uid, entry.gid, entry.uname, entry.gname, entry.mode, entry.mtime) for entry in entries}
         self.same("owners and times", owners, {(0, 0, "", "", 0o644, 499_162_500)})
-        expected = {name.replace(NODE_PLACE, "package") for name in expected_files() if name.startswith(NODE_PLACE)}
-        self.same("files that the npm package has not", expected - {entry.name for entry in entries}, set())
+        expected = {name.replace(place, "package") for name in expected_files() if name.startswith(f"{place}/")}
+        self.same(f"files that {path.name} has not", expected - {entry.name for entry in entries}, set())
         self.same("the version in it", version_in(room / "package"), version_of(room))
-        self.same("the API from the npm package", api_of(room / "package"), "function function\n")
+        return room / "package"
 
-    def check_wheel(self, path: Path, room: Path) -> None:
-        """The record says of each file what it is, and pip installs it without a network."""
+    def check_wheel(self, path: Path, place: str) -> None:
+        """The record says of each file what it is."""
         with zipfile.ZipFile(path) as archive:
             names = archive.namelist()
             data = {name: archive.read(name) for name in names}
@@ -162,20 +171,28 @@ class Adapted(Case):
         record = names[-1]
         lines = data.pop(record).decode().splitlines()
         self.same("the record", lines, [line_of(name, data[name]) for name in names[:-1]] + [f"{record},,"])
-        modules = [name for name in expected_files() if name.startswith(PYTHON_PLACE)]
-        expected = {name.replace(PYTHON_PLACE, "wqd_watchdog") for name in modules}
-        self.same("files that the wheel has not", expected - set(names), set())
+        module = Path(place).name
+        expected = {name.replace(place, module) for name in expected_files() if name.startswith(f"{place}/")}
+        self.same(f"files that {path.name} has not", expected - set(names), set())
+
+    def check_by_pip(self, adapter: Path, client: Path) -> None:
+        """pip installs both without a network."""
         pip = [sys.executable, "-m", "pip"]
         if subprocess.run([*pip, "--version"], stdout=subprocess.DEVNULL, stderr=subprocess.DEVNULL).returncode != 0:
             self.skipTest("what pip makes of the wheel, since it is not installed")
+        target = self.room / "target"
         words = ["install", "--no-index", "--no-deps", "--no-cache-dir", "--disable-pip-version-check", "--target"]
-        command = [*pip, *words, str(room / "target"), str(path)]
+        command = [*pip, *words, str(target), str(adapter), str(client)]
         ended = subprocess.run(command, stdout=subprocess.PIPE, stderr=subprocess.STDOUT)
         self.same("pip", (ended.returncode, b"Successfully installed" in ended.stdout), (0, True))
-        by_pip = {"PYTHONPATH": str(room / "target")}
-        self.same("the module by pip", head_of([sys.executable, "-m", "wqd_watchdog", "--help"], room, **by_pip), HELP)
-        launcher = str(room / "target" / "bin" / "wqd-watchdog")
-        self.same("the command by pip", head_of([launcher, "--help"], room, **by_pip), HELP)
+        by_pip = {"PYTHONPATH": str(target)}
+        words = [sys.executable, "-m", "wqd_watchdog", "--help"]
+        self.same("the module by pip", head_of(words, self.room, **by_pip), HELP)
+        self.same(
+            "the command by pip", head_of([str(target / "bin" / "wqd-watchdog"), "--help"], self.room, **by_pip), HELP
+        )
+        said = f"{target}/wqclient/client.py True".encode()
+        self.same("the client by pip", head_of([sys.executable, "-c", OF_CLIENT], self.room, **by_pip), said)
 
 
 def has_watchdog() -> bool:
@@ -190,8 +207,10 @@ def expected_files() -> Dict[str, int]:
     node, python = built.TOP / "clients" / "node", built.TOP / "clients" / "watchdog" / "wqd_watchdog"
     names = [f"{NODE_PLACE}/{path.relative_to(node)}" for path in (node / "lib").rglob("*.js")]
     names += [f"{NODE_PLACE}/{name}" for name in ("index.js", "package.json", "LICENSE-MIT", "LICENSE-APACHE")]
+    names += [f"{NODE_CLIENT_PLACE}/{name}" for name in ("client.js", "client.d.ts", "package.json", "lib/session.js")]
     names += [f"{PYTHON_PLACE}/{path.relative_to(python)}" for path in python.rglob("*.py")]
-    names += [f"{PYTHON_PLACE}/wqclient/{path.name}" for path in (built.TOP / "clients" / "wqclient").glob("*.py")]
+    client = [path.name for path in (built.TOP / "clients" / "wqclient").glob("*.py*")]
+    names += [f"{place}/{name}" for place in (f"{PYTHON_PLACE}/wqclient", PYTHON_CLIENT_PLACE) for name in client]
     python_lib = f"lib/python{sys.version_info[0]}.{sys.version_info[1]}/site-packages/wqd_watchdog.pth"
     return {**dict.fromkeys([*names, python_lib], 0o644), LAUNCHER: 0o755}
 
@@ -208,20 +227,19 @@ def head_of(command: List[str], home: Path, at: Path = Path("/"), **variables: s
     return ended.stdout.partition(b"\n")[0] or ended.stderr
 
 
-def api_of(package: Path) -> str:
+def api_of(package: Path, asks: str = API) -> str:
     """The functions that Node reads from the package; as if it had, if there is no Node."""
     if shutil.which("node") is None:
         print("left out: what Node reads of its adapter, since it is not installed")
         return "function function\n"
-    ended = subprocess.run(["node", "-e", API, str(package)], cwd="/", stdout=subprocess.PIPE, timeout=PATIENCE)
+    ended = subprocess.run(["node", "-e", asks, str(package)], cwd="/", stdout=subprocess.PIPE, timeout=PATIENCE)
     return ended.stdout.decode()
 
 
-def made(room: Path, name: str, **variables: str) -> Tuple[Path, Path]:
-    """The two packages, in a directory of this name."""
+def made(room: Path, name: str, **variables: str) -> List[Path]:
+    """The packages, in a directory of this name."""
     ended = call(room, "package", "--adapters", str(room / name), **variables)
-    npm, wheel = (Path(line) for line in ended.output.decode().splitlines())
-    return npm, wheel
+    return [Path(line) for line in ended.output.decode().splitlines()]
 
 
 def line_of(name: str, data: bytes) -> str:

@@ -33,7 +33,7 @@ NUMBERS = {
     "pid": "0 to 2^62",
     "interval": "10 to 3600000",
     "share": "1 to 100",
-    "workers": "1 to 16",
+    "workers": "1 to 16, or auto",
 }
 WRONG_NUMBERS = [
     ("start", "-1"),
@@ -85,6 +85,18 @@ class Command(Case):
         for words, reason in cases:
             refused = f"wqd: wrong command line\nwqd: {reason}\n".encode()
             self.same(f"the words {words}", call(self.room, "wqd", *words), built.Ended(b"", refused, 2))
+
+    def test_workers_by_processors(self) -> None:
+        """The program gets a number in place of `auto`. Here `echo` is that program."""
+        count = min(4, len(os.sched_getaffinity(0)))
+        for words, expected in (
+            (["--workers", "auto"], ["--workers", str(count)]),
+            (["--workers=auto"], [f"--workers={count}"]),
+            (["--workers", "2"], ["--workers", "2"]),
+        ):
+            given = ["serve", "--sockname", str(self.room / "auto"), *words]
+            said = call(self.room, "wqd", *given, "--start", "7", "--pid", "9", WQD="/bin/echo").output.decode().split()
+            self.same(f"the words {words}", said, [*given[:3], *expected, "--start", "7", "--pid", "9"])
 
     def test_refused_sockets(self) -> None:
         """Paths on which nobody can listen. That the words are good shows in that the program tells of the path."""

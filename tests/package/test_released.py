@@ -15,7 +15,7 @@ from typing import List
 import built
 import files
 import notices
-from case import Case
+from case import Case, needs
 from test_command import bare
 from test_installed import FILES, LIST, call, version_of
 
@@ -27,7 +27,9 @@ RELEASED = (
     "SHA256SUMS",
     "node-wqd-chokidar_{}_all.deb",
     "python3-wqd-watchdog_{}_all.deb",
+    "wqclient-{}-py3-none-any.whl",
     "wqd-chokidar-{}.tgz",
+    "wqd-client-{}.tgz",
     "wqd-watchman_{}_all.deb",
     "wqd-{}-linux-x86_64.tar.gz",
     "wqd-{}.cdx.json",
@@ -86,6 +88,15 @@ class Released(Case):
         note.write_text(f"program {digest}\nsources {sources}\ncommit abc\nkit none\n")
         self.check_made(place, note)
 
+    @needs("dpkg-deb")
+    def test_in_the_place_of_watchman(self) -> None:
+        """What depends on Debian's watchman, such as python3-pywatchman, stays beside the package of the command."""
+        ended = call(self.directory("home"), "package", "--debian", str(self.room / "made"))
+        package = next(line for line in ended.output.decode().splitlines() if "wqd-watchman" in line)
+        for field in ("Provides", "Conflicts", "Replaces"):
+            said = built.call(["dpkg-deb", "--field", package, field]).output
+            self.same(field, said, b"watchman\n")
+
     def check_refused(self, place: Path, reason: str) -> None:
         refused = release(place, self.room / "refused")
         self.check(reason, refused.status == 1 and reason.encode() in refused.errors, [f"{refused.errors!r}"])
@@ -122,15 +133,18 @@ class Released(Case):
                 self.same(f"{python} {kind}", built.call(words, env=environment).status, 0)
             made[str(python)] = {path.name: hashlib.sha256(path.read_bytes()).hexdigest() for path in out.iterdir()}
         first = next(iter(made.values()))
-        self.same("a package for each tool", len(first), 7)
+        self.same("a package for each tool", len(first), 9)
         for python, sums in made.items():
             self.same(f"packages that {python} makes otherwise", {n for n in first if sums.get(n) != first[n]}, set())
 
     def test_notices(self) -> None:
-        """The notices are those of the kit, and each library that is MIT alone has its own."""
+        """The notices are those of the kit, and each library that is MIT alone has its own. Kits of one logic differ in
+        their names alone."""
         kit = notices.KIT
         if (kit / "KIT-ID").is_file():
-            self.check("contrib/libraries.json", notices.found_in(kit) == notices.kept(), ["contrib/notices.py"])
+            found, kept = notices.found_in(kit), notices.kept()
+            self.check("contrib/libraries.json", found["libraries"] == kept["libraries"], ["contrib/notices.py"])
+            self.same("the logic of the kit", found["kit"].split()[1:], kept["kit"].split()[1:])
         text = files.copyright_of(True).decode()
         for name in sorted(notices.named()):
             notice = notices.kept()["libraries"][name]

@@ -83,8 +83,10 @@ class Terminal:
             "PYTHONDONTWRITEBYTECODE": "1",
             "NODE_PATH": str(self.room / "modules"),
         }
-        (self.room / "modules").mkdir()
-        (self.room / "modules" / "wqd-chokidar").symlink_to(built.TOP / "clients" / "node")
+        node, package = built.TOP / "clients" / "node", self.room / "modules" / "wqd-client"
+        package.mkdir(parents=True)
+        for path in (node / "client" / "package.json", node / "client.js"):
+            (package / path.name).symlink_to(path)
         for name, words in (
             ("wq", [sys.executable, "-B", str(built.TOP / "wq")]),
             ("wqasm", [sys.executable, "-B", str(built.TOP / "clients" / "wqasm")]),

@@ -54,11 +54,13 @@ class ServingTold(Beside):
             self.same(
                 "restart with words", scene.wq("restart", "--share", "50"), built.Ended(b"", ended + gone + started, 0)
             )
-            self.same("those words", words_of(facts(scene)["process"])[-4:], ["--interval", "100", "--share", "50"])
+            workers = ["--workers", str(min(4, len(os.sched_getaffinity(0))))]
+            those = ["--interval", "100", *workers, "--share", "50"]
+            self.same("those words", words_of(facts(scene)["process"])[-6:], those)
             self.same("stop", scene.wq("stop"), built.Ended(b"", ended, 0))
             self.same("restart of none", scene.wq("restart"), built.Ended(b"", started, 0))
-            usual = ["--share", "10", "--interval", "100"]
-            self.same("the usual words", words_of(facts(scene)["process"])[-4:], usual)
+            usual = ["--share", "10", "--interval", "100", *workers]
+            self.same("the usual words", words_of(facts(scene)["process"])[-6:], usual)
             scene.wq("stop")
             failed = scene.wq("start", "--interval", "1")
             self.same(
