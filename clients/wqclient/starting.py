@@ -26,9 +26,9 @@ class Unstarted(Exception):
 
 
 def usual() -> Dict[str, str]:
-    """How a server works that its user started without a word of that: how much of one processor its rounds may take, in
-    percent; how soon it looks again at directories in which something changed lately, in milliseconds; and how many
-    threads a query may use."""
+    """How a server works that its user started without a word of that: how much of one processor its rounds may take,
+    in percent; how soon it looks again at directories in which something changed lately, in milliseconds; and how
+    many threads a query may use."""
     workers = min(MOST_WORKERS, len(os.sched_getaffinity(0)))
     return {"--share": "10", "--interval": "100", "--workers": str(workers)}
 
