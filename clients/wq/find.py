@@ -8,10 +8,11 @@ from wqclient.root_notes import KEPT, MOMENT
 
 from .home import Home
 from .places import Places, directories_and_globs
+from .roots import is_pattern
 from .server import Value, reached
 from .server_log import tell_left_out
 from .stored import query_of, require_no_other
-from .terminal import OF_KINDS, name_shown, show
+from .terminal import OF_KINDS, name_shown, say, show
 from .trouble import FOUND, NOTHING
 from .values_shown import print_lists_as_json
 
@@ -26,6 +27,8 @@ def find(options: argparse.Namespace, home: Home) -> int:
             asked = enumerate(queries(places, options))
             lists = [places.told(number, places.ask(places.places[number], query)) for number, query in asked]
             tell_left_out(server, places.roots())
+            if not options.quiet and not any(found["files"] for found in lists):
+                tell_left_out_words(places, options)
     cut(lists, options.max_results)
     if options.each or options.batch:
         from .for_each import run_for_all, run_for_each
@@ -35,6 +38,16 @@ def find(options: argparse.Namespace, home: Home) -> int:
     if not options.quiet:
         print_lists(lists, options)
     return FOUND if any(found["files"] for found in lists) else NOTHING
+
+
+def tell_left_out_words(places: Places, options: argparse.Namespace) -> None:
+    """Says of a word that is the name of a file here why nothing is found, if no other option can be the cause."""
+    others = (options.type, options.ext, options.exclude, options.size, options.newer, options.older)
+    more = (options.max_depth, options.min_depth, options.expression, options.program)
+    if options.sync and not options.unrestricted and not any(value is not None for value in (*others, *more)):
+        for word in places.words:
+            if not is_pattern(word) and places.has_file(word):
+                say(f"{word} is left out by a rule of git or by its name; -u lists it", "yellow")
 
 
 def cut(lists: List[Value], most: Optional[int]) -> None:

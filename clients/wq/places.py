@@ -194,8 +194,12 @@ class Places:
                     raise WrongWords(f"{word} is a file here, and not below {', '.join(self.directories)}")
                 raise UnknownWord(word)
 
+    def has_file(self, word: str) -> bool:
+        """Whether a word is the name of a file that is there now."""
+        return any(os.path.lexists(os.path.join(place.path(), word.lstrip("/"))) for place in self.places)
+
     def is_known(self, word: str) -> bool:
-        if any(os.path.lexists(os.path.join(place.path(), word.lstrip("/"))) for place in self.places):
+        if self.has_file(word):
             return True
         for place in self.places:
             front = [["dirname", place.below]] if place.below else []

@@ -16,6 +16,8 @@ EXECUTING = {
 # Options that other versions had, and what to write now.
 GONE = {"--all": "-u", "--lines": "--jsonl"}
 
+# So much a mistyped option has to be like another one.
+LIKENESS = 0.75
 # How many columns a page of help has.
 COLUMNS = 78
 
@@ -232,7 +234,13 @@ FORMS: Dict[str, Form] = {
             Option(("--no-sync",), {"dest": "sync", "action": "store_false", "help": "answer from the last scan"}),
             flag("--keep", help="go on watching a root that was not watched before"),
             EXECUTE_EACH,
-            value("-X", "--exec-batch", metavar="CMD", dest="batch", help="run CMD once, with all names"),
+            value(
+                "-X",
+                "--exec-batch",
+                metavar="CMD",
+                dest="batch",
+                help="run CMD once, with all names; all words that follow are its own, as those of -x",
+            ),
             WORDS,
         ],
     ),
@@ -431,7 +439,7 @@ def no_option(command: str, word: str, has_dashes: bool) -> str:
     known = options_of(command)
     if GONE.get(given) in known:
         return f"there is no option {given}; write {GONE[given]}"
-    like = difflib.get_close_matches(given, [name for name in known if name.startswith("--")], 1)
+    like = difflib.get_close_matches(given, [name for name in known if name.startswith("--")], 1, LIKENESS)
     dashes = "; the words of COMMAND come after `--`" if command in NEEDS_DASHES and not has_dashes else ""
     return f"there is no option {given}" + (f"; did you mean {like[0]}?" if like else dashes)
 

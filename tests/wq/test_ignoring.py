@@ -153,6 +153,11 @@ class Ignoring(Beside):
         ]
         for words, expected in rows:
             self.same(f"find {words} in a repository", scene.names("find", "-t", "f", *words), expected)
+        for name in ("src/a.o", ".git/HEAD"):
+            said_of = said(f"{name} is left out by a rule of git or by its name; -u lists it")
+            self.same(f"find {name}", scene.wq("find", name), built.Ended(b"", said_of, 1))
+            self.same(f"find -q {name}", scene.wq("find", "-q", name), built.Ended(b"", b"", 1))
+            self.same(f"find -t d {name}", scene.wq("find", "-t", "d", name), built.Ended(b"", b"", 1))
         directories = ["node_modules", "node_modules/x", "src", "src/deep", "target"]
         self.same("an ignored directory", scene.names("find", "-t", "d"), directories)
         reply = json.loads(scene.wq("find", "--json", "*.o").output)
