@@ -41,7 +41,10 @@ def room() -> Path:
 def program(top: str, tell: Tell) -> Path:
     """The path of the program for the sources as they are now. If it is not kept yet, the kit compiles it."""
     if shutil.which("rt") is None:
-        raise Unstarted("nothing is built, and the Rattle kit is missing: its command rt is not on the PATH")
+        missing = "nothing is built, and the Rattle kit is missing: its command rt is not on the PATH"
+        raise Unstarted(
+            f"{missing}\na release has the program: put that at {top}/release/wqd, or name it by the variable WQD"
+        )
     programs = room() / "programs"
     path = programs / checksum(Path(top)) / "wqd"
     try:

@@ -24,7 +24,7 @@ def start(home: "Home", sockname: str, words: Optional[List[str]], tells: bool =
                 return False
             begin_there(home, sockname, words or serve_words(sockname))
     except Unstarted as reason:
-        raise Trouble(f"the server did not start: {reason}") from None
+        raise Trouble(*f"the server did not start: {reason}".split("\n")) from None
     if tells:
         say(f"started a server at {sockname}")
     return True

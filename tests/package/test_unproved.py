@@ -201,10 +201,11 @@ class Unproved(Case):
                 (self.room / "go").unlink()
             missing = asking.find(PATH=f"{Path(os.path.realpath('/bin/sh')).parent}:{python_directory()}")
             words = (
-                b"wq: the server did not start: nothing is built, and the Rattle kit is missing: its command rt "
-                b"is not on the PATH\n"
+                "wq: the server did not start: nothing is built, and the Rattle kit is missing: its command rt is not on "
+                f"the PATH\nwq: a release has the program: put that at {asking.top}/release/wqd, or name it by the "
+                "variable WQD\n"
             )
-            self.same("no kit", missing, built.Ended(words, b"", 3))
+            self.same("no kit", missing, built.Ended(words.encode(), b"", 3))
             own = self.room / f"wqd-{os.getuid()}"
             own.mkdir(mode=0o755)
             words = f"wq: {own}: it is no directory of yours alone\n".encode()
