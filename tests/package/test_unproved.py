@@ -201,8 +201,8 @@ class Unproved(Case):
                 (self.room / "go").unlink()
             missing = asking.find(PATH=f"{Path(os.path.realpath('/bin/sh')).parent}:{python_directory()}")
             words = (
-                "wq: the server did not start: nothing is built, and the Rattle kit is missing: its command rt is not on "
-                f"the PATH\nwq: a release has the program: put that at {asking.top}/release/wqd, or name it by the "
+                "wq: the server did not start: nothing is built, and the Rattle kit is missing: its command rt is not "
+                f"on the PATH\nwq: a release has the program: put that at {asking.top}/release/wqd, or name it by the "
                 "variable WQD\n"
             )
             self.same("no kit", missing, built.Ended(words.encode(), b"", 3))
