@@ -119,7 +119,7 @@ class Installs(Beside):
             (out / name).unlink()
             (out / name).symlink_to(precious)
         self.same("./package", built.call(words).status, 0)
-        self.same("what the links led to", (len(names), precious.read_text()), (2, "words"))
+        self.same("what the links led to", (len(names), precious.read_text()), (4, "words"))
 
     def test_rights(self) -> None:
         """Whatever the umask is, nobody else may write to what is installed, and everybody may read it."""
