@@ -209,4 +209,5 @@ class Terminals(Beside):
                 began = time.monotonic()
                 self.same("Ctrl-C in a first crawl", going.ends(2), 130)
                 self.same("ends at once", time.monotonic() - began < 1.5, True)
+                self.same("no time of what has not ended", b"that took" in going.errors, False)
             os.unlink(scene.sockname)
