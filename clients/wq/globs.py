@@ -171,6 +171,8 @@ def is_executable_meant(options: argparse.Namespace) -> bool:
 
 
 def suffixes_of(words: List[str]) -> List[str]:
+    if not all(word.strip(",") for word in words):
+        raise WrongWords("-e takes suffixes, such as c,h; it is empty, as of a variable that is not set")
     return [suffix_of(part) for word in words for part in word.split(",")]
 
 

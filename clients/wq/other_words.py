@@ -89,6 +89,8 @@ MEANT: Own = {
     "logs": "log",
     "info": "status",
     "ps": "status",
+    "stat": "status",
+    "tail": "log",
     "serve": "start",
     "kill": "stop",
     "quit": "stop",

@@ -103,7 +103,7 @@ class Server:
             raise self.went() from None
         finally:
             if progress:
-                progress.end()
+                progress.clear()
 
     def next_line(self, progress: Optional[Progress]) -> bytes:
         """The next line. While it does not come, a person is told how a first crawl goes on, or why nothing comes."""

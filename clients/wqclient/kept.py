@@ -2,6 +2,7 @@
 of the programs that were handed to a server, the roots that are watched and the windows that have them open, which
 server was stopped on purpose, and when triggers were registered. And the logs of servers."""
 
+import contextlib
 import errno
 import json
 import os
@@ -80,10 +81,16 @@ def keep(value: Dict[str, Any], kind: str, *parts: str) -> None:
     room(kind)
     path = path_of(kind, *parts)
     aside = f"{path}.{os.getpid()}"
-    with open(aside, "w", encoding="utf-8", opener=opened_as_own) as stream:
-        stream.truncate()
-        json.dump(value, stream)
-    os.replace(aside, path)
+    try:
+        with open(aside, "w", encoding="utf-8", opener=opened_as_own) as stream:
+            stream.truncate()
+            json.dump(value, stream)
+        os.replace(aside, path)
+    except OSError:
+        # On a full file system each call would leave a file of its own.
+        with contextlib.suppress(OSError):
+            os.unlink(aside)
+        raise
 
 
 def run_of(process: int) -> str:

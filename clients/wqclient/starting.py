@@ -48,7 +48,9 @@ def alone(sockname: str, tell: Callable[[], None] = lambda: None) -> Iterator[No
     try:
         file = open(f"{sockname}.start", "w", opener=opened_as_own)
     except OSError as error:
-        raise Unstarted(f"{sockname}.start: {error.strerror}") from None
+        # The lock is a matter of wq: a person named the socket, and perhaps a directory that is not there.
+        where = os.path.dirname(sockname) if isinstance(error, FileNotFoundError) else f"{sockname}.start"
+        raise Unstarted(f"{where}: {error.strerror}") from None
     with file:
         end = time.monotonic() + SOME_SECONDS
         while not is_locked(file):

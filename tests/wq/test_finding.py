@@ -234,6 +234,7 @@ class Finding(Beside):
             ),
             (["--frob"], "there is no option --frob; see `wq find --help`"),
             (["-e"], "argument -e/--extension: expected one argument; see `wq find --help`"),
+            (["-e", ""], "-e takes suffixes, such as c,h; it is empty, as of a variable that is not set"),
             (["/not/there"], "/not/there: No such file or directory"),
             (
                 ["--program", "p", "-t", "f"],

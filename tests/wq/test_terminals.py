@@ -185,6 +185,14 @@ class Terminals(Beside):
                 fault = str(error)
             self.same(f"the words of {example.line}", (words[:2], fault), (["wq", command], ""))
 
+    def test_no_directory_of_socket(self) -> None:
+        """The directory of the socket is missing: that is what is told, and not a file of wq in it."""
+        with Scene(self.room, starts=False) as scene:
+            gone = scene.room / "gone"
+            ended = scene.wq("find", WQD_SOCK=str(gone / "wqd.sock"))
+            reason = f"the server did not start: {gone}: No such file or directory"
+            self.same("no directory for the socket", ended, built.Ended(b"", said(reason), 3))
+
     def test_first_crawl(self) -> None:
         """A first crawl of over a second shows how long it goes on; it can be interrupted at once."""
         with Scene(self.room, starts=False) as scene:
@@ -209,4 +217,5 @@ class Terminals(Beside):
                 began = time.monotonic()
                 self.same("Ctrl-C in a first crawl", going.ends(2), 130)
                 self.same("ends at once", time.monotonic() - began < 1.5, True)
+                self.same("no time of what has not ended", b"that took" in going.errors, False)
             os.unlink(scene.sockname)

@@ -92,6 +92,8 @@ class ToldOnce(Beside):
             self.same("no space is left", (full.status, full.output), (3, b"+ new\n"))
             place = re.search(rb"^wq: (/\S+): [^:]+; so the next call tells this again$", full.errors, re.M)
             self.check("it says where", place is not None and place[1].startswith(bytes(clocks)), [str(full.errors)])
+            left = sorted(file.name for file in clocks.iterdir() if file.suffix[1:].isdigit())
+            self.same("no half of a note is left", left, [])
 
     def test_became_links(self) -> None:
         """A file that became a link is gone for who asks for files, and comes back as a file. Links are not told."""

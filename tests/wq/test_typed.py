@@ -92,6 +92,8 @@ HINTS: List[Tuple[List[str], str]] = [
         "file of that name",
     ),
     (["kill"], "there is no command kill; did you mean stop?; `wq --help` says which there are"),
+    (["stat"], "there is no command stat; did you mean status?; `wq --help` says which there are"),
+    (["tail"], "there is no command tail; did you mean log?; `wq --help` says which there are"),
     (["-V"], "there is no option -V; did you mean --version?; `wq --help` says which there are"),
 ]
 
