@@ -205,6 +205,10 @@ raise_handles() {
 # Memory that the program frees goes back to the system or is used again, whichever thread freed it, unless the
 # environment says otherwise.
 run() {
+    if ! command -v "$program" > /dev/null; then
+        say "wqd: there is no program at $program${WQD:+, which the variable WQD names}" >&2
+        exit 1
+    fi
     export MALLOC_ARENA_MAX="${MALLOC_ARENA_MAX:-2}" MALLOC_MMAP_THRESHOLD_="${MALLOC_MMAP_THRESHOLD_:-131072}"
     export GLIBC_TUNABLES="${GLIBC_TUNABLES:-glibc.malloc.tcache_count=0}"
     refused=2

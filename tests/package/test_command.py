@@ -86,6 +86,12 @@ class Command(Case):
             refused = f"wqd: wrong command line\nwqd: {reason}\n".encode()
             self.same(f"the words {words}", call(self.room, "wqd", *words), built.Ended(b"", refused, 2))
 
+    def test_no_program(self) -> None:
+        """The variable WQD names no program: that is what is wrong, whatever the words are."""
+        for words in (["serve"], ["replay"], ["frob"]):
+            said = b"wqd: there is no program at /none, which the variable WQD names\n"
+            self.same(f"the words {words}", call(self.room, "wqd", *words, WQD="/none"), built.Ended(b"", said, 1))
+
     def test_workers_by_processors(self) -> None:
         """The program gets a number in place of `auto`. Here `echo` is that program."""
         count = min(4, len(os.sched_getaffinity(0)))
