@@ -33,12 +33,23 @@ class Block(NamedTuple):
     lines: List[str]
 
 
+class Pair(NamedTuple):
+    """A text of a file and what takes its place: the first one behind the line `after`, if there is such a line."""
+
+    file: str
+    after: str
+    old: str
+    new: str
+
+
 class Edit(NamedTuple):
-    """A wrong body: what it puts in place of what, and the functions that have to be refused."""
+    """A wrong body: what it puts in place of what, and the functions that have to be refused. Or what the compiler has
+    to say of it, if no such body has the types that it needs."""
 
     name: str
-    pairs: List[Tuple[str, str, str]]
+    pairs: List[Pair]
     refused: List[str]
+    untyped: str
 
 
 class BadEdit(Exception):
@@ -63,37 +74,52 @@ def blocks_in(path: Path) -> List[Block]:
 
 
 def read(block: Block) -> Edit:
-    """An edit from its lines: `refused: FUNCTION`, `file: FILE`, and pairs of lines `old: TEXT` and `new: TEXT`."""
-    file, old = "", ""
+    """An edit from its lines: `refused: FUNCTION`, or `untyped: WORDS` of the compiler; `file: FILE`, and pairs of
+    lines `old: TEXT` and `new: TEXT`, with a line `after: TEXT` before one whose old text the file has twice."""
+    file, after, old, untyped = "", "", "", ""
     pairs, refused = [], []
     for line in block.lines:
         word, _, text = line.partition(": " if not line.startswith("new:") else ":")
         if word == "refused":
             refused.append(text.strip())
+        elif word == "untyped":
+            untyped = text.strip()
         elif word == "file":
             file = text.strip()
+        elif word == "after":
+            after = text
         elif word == "old":
             old = text
         elif word == "new":
-            pairs.append((file, old, text[1:] if text.startswith(" ") else text))
+            pairs.append(Pair(file, after, old, text[1:] if text.startswith(" ") else text))
+            after = ""
         else:
             raise BadEdit(f"a line begins with no word that an edit has: {line}")
-    if not refused or not pairs or not all(file and old for file, old, _ in pairs):
+    if bool(refused) == bool(untyped) or not pairs or not all(it.file and it.old for it in pairs):
         raise BadEdit("it names no function that is refused, or has no pair of texts behind a file")
-    return Edit(block.name, pairs, refused)
+    return Edit(block.name, pairs, refused, untyped)
 
 
 def apply(edit: Edit, directory: Path, texts: Dict[str, str]) -> None:
     """Puts the edit into the texts of the files of the crate, by their paths. Those that are not there are read."""
-    for file, old, new in edit.pairs:
+    for file, after, old, new in edit.pairs:
         if not re.fullmatch(r"src/[\w/]+\.rt", file):
             raise BadEdit(f"it changes {file}, which is no body")
         if file not in texts:
             texts[file] = (directory / file).read_text(encoding="utf-8")
-        found = texts[file].count(old)
-        if found != 1:
-            raise BadEdit(f"its old text stands in {file} {found} times, and not once")
-        texts[file] = texts[file].replace(old, new)
+        for text, found in (
+            (after, texts[file].count(after) if after else 1),
+            (old, count_behind(texts[file], after, old)),
+        ):
+            if found != 1:
+                raise BadEdit(f"its text {text!r} is in {file} {found} times, and not once")
+        above, line, below = texts[file].partition(after) if after else ("", "", texts[file])
+        texts[file] = above + line + below.replace(old, new, 1)
+
+
+def count_behind(text: str, after: str, old: str) -> int:
+    """How often a text is there; or, behind a line, whether it is."""
+    return text.count(old) if not after else min(1, text.partition(after)[2].count(old))
 
 
 def together(edits: List[Edit], directory: Path) -> Tuple[List[Edit], Dict[str, str]]:

@@ -40,7 +40,8 @@ def calls_of(crate: Path) -> Iterator[Call]:
             continue
         source = read(path)
         for at, owner in places(source.lines):
-            name = CALL.match(source.lines[at].strip())["name"]
+            called = CALL.match(source.lines[at].strip())
+            name = called["name"] if called else ""
             if owner in exported if owner else name in exported:
                 yield call_at(source, at, f"{owner}::{name}" if owner else name)
 
@@ -98,7 +99,7 @@ def call_at(source: Source, at: int, name: str) -> Call:
 
 def contract_from(lines: List[str], at: int) -> str:
     """The text of a function from its name up to its body."""
-    indent = re.match(" *", lines[at])[0]
+    indent = lines[at][: len(lines[at]) - len(lines[at].lstrip(" "))]
     taken: List[str] = []
     for line in lines[at:]:
         if line == f"{indent}{{" or line == f"{indent}{{}}":

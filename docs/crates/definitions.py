@@ -43,8 +43,9 @@ def read(path: Path) -> Module:
         is_head = False
         if re.match(r"(abbrev )?mutual$|infix", text):
             continue
-        if is_declaration(line):
-            definitions.append((DEFINED.match(line)["name"], " ".join(words)))
+        defined = DEFINED.match(line) if is_declaration(line) else None
+        if defined:
+            definitions.append((defined["name"], " ".join(words)))
             if re.match(r" *pub (record|data) ", line):
                 fields_at = indent
         words = []

@@ -1,10 +1,11 @@
 -- The crawls of a lane, by the lister's state before and after.
-use Rattle.std.proofs.Common.{◌≡◌, ℕ, suc, Bool, true, false, List, Option, Some, None, Result, Ok, Err, IsTrue, inl, inr, sym, refl, subst}
+use Rattle.std.proofs.Common.{◌≡◌, ℕ, suc, Bool, true, false, List, Option, Some, None, Result, Ok, Err, IfErr, IfOk, IfSome, IsTrue, ap, inl, inr, sym, refl, subst}
 use Rattle.wq_live.specs.Event.{number_of}
 use Rattle.wq_live.specs.declared.event.RootEvent.{RootEvent}
 use Rattle.wq_crawl.specs.declared.fault.CrawlFault.{CrawlFault}
 use Rattle.wq_crawl.specs.declared.relisted.Relisted.{Relisted}
-use Rattle.wq_crawl.specs.Answer.{CrawlData}
+use Rattle.wq_crawl.specs.declared.fault.CrawlFault.TheVariants.{NoMemory}
+use Rattle.wq_crawl.specs.Answer.{CrawlData, IsAnswer}
 use Rattle.wq_crawl.specs.Crawl.{IsNoPassOver, IsRelisted, ListerData, crawler_at}
 use Rattle.wq_crawl.specs.Shared.{CrawledNow, CrawledOnce, GlancedBetween, Publishes, PublishesGlance, Tries, TriesOnce}
 
@@ -39,3 +40,13 @@ next_try text first before after tries tried (inr overtaken) = (suc tries, (befo
 pub refused_try : (text : List ℕ) (first before after : ListerData) (fault : CrawlFault) → (tries : ℕ) × Tries tries text first before
     → TriesOnce text before (Err fault) after → CrawledOnce text first (Err fault) after
 refused_try text first before after fault (tries, tried) is = (tries, before, tried, is)
+
+-- an earlier crawl serves: the present list is the answer, or the root is another one, or memory ran out
+pub again_then : (published : List RootEvent → Type 0) (text : List ℕ) (lister : ListerData) (number : ℕ) (result : Result (Option (Option CrawlData)) CrawlFault)
+    → IfOk result (λ it. IfSome it (IsAnswer published text))
+    → IfErr result (λ fault. (fault ≡ NoMemory) × (events : List RootEvent) × (number_of text events ≡ Some number))
+    → TriesOnce text lister result lister
+again_then published text lister number (Ok None) answer short = inl refl
+again_then published text lister number (Ok (Some None)) (events, given, gone) short = inr (refl, inl (events, gone, refl))
+again_then published text lister number (Ok (Some (Some crawl))) (given, shown) short = inr (refl, inr (inr (crawl.told, crawl.number, shown, refl)))
+again_then published text lister number (Err fault) answer (is, events, shown) = inr (refl, inr (inl (events, number, shown, ap Err is)))

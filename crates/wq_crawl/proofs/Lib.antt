@@ -1,5 +1,6 @@
 mod Between
 mod Crawling
+mod Apart
 mod Publishing
 mod Attempts
 mod Sharing

@@ -1,5 +1,5 @@
 -- What a listing came to, published over a list in which its root is as it was.
-use Rattle.std.proofs.Common.{◌≡◌, ℕ, ℤ, List, find, Option, Some, option_map, bytes_eq, Result, Ok, Err, MatchResult, Vec, inl, inr, sym, refl, ap, subst, ◌∙◌}
+use Rattle.std.proofs.Common.{◌≡◌, ℕ, ℤ, List, find, Option, Some, option_map, bytes_eq, Result, Ok, Err, IfErr, MatchResult, Vec, inl, inr, sym, refl, ap, subst, ◌∙◌}
 use Rattle.std.specs.declared.alloc.Global.{Global}
 use Rattle.wq_view.specs.Listing.{PassData}
 use Rattle.wq_view.specs.View.{IsViewOf, ViewData}
@@ -12,8 +12,8 @@ use Rattle.wq_crawl.specs.declared.fault.CrawlFault.{CrawlFault}
 use Rattle.wq_crawl.specs.declared.relisted.Relisted.{Relisted}
 use Rattle.wq_crawl.specs.declared.relisted.Relisted.TheVariants.{Pass, Patched}
 use Rattle.wq_crawl.specs.Answer.{CrawlData}
-use Rattle.wq_crawl.specs.Shared.{CrawledFrom, Publishes}
-use Rattle.wq_crawl.specs.Crawl.{CrawledAt, CrawlerData, IsRelisted, IsTakable, ListerData, crawler_at}
+use Rattle.wq_crawl.specs.Shared.{CrawledFrom, Publishes, PublishesGlance}
+use Rattle.wq_crawl.specs.Crawl.{CrawledAt, CrawlerData, IsRelisted, IsTakable, ListerData, crawler_at, makes}
 use Rattle.wq_crawl.specs.Publish.{IsNotTakenIn, Passes}
 use Rattle.wq_crawl.proofs.Crawling.{crawled_at, patched_at}
 
@@ -88,3 +88,9 @@ module _ (text : List ℕ) (events later : List RootEvent) (number count : ℕ) 
       → CrawledFrom text before (Err fault) after
   refused_now fault same crawled =
       (events, number, shown, subst (λ (l : List RootEvent). CrawledAt number text (crawler_at events before) (Err fault) (crawler_at l after)) same crawled)
+
+  -- what a glance came to was published, or refused
+  pub glance_made : (result : Result (List RootEvent) CrawlFault) → IfErr result (λ _. later ≡ events)
+      → CrawledAt number text (crawler_at events before) result (crawler_at later after) → PublishesGlance text before (makes result) after
+  glance_made (Ok told) err (same, pass, over, passes) = (later, (events, number, shown, (refl, pass, over, passes)))
+  glance_made (Err fault) same crawled = refused_now fault same crawled

@@ -45,3 +45,10 @@ abbrev pub EndsRoot : List RootEvent → ℕ → List RootEvent → Type 0
 EndsRoot before number after =
     ((is_shown before number ≡ false) × (after ≡ before))
     ⊎ ((is_shown before number ≡ true) × (after ≡ before ++ Ended number ∷ []))
+
+-- each root but the one of this number is shown as before, with the same passes
+abbrev pub OthersStay : ℕ → List RootEvent → List RootEvent → Type 0
+OthersStay number before after =
+    (other : ℕ) → (other ≡ number → ⊥)
+    → (is_shown after other ≡ is_shown before other)
+    × (passes_over other after ≡ passes_over other before)

@@ -5,16 +5,16 @@ use std::sync::atomic::{AtomicU64, Ordering};
 use wq_patch::Tree;
 
 /// The moment at which somebody asked for a crawl: the number of crawls that had begun then. Only [`Begun::read`] makes
-/// one.
-#[derive(Clone, Copy, Drop)]
+/// one, and it cannot be copied. So whoever has none yet can only read it now.
+#[derive(Drop)]
 pub struct Asked {
     count: u64,
 }
 
 impl Asked {
     /// The number of crawls that had begun.
-    pub(crate) fn count(self) -> u64
-        ensures { result ≡ self.count }
+    pub(crate) fn count(&self) -> u64
+        ensures { result ≡ self.now.count }
     {
         self.count
     }
@@ -58,8 +58,8 @@ impl Begun {
     }
 
     /// Counts a crawl that begins for somebody who asked at an earlier moment.
-    pub(crate) fn raise(&self, asked: Asked) -> Raised
-        ensures { asked.count ≤ result.count }
+    pub(crate) fn raise(&self, asked: &Asked) -> Raised
+        ensures { asked.now.count ≤ result.count }
     {
         // The count never falls. No contract of the kit says so.
         let count = self.count.fetch_add(1, Ordering::SeqCst);

@@ -4,6 +4,7 @@ ghost use Rattle.std.specs.Prelude.{◌≡◌, ◌≤◌, ◌&&◌, ◌==◌, na
 ghost use Rattle.wq_live.specs.Event.{number_of};
 ghost use Rattle.wq_crawl.specs.Answer.{IsAnswer, list_or_fault};
 ghost use Rattle.wq_crawl.specs.Crawl.{CrawledAt, IsRelisted, IsTakable, ListerData, crawler_at};
+ghost use Rattle.wq_crawl.specs.Publish.{OthersStay};
 
 use crate::begun::Asked;
 use crate::fault::CrawlFault;
@@ -31,8 +32,8 @@ impl Began {
     }
 
     /// Whether the crawl was of the root of this number, and began when somebody asked, or later.
-    pub(crate) fn serves(self, asked: Asked, number: u64) -> bool
-        ensures { result ≡ (self.number == number) && nat_le asked.count self.count }
+    pub(crate) fn serves(self, asked: &Asked, number: u64) -> bool
+        ensures { result ≡ (self.number == number) && nat_le asked.now.count self.count }
     {
         self.number == number && asked.count() <= self.count
     }
@@ -114,6 +115,7 @@ impl<N: Named> Crawl<N> {
             (list_or_fault publisher.new result) (crawler_at publisher.new after) }
         ensures shown { (text : List ℕ)
             → number_of text publisher.new ≡ number_of text publisher.old }
+        ensures others { OthersStay listed.number publisher.old publisher.new }
         ensures published { IfOk result (λ _. N.published N.book publisher.new) }
         ensures err { IfErr result (λ _. publisher.new ≡ publisher.old) }
     {

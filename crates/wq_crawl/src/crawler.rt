@@ -2,12 +2,12 @@
 //! after the other.
 ghost use Rattle.std.specs.Prelude.{◌≡◌, IfOk, IsTrue, MatchResult, None, OnOk, Some};
 ghost use Rattle.wq_live.specs.Event.{IsFull, number_of};
-ghost use Rattle.wq_crawl.specs.Answer.{IsAnswer, list_or_fault, told_list};
+ghost use Rattle.wq_crawl.specs.Answer.{BeganSince, IsAnswer, list_or_fault, told_list};
 ghost use Rattle.wq_crawl.specs.Crawl.{Began, Crawled, CrawledAt, CrawledWhole, Glanced};
 ghost use Rattle.wq_crawl.specs.Crawl.{IsNoPassOver, IsPassOver, Shared, Unwatched, Watched, tells};
 ghost use Rattle.wq_crawl.specs.Publish.{with_start};
 
-use crate::begun::Begun;
+use crate::begun::{Asked, Begun};
 use crate::crawl::Crawl;
 use crate::fault::CrawlFault;
 use crate::lister::Lister;
@@ -73,6 +73,11 @@ impl<N: Named, R: Wait + Drop, T: Tree + Drop, S: Seconds + Drop> Crawler<N, R, 
         self.publisher.find(root)
     }
 
+    /// This moment, for a crawl that somebody asks for now.
+    pub fn ask(&self) -> Asked {
+        self.begun.read()
+    }
+
     /// Crawls the root of this text, publishes the pass, and returns the list. There is none if the root is not shown.
     ///
     /// A refused crawl leaves the list as it is. The call waits for looks that still read the value before the last
@@ -81,10 +86,20 @@ impl<N: Named, R: Wait + Drop, T: Tree + Drop, S: Seconds + Drop> Crawler<N, R, 
         ensures crawled { Crawled root.now self.old (told_list result) self.new }
         ensures answer { IfOk result (IsAnswer (N.published N.book) root.now) }
     {
+        let asked = self.ask();
+        self.crawl_since(&asked, root)
+    }
+
+    /// Crawls the root of this text for somebody who asked at this moment, as [`Crawler::crawl`] does.
+    pub fn crawl_since(&mut self, asked: &Asked, root: &str) -> Result<Crawl<N>, CrawlFault>
+        ensures crawled { Crawled root.now self.old (told_list result) self.new }
+        ensures answer { IfOk result (IsAnswer (N.published N.book) root.now) }
+        ensures since { IfOk result (BeganSince asked.now.count) }
+    {
         let Some(number) = self.publisher.find(root) else {
             return Ok(Crawl::gone(&self.publisher, root));
         };
-        self.crawl_whole(number, root)
+        self.crawl_whole(asked, number, root)
     }
 
     /// Crawls the root of this text by a glance at it that looks so far, publishes the pass, and returns whether it did.
@@ -155,16 +170,22 @@ impl<N: Named, R: Wait + Drop, T: Tree + Drop, S: Seconds + Drop> Crawler<N, R, 
     }
 
     /// Crawls the whole root of this number and text, which is shown.
-    fn crawl_whole(&mut self, number: u64, root: &str) -> Result<Crawl<N>, CrawlFault>
+    fn crawl_whole(
+        &mut self,
+        asked: &Asked,
+        number: u64,
+        root: &str,
+    ) -> Result<Crawl<N>, CrawlFault>
         requires shown { number_of root.now (self.old).events ≡ Some number }
         ensures crawled { CrawledWhole number root.now self.old
             (list_or_fault (self.new).events result) self.new }
         ensures told { told_list result ≡ tells (list_or_fault (self.new).events result) }
         ensures answer { IfOk result (IsAnswer (N.published N.book) root.now) }
+        ensures since { IfOk result (BeganSince asked.now.count) }
     {
         // As for a root that is listed for the first time.
         self.let_go();
-        let raised = self.begun.raise(self.begun.read());
+        let raised = self.begun.raise(asked);
         let listed = self
             .lister
             .list_whole(raised, self.publisher.table(), number, root)?;

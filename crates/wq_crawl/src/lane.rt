@@ -35,12 +35,12 @@ impl<T: Tree + Drop, S: Seconds + Drop> Lane<T, S> {
         begun: &Begun,
         shared: &SharedPublisher<N, R>,
         rt: &R,
-        asked: Asked,
+        asked: &Asked,
         root: &str,
     ) -> Result<Crawl<N>, CrawlFault>
         ensures crawled { CrawledOnce root.now self.old.lister (told_list result) self.new.lister }
         ensures answer { IfOk result (IsAnswer (N.published N.book) root.now) }
-        ensures since { IfOk result (BeganSince asked.count) }
+        ensures since { IfOk result (BeganSince asked.now.count) }
     {
         for _ in rt.forever() {
             if let Some(crawl) = self.try_crawl(begun, shared, rt, asked, root)? {
@@ -57,12 +57,12 @@ impl<T: Tree + Drop, S: Seconds + Drop> Lane<T, S> {
         begun: &Begun,
         shared: &SharedPublisher<N, R>,
         rt: &R,
-        asked: Asked,
+        asked: &Asked,
         root: &str,
     ) -> Result<Option<Crawl<N>>, CrawlFault>
         ensures crawled { TriesOnce root.now self.old.lister result self.new.lister }
         ensures answer { IfOk result (λ it. IfSome it (IsAnswer (N.published N.book) root.now)) }
-        ensures since { IfOk result (λ it. IfSome it (BeganSince asked.count)) }
+        ensures since { IfOk result (λ it. IfSome it (BeganSince asked.now.count)) }
     {
         let Some((number, told)) = shared.find(rt, root)? else {
             return Ok(shared.gone(rt, root));

@@ -22,6 +22,7 @@ mod own_roots;
 mod place;
 mod refused;
 mod relisted;
+mod root_publisher;
 mod roots;
 mod seat_views;
 mod seconds;

@@ -1,6 +1,7 @@
 //! Roots that many sessions share.
 ghost use Rattle.std.specs.Prelude.{◌≡◌};
 
+use crate::begun::Asked;
 use crate::caller::Caller;
 use crate::crawl::Crawl;
 use crate::fault::CrawlFault;
@@ -75,9 +76,13 @@ where
         self.crawler.open(&self.rt, self.caller, root)
     }
 
-    fn crawl(&mut self, root: &str) -> Result<Crawl<N>, CrawlFault> {
+    fn ask(&self) -> Asked {
+        self.crawler.ask()
+    }
+
+    fn crawl(&mut self, asked: Asked, root: &str) -> Result<Crawl<N>, CrawlFault> {
         self.caller.has_read();
-        self.crawler.crawl(&self.rt, self.caller, root)
+        self.crawler.crawl(&self.rt, self.caller, &asked, root)
     }
 
     fn retire(&mut self, root: FoundRoot) -> Result<Told<N>, CrawlFault> {

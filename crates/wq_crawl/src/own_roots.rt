@@ -1,5 +1,6 @@
 //! Roots that one session has for itself: a crawler.
 
+use crate::begun::Asked;
 use crate::crawl::Crawl;
 use crate::crawler::Crawler;
 use crate::fault::CrawlFault;
@@ -20,8 +21,12 @@ impl<N: Named, R: Wait + Drop, T: Tree + Drop, S: Seconds + Drop> Roots<N> for C
         self.open(root)
     }
 
-    fn crawl(&mut self, root: &str) -> Result<Crawl<N>, CrawlFault> {
-        self.crawl(root)
+    fn ask(&self) -> Asked {
+        self.ask()
+    }
+
+    fn crawl(&mut self, asked: Asked, root: &str) -> Result<Crawl<N>, CrawlFault> {
+        self.crawl_since(&asked, root)
     }
 
     fn retire(&mut self, root: FoundRoot) -> Result<Told<N>, CrawlFault> {

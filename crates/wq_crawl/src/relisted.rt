@@ -5,7 +5,7 @@ ghost use Rattle.wq_view.specs.View.{IsViewOf, ViewData};
 ghost use Rattle.wq_live.specs.Event.{number_of, passes_over};
 ghost use Rattle.wq_view.specs.Change.{MakePass, pass_by};
 ghost use Rattle.wq_crawl.specs.Crawl.{CrawledAt, IsRelisted, IsTakable, ListerData, crawler_at};
-ghost use Rattle.wq_crawl.specs.Publish.{IsNotTakenIn, Passes};
+ghost use Rattle.wq_crawl.specs.Publish.{IsNotTakenIn, OthersStay, Passes};
 
 use crate::fault::CrawlFault;
 use std::sync::Wait;
@@ -39,6 +39,7 @@ impl Relisted {
             (crawler_at publisher.new after) }
         ensures shown { (text : List ℕ)
             → number_of text publisher.new ≡ number_of text publisher.old }
+        ensures others { OthersStay number publisher.old publisher.new }
         ensures err { IfErr result (λ _. publisher.new ≡ publisher.old) }
     {
         match self {

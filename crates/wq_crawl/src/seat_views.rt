@@ -77,11 +77,12 @@ fn meet<N: Named, R: Roots<N>>(
     }
 }
 
-/// Crawls a root.
+/// Crawls a root for a session that asks for it now.
 fn crawl<N: Named, R: Roots<N>>(roots: &mut R, root: &str) -> Result<Option<Told<N>>, CrawlFault>
     ensures { RootsGive (R.crawler roots.old) (passing root.now) result (R.crawler roots.new) }
 {
-    match roots.crawl(root) {
+    let asked = roots.ask();
+    match roots.crawl(asked, root) {
         Ok(crawl) => Ok(crawl.told()),
         Err(fault) => Err(fault),
     }

@@ -47,17 +47,17 @@ impl<N: Named, R: Wait + Drop, T: Tree + Drop, S: Seconds + Drop> SharedCrawler<
         })
     }
 
-    /// This moment, for [`SharedCrawler::crawl_since`].
+    /// This moment, for a crawl that somebody asks for now.
     pub fn ask(&self) -> Asked {
         self.begun.read()
     }
 
     /// Crawls the root of this text for nobody who waits, and returns the list of events. A crawl that began after somebody
     /// asked at an earlier moment serves too.
-    pub fn crawl_since(&self, rt: &R, asked: Asked, root: &str) -> Result<Crawl<N>, CrawlFault>
+    pub fn crawl_since(&self, rt: &R, asked: &Asked, root: &str) -> Result<Crawl<N>, CrawlFault>
         ensures given { RootsGive None (passing root.now) (told_list result) None }
         ensures answer { IfOk result (IsAnswer (N.published N.book) root.now) }
-        ensures since { IfOk result (BeganSince asked.count) }
+        ensures since { IfOk result (BeganSince asked.now.count) }
     {
         let place = self.lanes.come(rt, root);
         let at = self.lanes.at(place);
@@ -69,10 +69,10 @@ impl<N: Named, R: Wait + Drop, T: Tree + Drop, S: Seconds + Drop> SharedCrawler<
     }
 
     /// Crawls the root of this text as [`SharedCrawler::crawl_since`] does, and as soon as for a client.
-    pub fn crawl_soon(&self, rt: &R, asked: Asked, root: &str) -> Result<Crawl<N>, CrawlFault>
+    pub fn crawl_soon(&self, rt: &R, asked: &Asked, root: &str) -> Result<Crawl<N>, CrawlFault>
         ensures given { RootsGive None (passing root.now) (told_list result) None }
         ensures answer { IfOk result (IsAnswer (N.published N.book) root.now) }
-        ensures since { IfOk result (BeganSince asked.count) }
+        ensures since { IfOk result (BeganSince asked.now.count) }
     {
         let place = self.lanes.come(rt, root);
         let at = self.lanes.at(place);
@@ -150,13 +150,18 @@ where
     /// for nobody gives way to it. The call waits while another thread crawls the root, but no longer than until the root
     /// is no longer shown or the client has gone. One that has gone gets a refusal, which nobody reads.
     ///
-    /// If another thread crawled the root meanwhile, and began after this call did, the call returns the present list.
-    pub fn crawl<A: Asker>(&self, rt: &R, client: &A, root: &str) -> Result<Crawl<N>, CrawlFault>
+    /// If another thread crawled the root meanwhile, and began after the client asked, the call returns the present list.
+    pub fn crawl<A: Asker>(
+        &self,
+        rt: &R,
+        client: &A,
+        asked: &Asked,
+        root: &str,
+    ) -> Result<Crawl<N>, CrawlFault>
         ensures given { RootsGive None (passing root.now) (told_list result) None }
         ensures answer { IfOk result (IsAnswer (N.published N.book) root.now) }
+        ensures since { IfOk result (BeganSince asked.now.count) }
     {
-        // The thread reads the count before it waits for the lane.
-        let asked = self.begun.read();
         let place = self.lanes.come(rt, root);
         let at = self.lanes.at(place);
         at.callers.enter();
@@ -189,7 +194,7 @@ fn crawl_in_turn<N, R, T, S, A>(
     at: &SharedLane<T, S>,
     rt: &R,
     client: &A,
-    asked: Asked,
+    asked: &Asked,
     root: &str,
 ) -> Result<Crawl<N>, CrawlFault>
 where
@@ -200,6 +205,7 @@ where
     A: Asker,
     ensures given { RootsGive None (passing root.now) (told_list result) None }
     ensures answer { IfOk result (IsAnswer (N.published N.book) root.now) }
+    ensures since { IfOk result (BeganSince asked.now.count) }
 {
     let mut patience = Duration::ZERO;
     for _ in rt.forever() {
@@ -208,7 +214,7 @@ where
             at.turn.give(rt);
             return crawl;
         }
-        if let Some(answer) = shared.without_crawl(rt, root, client.is_gone()) {
+        if let Some(answer) = shared.without_crawl(rt, asked, root, client.is_gone()) {
             return answer;
         }
         patience = Duration::from_millis(PATIENCE);
@@ -254,7 +260,7 @@ fn crawl_in<N, R, T, S>(
     shared: &SharedPublisher<N, R>,
     lane: &Mutex<Lane<T, S>>,
     rt: &R,
-    asked: Asked,
+    asked: &Asked,
     root: &str,
 ) -> Result<Crawl<N>, CrawlFault>
 where
@@ -264,7 +270,7 @@ where
     S: Seconds + Drop,
     ensures given { RootsGive None (passing root.now) (told_list result) None }
     ensures answer { IfOk result (IsAnswer (N.published N.book) root.now) }
-    ensures since { IfOk result (BeganSince asked.count) }
+    ensures since { IfOk result (BeganSince asked.now.count) }
 {
     lane.lock(rt).crawl(begun, shared, rt, asked, root)
 }

@@ -1,34 +1,37 @@
 //! A publisher that threads share. Each call has it for a short time: no call lists a root.
-ghost use Rattle.std.specs.Prelude.{◌≡◌, ℕ, IfErr, IfOk, IfSome, IsTrue, List, MatchOption, MatchResult, None, Some};
+ghost use Rattle.std.specs.Prelude.{◌≡◌, ℕ, IfErr, IfOk, IfSome, List, MatchOption, MatchResult, None, Some};
 ghost use Rattle.wq_live.specs.declared.event.RootEvent.{RootEvent};
-ghost use Rattle.wq_live.specs.Event.{number_of, passes_over};
+ghost use Rattle.wq_live.specs.Event.{number_of};
 ghost use Rattle.wq_crawl.specs.Answer.{BeganSince, IsAnswer, told_list};
 ghost use Rattle.wq_crawl.specs.Crawl.{IsRelisted, IsTakable, ListerData, crawler_at};
 ghost use Rattle.wq_crawl.specs.Publish.{EndsRoot};
 ghost use Rattle.wq_crawl.specs.Roots.{RootsGive, passing};
 ghost use Rattle.wq_crawl.specs.Shared.{FindsOrRefuses, Publishes, PublishesGlance, StartsRoot};
 
+use crate::begun::Asked;
 use crate::crawl::{Began, Crawl};
 use crate::fault::CrawlFault;
 use crate::found_root::FoundRoot;
 use crate::lister::Listed;
 use crate::place::{Place, place_for};
-use crate::relisted::{Relisted, told_by};
+use crate::relisted::Relisted;
+use crate::root_publisher::RootPublisher;
 use std::sync::{Mutex, Wait};
-use wq_live::{Named, Publisher, StartFault, Told};
+use wq_live::{Named, Publisher, Told};
 use wq_view::Pass;
 
-/// A publisher that threads share. Contracts speak of the list of events that it has during a call.
+/// A publisher that threads share. Contracts speak of the list of events that it has during a call. The lock gives only
+/// calls each of which changes one root ([`RootPublisher`]).
 #[derive(Drop)]
 pub(crate) struct SharedPublisher<N: Named, R: Wait + Drop> {
-    publisher: Mutex<Publisher<N, R>>,
+    publisher: Mutex<RootPublisher<N, R>>,
 }
 
 impl<N: Named, R: Wait + Drop> SharedPublisher<N, R> {
     /// This publisher, for threads to share.
     pub(crate) fn new(publisher: Publisher<N, R>) -> SharedPublisher<N, R> {
         SharedPublisher {
-            publisher: Mutex::new(publisher),
+            publisher: Mutex::new(RootPublisher::new(publisher)),
         }
     }
 
@@ -45,6 +48,7 @@ impl<N: Named, R: Wait + Drop> SharedPublisher<N, R> {
         let mut publisher = self.publisher.lock(rt);
         // Otherwise memory would hold the views before the last ones beside what a listing makes.
         publisher.let_go();
+        let publisher = publisher.publisher();
         let Some(number) = publisher.find(root) else {
             return Ok(None);
         };
@@ -63,6 +67,7 @@ impl<N: Named, R: Wait + Drop> SharedPublisher<N, R> {
         let mut publisher = self.publisher.lock(rt);
         // As in every call before a listing.
         publisher.let_go();
+        let publisher = publisher.publisher();
         match place_for(publisher.table(), root) {
             Place::Shown(_) => match publisher.told() {
                 Ok(told) => Ok(Some(told)),
@@ -81,17 +86,19 @@ impl<N: Named, R: Wait + Drop> SharedPublisher<N, R> {
         ensures answer { IfSome result (IsAnswer (N.published N.book) root.now) }
     {
         let publisher = self.publisher.lock(rt);
+        let publisher = publisher.publisher();
         match publisher.find(root) {
             Some(_) => None,
-            None => Some(Crawl::gone(&publisher, root)),
+            None => Some(Crawl::gone(publisher, root)),
         }
     }
 
-    /// The answer to a client that waits no longer for a crawl of the root of this text: the root is not shown, or the
-    /// client has gone and is refused. There is none if it goes on waiting.
+    /// The answer to a client that asked at this moment and waits no longer for a crawl of the root of this text: the root is
+    /// not shown, or the client has gone and is refused. There is none if it goes on waiting.
     pub(crate) fn without_crawl(
         &self,
         rt: &R,
+        asked: &Asked,
         root: &str,
         is_gone: bool,
     ) -> Option<Result<Crawl<N>, CrawlFault>>
@@ -99,7 +106,10 @@ impl<N: Named, R: Wait + Drop> SharedPublisher<N, R> {
             RootsGive None (passing root.now) (told_list it) None) }
         ensures answer { IfSome result
             (λ it. IfOk it (IsAnswer (N.published N.book) root.now)) }
+        ensures since { IfSome result (λ it. IfOk it (BeganSince asked.now.count)) }
     {
+        // No crawl is told, so it is one for each moment.
+        let _ = asked;
         match self.gone(rt, root) {
             Some(crawl) => Some(Ok(crawl)),
             None if is_gone => Some(Err(CrawlFault::NoMemory)),
@@ -125,10 +135,11 @@ impl<N: Named, R: Wait + Drop> SharedPublisher<N, R> {
             × (events : List RootEvent) × (number_of root.now events ≡ Some began.number)) }
     {
         let publisher = self.publisher.lock(rt);
+        let publisher = publisher.publisher();
         if publisher.find(root) != Some(began.number()) {
             return Ok(None);
         }
-        match Crawl::present(&publisher, began) {
+        match Crawl::present(publisher, began) {
             Ok(crawl) => Ok(Some(crawl)),
             Err(fault) => Err(fault),
         }
@@ -152,14 +163,7 @@ impl<N: Named, R: Wait + Drop> SharedPublisher<N, R> {
         ensures answer { IfOk result (λ it. IfSome it (IsAnswer (N.published N.book) root.now)) }
         ensures since { IfOk result (λ it. IfSome it (BeganSince listed.raised.count)) }
     {
-        let mut publisher = self.publisher.lock(rt);
-        if !is_as_told(&publisher, root, told, listed.number()) {
-            return Ok(None);
-        }
-        match Crawl::published(&mut publisher, listed) {
-            Ok(crawl) => Ok(Some(crawl)),
-            Err(fault) => Err(fault),
-        }
+        self.publisher.lock(rt).publish(root, told, listed)
     }
 
     /// Publishes what a glance at the root of this number and text came to, beside its view in a list that was given out,
@@ -179,14 +183,9 @@ impl<N: Named, R: Wait + Drop> SharedPublisher<N, R> {
             → IsRelisted number root.now (crawler_at told.now before) relisted
             (crawler_at told.now after) → PublishesGlance root.now before result after }
     {
-        let mut publisher = self.publisher.lock(rt);
-        if !is_as_told(&publisher, root, told, number) {
-            return Ok(false);
-        }
-        match relisted.publish(&mut publisher, number) {
-            Ok(_) => Ok(true),
-            Err(fault) => Err(fault),
-        }
+        self.publisher
+            .lock(rt)
+            .publish_glance(root, told, number, relisted)
     }
 
     /// Publishes the start of the root of this text with this pass, unless it is shown, and returns the list.
@@ -194,19 +193,7 @@ impl<N: Named, R: Wait + Drop> SharedPublisher<N, R> {
         ensures { (events : List RootEvent) × (place : Place)
             × StartsRoot root.now pass events place result }
     {
-        let mut publisher = self.publisher.lock(rt);
-        match place_for(publisher.table(), root) {
-            Place::Shown(_) => match publisher.told() {
-                Ok(told) => Ok(told),
-                Err(_) => Err(CrawlFault::NoMemory),
-            },
-            Place::Full => Err(CrawlFault::TooManyRoots),
-            Place::Free => match publisher.start(root, pass) {
-                Ok((_number, told)) => Ok(told),
-                Err(StartFault::TooManyRoots) => Err(CrawlFault::TooManyRoots),
-                Err(StartFault::NoMemory) => Err(CrawlFault::NoMemory),
-            },
-        }
+        self.publisher.lock(rt).start(root, pass)
     }
 
     /// Publishes the end of a root that a look found, if it is shown, and returns the list.
@@ -215,28 +202,11 @@ impl<N: Named, R: Wait + Drop> SharedPublisher<N, R> {
             (λ told. EndsRoot events root.instance.root told)
             (λ fault. fault ≡ CrawlFault.NoMemory) }
     {
-        match self.publisher.lock(rt).retire(root.number()) {
-            Ok(told) => Ok(told),
-            Err(_) => Err(CrawlFault::NoMemory),
-        }
+        self.publisher.lock(rt).retire(root)
     }
 
     /// Frees the views that only the table before the last one still holds ([`Publisher::let_go`]).
     pub(crate) fn let_go(&self, rt: &R) {
         self.publisher.lock(rt).let_go();
     }
-}
-
-/// Whether the root of this text is shown under this number, and no pass over it was published since a list was given out.
-fn is_as_told<N: Named, R: Wait + Drop>(
-    publisher: &Publisher<N, R>,
-    root: &str,
-    told: &Told<N>,
-    number: u64,
-) -> bool
-    ensures shown { IsTrue result → number_of root.now publisher.now ≡ Some number }
-    ensures same { IsTrue result
-        → passes_over number publisher.now ≡ passes_over number told.now }
-{
-    publisher.find(root) == Some(number) && publisher.is_as_told(told, number)
 }

@@ -39,7 +39,7 @@ where
         if !crawler.wait_for_none(rt, root, Duration::from_secs(PATIENCE)) {
             break;
         }
-        let (took, crawled) = crawl_since(rt, crawler, asked, root);
+        let (took, crawled) = crawl_since(rt, crawler, &asked, root);
         worked = worked.saturating_add(took);
         if crawled != Err(CrawlFault::Tree(TreeFault::GaveWay)) {
             return (worked, crawled);
@@ -49,7 +49,7 @@ where
         return (worked, Err(CrawlFault::Tree(TreeFault::GaveWay)));
     }
     let began = Instant::now(rt);
-    let crawled = crawler.crawl_soon(rt, asked, root);
+    let crawled = crawler.crawl_soon(rt, &asked, root);
     let took = time_since(rt, began);
     (worked.saturating_add(took), crawled.map(|_| ()))
 }
@@ -58,7 +58,7 @@ where
 fn crawl_since<N, R, T, S>(
     rt: &R,
     crawler: &SharedCrawler<N, R, T, S>,
-    asked: Asked,
+    asked: &Asked,
     root: &str,
 ) -> (Duration, Result<(), CrawlFault>)
 where

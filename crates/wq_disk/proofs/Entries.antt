@@ -1,5 +1,5 @@
 -- The names at places of a text, and the places that remain if some are left out.
-use Rattle.std.proofs.Common.{◌≡◌, ℕ, Bool, true, false, List, [], ◌∷◌, ◌++◌, All, IsTrue, IfNone, IfOk, Option, None, Some, Result, Ok, Err, option_map, refl, cond, filter, ap, sym, subst, ◌∙◌, length}
+use Rattle.std.proofs.Common.{◌≡◌, ℕ, Bool, true, false, List, [], ◌∷◌, ◌++◌, All, IsTrue, Some, refl, cond, filter, ap, sym, subst, ◌∙◌, length}
 use Rattle.std.specs.List.{Contains}
 use Rattle.std.specs.List.Retain.{DedupsAll, DedupsFrom, IsDeduped}
 use Rattle.std.proofs.lemmas.List.{length-map, map-append, nil_from_length}
@@ -9,9 +9,7 @@ use Rattle.wq_disk.specs.declared.names.Place.{Place}
 use Rattle.wq_disk.specs.HeldNames.{AllAreLeft, names_given, names_left}
 use Rattle.wq_disk.specs.Entries.{AreDistinct, AreEntries, AreEntriesOf, is_entry, names_of_text}
 use Rattle.wq_disk.specs.Names.{AreAllEntries, name_at, names_at}
-use Rattle.wq_disk.specs.System.{has_here}
 use Rattle.wq_disk.specs.Told.{GivesEntries, Has}
-use Rattle.wq_disk.specs.Unseen.{HasMissed}
 
 -- the name at a last place is the last name
 pub taken : (bytes : List ℕ) (old new : List Place) (place : Place) → old ≡ new ++ (place ∷ [])
@@ -61,12 +59,6 @@ all_entries text places made is kept no_more distinct = (
 pub gives_entries : (has : Has) (path : List ℕ) (names : Names) → has path (Some (names_given names)) → AllAreLeft names → GivesEntries has path (names_left names)
 unfolding GivesEntries
 gives_entries has path names told all = (names_given names, told, all)
-
--- the names of a directory: those of its text, or none because a call of the system failed
-pub told_here : {E : Type 0} (path : List ℕ) (result : Result (Option Names) E) → IfOk result (λ names. IfNone names HasMissed) → IfOk result (λ names. has_here path (option_map names_given names))
-told_here path (Ok None) missed = missed
-told_here path (Ok (Some names)) missed = (names.bytes.items, refl)
-told_here path (Err fault) missed = tt
 
 -- if a test leaves some items out and changes none, the rest keep each fact that holds of all
 pub all_deduped : {X S : Type 0} (P : X → Type 0) (R : S → X → X → Bool → S → X → X → Type 0)

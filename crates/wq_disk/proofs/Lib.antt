@@ -3,4 +3,3 @@ pub mod Entries
 mod Distinct
 mod EachOnce
 mod Cuts
-mod Faults

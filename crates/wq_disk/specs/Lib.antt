@@ -1,4 +1,7 @@
+pub mod AskedData
+pub mod AskedPath
 pub mod Stat
+pub mod FileFacts
 pub mod Part
 pub mod Path
 pub mod Unseen
@@ -7,4 +10,4 @@ pub mod Entries
 pub mod Names
 pub mod HeldNames
 pub mod Directory
-pub mod System
+pub mod FileSystem

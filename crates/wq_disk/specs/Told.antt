@@ -23,6 +23,11 @@ Has = List ℕ → Option (List (List ℕ)) → Type 0
 abbrev pub FailsAt : Type 1
 FailsAt = TreeFault → List ℕ → Type 0
 
+-- a fault that a disk may give for a path: it is one of the device only if a call of the system
+-- failed so at that path
+abbrev pub IsFailureAt : FailsAt → List ℕ → TreeFault → Type 0
+IsFailureAt fails path fault = IsTrue (is_of_device fault) → fails fault path
+
 -- a fault that a disk may give below a root: it is one of the device only if a call of the system
 -- failed so at some path
 abbrev pub IsFailure : FailsAt → TreeFault → Type 0

@@ -1,12 +1,11 @@
 -- The meaning of an error of the system at one path for a walk. The numbers are those of errno(3)
 -- on Linux. The rule which of them end the walk is this server's own.
-use Rattle.std.specs.Prelude.{◌≡◌, IsTrue, ℤ, pos, negsuc, Bool, false, true, ◌==◌, ◌||◌, if◌then◌else◌}
+use Rattle.std.specs.Prelude.{ℤ, pos, negsuc, Bool, false, true, ◌==◌, ◌||◌, if◌then◌else◌}
 use Rattle.std.specs.Prelude.{Option, Some, None}
 use Rattle.std.specs.IoError.{error_kind, raw_os_error}
 use Rattle.std.specs.declared.io.Error.{Error}
 use Rattle.std.specs.declared.io.ErrorKind.{ErrorKind}
 use Rattle.std.specs.declared.io.ErrorKind.TheVariants.{OutOfMemory}
-use Rattle.wq_patch.specs.Tree.{is_of_device}
 use Rattle.wq_patch.specs.declared.tree.TreeFault.{TreeFault}
 use Rattle.wq_patch.specs.declared.tree.TreeFault.TheVariants.{NoHandle, NoMemory, Unreadable}
 
@@ -40,16 +39,6 @@ walk_fault number kind =
     else if is_of_path number then None
     else Some Unreadable
 
--- a call of the system failed with an error that means this fault of the whole walk, and says
--- nothing of its path
-abbrev pub HasFailed : TreeFault → Type 0
-HasFailed fault =
-    (error : Error) × (walk_fault (raw_os_error error) (error_kind error) ≡ Some fault)
-
--- a fault of a call: it is one of the device only if a call of the system failed so
-abbrev pub IsCallFault : TreeFault → Type 0
-IsCallFault fault = IsTrue (is_of_device fault) → HasFailed fault
-
--- a call of the system failed with an error that is about its path alone
-abbrev pub HasMissed : Type 0
-HasMissed = (error : Error) × (walk_fault (raw_os_error error) (error_kind error) ≡ None)
+-- the fault of a whole walk that an error of the system means, if it means one
+abbrev pub error_fault : Error → Option TreeFault
+error_fault error = walk_fault (raw_os_error error) (error_kind error)

@@ -1,19 +1,19 @@
 //! The questions of a walk to a disk: the names in a directory, and the kind, size and time of a file. Several threads
 //! may ask at once.
-ghost use Rattle.std.specs.Prelude.{IfErr, IfOk, IfSome};
+ghost use Rattle.std.specs.Prelude.{◌≡◌, IfErr, IfOk, IfSome};
 ghost use Rattle.std.specs.Option.{option_map};
 ghost use Rattle.wq_disk.specs.HeldNames.{AllAreLeft, names_given};
-ghost use Rattle.wq_disk.specs.Told.{IsFailure};
+ghost use Rattle.wq_disk.specs.Told.{IsFailureAt};
 
+use crate::asked::{AskedPath, Entered};
+use crate::file_system::FileSystem;
 use crate::names::{Block, Names, names_in};
 use crate::path::with_slash;
-use crate::stat::{Stat, stat_of};
+use crate::stat::{Stat, stat_from};
 use crate::unseen::walk_fault;
-use std::env;
-use std::fs::Files;
-use std::os::unix::fs::MetadataExt;
+use std::alloc::Global;
 use std::sync::Arc;
-use std::sync::atomic::{AtomicBool, Ordering};
+use std::sync::atomic::AtomicBool;
 use wq_patch::TreeFault;
 
 /// A source of directories and files. It fails if no answer can be had, because no file handle is left, memory ran out,
@@ -39,98 +39,95 @@ pub trait Disk {
     fn names_in(&self, block: &mut Block<'_>, path: &str) -> Result<Option<Names>, TreeFault>
         ensures told { IfOk result (λ names. has self.now path.now (option_map names_given names)) }
         ensures entries { IfOk result (λ names. IfSome names AllAreLeft) }
-        ensures fault { IfErr result (IsFailure (fails self.now)) };
+        ensures fault { IfErr result (IsFailureAt (fails self.now) path.now) };
 
     /// The stat of the file of this path, or nothing if the disk cannot look at it. A link is not followed.
     fn stat(&self, path: &str) -> Result<Option<Stat>, TreeFault>
         ensures told { IfOk result (says self.now path.now) }
-        ensures fault { IfErr result (IsFailure (fails self.now)) };
+        ensures fault { IfErr result (IsFailureAt (fails self.now) path.now) };
 }
 
-/// The disk of this machine.
+/// The disk of this machine, or of another file system.
 #[derive(Drop)]
-pub struct FileDisk {
-    files: HostRuntime,
-    /// The path of the root in which this disk has the process, with a slash at its end. It is empty if it has not.
-    entered: String,
+pub struct FileDisk<S: FileSystem + Drop = HostRuntime> {
+    system: S,
+    alloc: Global,
     /// Whether a disk has the process in a root. All disks of the process share it.
     is_taken: Arc<AtomicBool>,
+    /// The root in which this disk has the process.
+    entered: Option<Entered>,
 }
 
-impl FileDisk {
+impl FileDisk<HostRuntime> {
     /// The disk that these files are on. All disks of a process share this word, which says whether one of them has the
     /// working directory. The call takes no memory.
-    pub fn new(files: &HostRuntime, is_taken: Arc<AtomicBool>) -> FileDisk {
+    pub fn new(files: &HostRuntime, is_taken: Arc<AtomicBool>) -> FileDisk<HostRuntime> {
         FileDisk {
-            files: *files,
-            entered: String::new(files.alloc()),
+            system: *files,
+            alloc: files.alloc(),
             is_taken,
+            entered: None,
         }
     }
+}
 
+impl<S: FileSystem + Drop> FileDisk<S> {
     /// Makes a root the working directory of the process, so that the system begins each look below it there. If another
     /// disk has the working directory, or if that fails, it begins at `/`.
     pub fn enter(&mut self, root: &str) {
-        let Ok(path) = with_slash(self.files.alloc(), root) else {
-            return;
-        };
-        if self.is_taken.swap(true, Ordering::SeqCst) {
+        if self.entered.is_some() {
             return;
         }
-        if env::set_current_dir(&self.files, path.as_str()).is_ok() {
-            self.entered = path;
-        } else {
-            self.is_taken.store(false, Ordering::SeqCst);
+        if let Ok(path) = with_slash(self.alloc, root) {
+            self.entered = Entered::enter(&self.system, &self.is_taken, path);
         }
     }
 
     /// Makes `/` the working directory of the process, so that no file system stays in use. It does nothing if another
     /// disk has the working directory.
     pub fn leave(&mut self) {
-        if self.entered.is_empty() {
-            return;
+        if let Some(entered) = self.entered.take() {
+            entered.leave(&self.system, &self.is_taken);
         }
-        self.entered.clear();
-        let _ = env::set_current_dir(&self.files, "/");
-        self.is_taken.store(false, Ordering::SeqCst);
     }
 
     /// Whether a root is on another device than the directory above it, as the root of a mounted file system is. There is
     /// no answer if one of them cannot be looked at.
     pub fn has_own_device(&self, root: &str) -> Option<bool> {
-        let mut path = with_slash(self.files.alloc(), root).ok()?;
-        let here = self.files.metadata(path.as_str()).ok()?.dev();
+        let mut path = with_slash(self.alloc, root).ok()?;
+        let here = self.system.device(path.as_str()).ok()?;
         path.push_str("..").ok()?;
-        let above = self.files.metadata(path.as_str()).ok()?.dev();
+        let above = self.system.device(path.as_str()).ok()?;
         Some(here != above)
     }
 
-    /// A path to the same file from the working directory. That of the root stays whole: a root that was deleted is
-    /// still the working directory, and only its whole path says that it went.
-    fn from_here<'a>(&self, path: &'a str) -> &'a str {
-        match path.strip_prefix(self.entered.as_str()) {
-            Some("") | None => path,
-            Some(rest) => rest,
+    /// A path from where the process is.
+    fn ask<'a>(&'a self, path: &'a str) -> AskedPath<'a>
+        ensures { result.path ≡ path.now }
+    {
+        match &self.entered {
+            Some(entered) => entered.ask(path),
+            None => AskedPath::whole(path),
         }
     }
 }
 
-impl Disk for FileDisk {
-    ghost use Rattle.wq_disk.specs.System.{fails_here, has_here, says_here};
+impl<S: FileSystem + Drop> Disk for FileDisk<S> {
+    ghost use Rattle.wq_disk.specs.FileSystem.{FailsBy, HasBy, SaysBy};
 
-    ghost says = { λ _. says_here };
+    ghost says = { λ d. SaysBy (S.gave d.system) (S.missed d.system) };
 
-    ghost has = { λ _. has_here };
+    ghost has = { λ d. HasBy (S.holds d.system) (S.missed d.system) };
 
-    ghost fails = { λ _. fails_here };
+    ghost fails = { λ d. FailsBy (S.missed d.system) };
 
     fn names_in(&self, block: &mut Block<'_>, path: &str) -> Result<Option<Names>, TreeFault> {
-        names_in(&self.files, block, self.from_here(path))
+        names_in(&self.system, block, &self.ask(path))
     }
 
     fn stat(&self, path: &str) -> Result<Option<Stat>, TreeFault> {
-        match self.files.symlink_metadata(self.from_here(path)) {
-            Ok(metadata) => Ok(Some(stat_of(&metadata))),
+        match self.system.look(&self.ask(path)) {
+            Ok(facts) => Ok(Some(stat_from(&facts))),
             Err(error) => match walk_fault(&error) {
                 Some(fault) => Err(fault),
                 None => Ok(None),

@@ -1,21 +1,26 @@
 //! The names in one directory on disk. Another module looks at their files.
 ghost use Rattle.std.specs.Prelude.{◌≡◌, ◌<◌, ◌++◌, ◌∷◌, [], All, IfErr, IfNone, IfOk, IfSome, IsTrue};
-ghost use Rattle.std.specs.Prelude.{None, filter, length, not};
+ghost use Rattle.std.specs.Prelude.{None, Some, false, filter, length, not};
+ghost use Rattle.std.specs.Option.{option_map};
 ghost use Rattle.std.specs.List.{Contains};
 ghost use Rattle.wq_disk.specs.Entries.{AreDistinct, has_no_slash, is_entry, names_of_text};
 ghost use Rattle.wq_disk.specs.Names.{AreAllEntries, AreOfEntries, HaveHeads, name_at, name_head, names_at, place_cmp};
 ghost use Rattle.std.proofs.Props.{props};
 ghost use Rattle.std.specs.Ordering.{is_lt};
-ghost use Rattle.wq_disk.specs.Unseen.{HasMissed, IsCallFault};
+ghost use Rattle.wq_patch.specs.Tree.{is_of_device};
+ghost use Rattle.wq_disk.specs.FileSystem.{FailsBy, HasBy};
+ghost use Rattle.wq_disk.specs.Told.{IsFailureAt};
+ghost use Rattle.wq_disk.specs.Unseen.{error_fault};
 
+use crate::asked::AskedPath;
+use crate::file_system::FileSystem;
 use crate::new_names::MOST_SHARED;
 use crate::unseen::walk_fault;
 use crate::way::Way;
 use memchr::memchr;
 use std::alloc::{AllocError, Global};
 use std::cmp::Ordering;
-use std::fs::Files;
-use std::io::{Error, ErrorKind, Read};
+use std::io::{Error, ErrorKind};
 use std::str;
 use std::sync::ArcSlice;
 use wq_patch::TreeFault;
@@ -168,49 +173,52 @@ impl Names {
     }
 }
 
-/// The names in the directory of this path, or nothing if it cannot be read. If a path ends in a slash, the call may
+/// The names in the directory of a path, or nothing if it cannot be read. If a path ends in a slash, the system may
 /// follow a link there. A path without that slash is not read if it ends in a link.
-pub(crate) fn names_in<R: Files>(
-    files: &R,
+pub(crate) fn names_in<S: FileSystem>(
+    system: &S,
     block: &mut Block<'_>,
-    path: &str,
+    asked: &AskedPath<'_>,
 ) -> Result<Option<Names>, TreeFault>
+    ensures told { IfOk result (λ names. HasBy (S.holds system.now) (S.missed system.now)
+        asked.now.path (option_map (λ names. names_of_text names.bytes.items) names)) }
     ensures entries { IfOk result (λ names. IfSome names (λ names.
         AreAllEntries names.bytes.items names.places.items)) }
-    ensures none { IfOk result (λ names. IfNone names HasMissed) }
-    ensures fault { IfErr result IsCallFault }
+    ensures fault { IfErr result
+        (IsFailureAt (FailsBy (S.missed system.now)) asked.now.path) }
 {
-    match files.open_dir(path) {
-        Ok(mut directory) => names_of(&mut directory, block, path.len()),
+    match system.open(asked) {
+        Ok(mut directory) => names_of(system, &mut directory, block, asked),
         Err(error) => nothing(&error),
     }
 }
 
-/// The names that a directory gives, whose path has so many bytes, or nothing if it cannot be read to its end. Before each
-/// block of names the walk may give way. It fails soon after the directory has more names than a listing has rows.
-fn names_of<D: Read>(
-    directory: &mut D,
+/// The names that the directory of a path gives, or nothing if it cannot be read to its end. Before each block of names
+/// the walk may give way. It fails soon after the directory has more names than a listing has rows.
+fn names_of<S: FileSystem>(
+    system: &S,
+    directory: &mut S::Directory,
     block: &mut Block<'_>,
-    path_len: usize,
+    asked: &AskedPath<'_>,
 ) -> Result<Option<Names>, TreeFault>
-    // If the directory tells its text, this is the text of the names:
-    ensures text { IfOk result (λ names. IfSome names (λ names.
-        IfSome (D.remaining directory.old) (λ text. names.bytes.items ≡ text))) }
+    requires { S.reads system.now asked.now.path directory.old [] }
+    ensures told { IfOk result (λ names. HasBy (S.holds system.now) (S.missed system.now)
+        asked.now.path (option_map (λ names. names_of_text names.bytes.items) names)) }
     ensures entries { IfOk result (λ names. IfSome names (λ names.
         AreAllEntries names.bytes.items names.places.items)) }
-    ensures none { IfOk result (λ names. IfNone names HasMissed) }
-    ensures fault { IfErr result IsCallFault }
+    ensures fault { IfErr result
+        (IsFailureAt (FailsBy (S.missed system.now)) asked.now.path) }
 {
     let mut text = Vec::new(block.allocator());
     let mut read = ReadNames::new();
     for _ in 0..u64::MAX {
         block.way.keep_on()?;
-        match directory.read(&mut block.bytes) {
+        match system.read(directory, &mut block.bytes) {
             Ok(0) => return Ok(Some(Names::of_text(text)?)),
             Ok(count) => {
                 text.extend_from_slice(&block.bytes[..count])?;
                 read.add(&block.bytes[..count]);
-                read.check(block.allocator(), &text, path_len)?;
+                read.check(block.allocator(), &text, asked.from_here().len())?;
             }
             Err(error) if error.kind() == ErrorKind::Interrupted => {}
             Err(error) => return nothing(&error),
@@ -250,7 +258,7 @@ impl ReadNames {
     /// Fails if so far the text of the directory, whose path has so many bytes, has more names than a listing has rows.
     /// A name that a pass never takes does not count.
     fn check(&mut self, alloc: Global, text: &[u8], path_len: usize) -> Result<(), TreeFault>
-        ensures { IfErr result IsCallFault }
+        ensures { IfErr result (λ fault. is_of_device fault ≡ false) }
     {
         if self.count <= self.most {
             return Ok(());
@@ -361,8 +369,8 @@ fn text_at(bytes: &[u8], place: Place) -> &[u8]
 
 /// No names, if an error is about their directory alone.
 fn nothing(error: &Error) -> Result<Option<Names>, TreeFault>
-    ensures none { IfOk result (λ names. (names ≡ None) × HasMissed) }
-    ensures fault { IfErr result IsCallFault }
+    ensures none { IfOk result (λ names. (names ≡ None) × (error_fault error.now ≡ None)) }
+    ensures fault { IfErr result (λ fault. error_fault error.now ≡ Some fault) }
 {
     match walk_fault(error) {
         Some(fault) => Err(fault),

@@ -1,14 +1,15 @@
 //! The kind, size and time that the system gives for one file, as a row of a listing has them. Another module reads the
 //! disk.
-ghost use Rattle.std.specs.Prelude.{◌≡◌, ◌↔◌, ℤ, IsTrue};
-ghost use Rattle.std.specs.Fs.{file_type, metadata_len};
+ghost use Rattle.std.specs.Prelude.{◌≡◌, ◌↔◌, IsTrue};
+ghost use Rattle.std.specs.Fs.{file_type};
 ghost use Rattle.wq_record.specs.Seen.{is_count, is_time};
 ghost use Rattle.wq_record.specs.declared.kind.Kind.TheVariants.{Dir};
+ghost use Rattle.wq_disk.specs.FileFacts.{stat_from};
 ghost use Rattle.wq_disk.specs.Stat.{kind_of_mode, milliseconds_of, nearest_size};
 
+use crate::facts::FileFacts;
 use std::fs::Metadata;
 use std::marker::Model;
-use std::os::unix::fs::MetadataExt;
 use wq_base::{MAX_NUMBER, MAX_SIGNED};
 use wq_view::Kind;
 
@@ -50,29 +51,14 @@ impl Stat {
     }
 }
 
-/// The stat of a file for the metadata that the system gives. A size or a time out of range becomes the nearest bound.
-pub(crate) fn stat_of(metadata: &Metadata) -> Stat
-    ensures kind { result.kind ≡ kind_of_mode (file_type metadata.now).bits }
-    ensures size { result.size ≡ nearest_size (metadata_len metadata.now) }
-    ensures time { (seconds : ℤ) × (nanoseconds : ℤ)
-        × (result.mtime_ms ≡ milliseconds_of seconds nanoseconds) }
-{
-    let (seconds, nanoseconds) = (metadata.mtime(), metadata.mtime_nsec());
-    stat_from(kind_of(metadata), metadata.len(), seconds, nanoseconds)
-}
-
-/// The stat of a file of this kind, of so many bytes, that was modified at this time.
-fn stat_from(kind: Kind, len: u64, seconds: i64, nanoseconds: i64) -> Stat
-    ensures { result ≡ record {
-      kind = kind;
-      size = nearest_size len;
-      mtime_ms = milliseconds_of seconds nanoseconds;
-    } }
+/// The stat of a file for what the system gives. A size or a time out of range becomes the nearest bound.
+pub(crate) fn stat_from(facts: &FileFacts) -> Stat
+    ensures { result ≡ stat_from facts.now }
 {
     Stat {
-        kind,
-        size: size_of(len),
-        mtime_ms: milliseconds(seconds, nanoseconds),
+        kind: kind_of(&facts.metadata),
+        size: size_of(facts.metadata.len()),
+        mtime_ms: milliseconds(facts.seconds, facts.nanoseconds),
     }
 }
 

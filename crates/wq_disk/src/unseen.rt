@@ -1,8 +1,7 @@
 //! The meaning of an error of the system for a walk: whether the error is about its path alone. Another module makes
 //! the calls.
-ghost use Rattle.std.specs.Prelude.{◌≡◌, IfSome};
-ghost use Rattle.std.specs.IoError.{error_kind, raw_os_error};
-ghost use Rattle.wq_disk.specs.Unseen.{IsCallFault, is_of_handles, is_of_memory, is_of_path, walk_fault};
+ghost use Rattle.std.specs.Prelude.{◌≡◌};
+ghost use Rattle.wq_disk.specs.Unseen.{error_fault, is_of_handles, is_of_memory, is_of_path};
 
 use std::io::{Error, ErrorKind};
 use wq_patch::TreeFault;
@@ -36,8 +35,7 @@ const ELOOP: i32 = 40;
 ///
 /// If no more files can be opened, memory ran out, or a file system failed, an error says nothing of its path.
 pub(crate) fn walk_fault(error: &Error) -> Option<TreeFault>
-    ensures fault { result ≡ walk_fault (raw_os_error error.now) (error_kind error.now) }
-    ensures call { IfSome result IsCallFault }
+    ensures { result ≡ error_fault error.now }
 {
     let number = error.raw_os_error();
     if is_of_handles(number) {

@@ -1,1 +1,5 @@
+mod Adding
+mod Beginnings
 mod Due
+mod Reading
+mod Taking

@@ -1,27 +1,31 @@
 //! A session's inbox over the queue of its client.
+ghost use Rattle.wq_inbox.specs.Queue.{TakesEvent};
 
-use crate::link::Link;
+use crate::history::History;
+use crate::queue::Outlet;
 use crate::turnstile::Ticket;
-use std::sync::{Arc, Wait};
+use std::sync::Wait;
 use std::time::Clock;
 use wq_stream::{Event, Inbox};
 
-/// The events of a client, in their order. A long line comes when few others are read. The contract does not show the
-/// events.
+/// The events of a client, in their order. A long line comes when few others are read. Its outlet shows which of them the
+/// session took.
 #[derive(Drop)]
-pub struct LinkInbox<'a, R: Wait + Clock + Drop> {
-    pub link: Arc<Link>,
+pub struct LinkInbox<'a, R: Wait + Clock + Drop, E: History> {
+    pub outlet: Outlet<E>,
     pub rt: R,
     pub ticket: &'a Ticket<'a, R>,
 }
 
-impl<R: Wait + Clock + Drop> Inbox for LinkInbox<'_, R> {
+impl<R: Wait + Clock + Drop, E: History> Inbox for LinkInbox<'_, R, E> {
     ghost use Rattle.std.specs.Prelude.{None};
 
     ghost left = { λ _. None };
 
-    fn next(&mut self) -> Event {
+    fn next(&mut self) -> Event
+        ensures { TakesEvent self.old.outlet result self.new.outlet }
+    {
         self.ticket.leave();
-        self.ticket.take_up(self.link.queue.take(&self.rt))
+        self.outlet.next(&self.rt, self.ticket)
     }
 }

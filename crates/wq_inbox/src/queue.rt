@@ -1,130 +1,160 @@
-//! The queue from which a session takes its events. Threads put events in and wait for it. No
-//! contract promises that an event arrives.
-ghost use Rattle.std.specs.Prelude.{◌≡◌, ◌++◌, All, List, OnOk, false, ℕ};
-ghost use Rattle.std.specs.List.{Contains};
-ghost use Rattle.wq_inbox.specs.Intake.{TakesNext};
+//! The queue from which a session takes its client's events, and its two ends. The events between the ends have a history:
+//! those that were taken are the first of those that were put, in their order.
+ghost use Rattle.std.specs.Prelude.{◌≡◌, [], IfOk};
+ghost use Rattle.wq_inbox.specs.History.{BeginOne};
+ghost use Rattle.wq_inbox.specs.Queue.{PutsEvent, TakesEvent};
 
+use crate::coming::Turn;
+use crate::history::{Front, Head, History, Opened};
+use crate::link::Link;
+use crate::turnstile::Ticket;
+use crate::waiting::{Place, Waiting};
 use std::alloc::{AllocError, Global};
-use std::collections::VecDeque;
-use std::sync::{Condvar, Mutex, Wait};
+use std::marker::Model;
+use std::sync::{Arc, Mutex, Wait};
 use std::time::{Clock, Duration};
-use wq_stream::{Backlog, Event};
+use wq_stream::Event;
 
-/// A queue that threads share.
+/// A queue that threads share. The link says how many events wait in it, and wakes those that wait for it.
 #[derive(Drop)]
-pub(crate) struct Queue {
-    coming: Mutex<Coming>,
-    changed: Condvar,
-    /// Wakes the threads that wait for the end alone. No event is to wake these.
-    closed: Condvar,
+struct Queue<E: History> {
+    link: Arc<Link>,
+    head: Head<E>,
+    waiting: Mutex<Waiting<E>>,
 }
 
-/// The events that come to a session. A client's events and idle moments come in turn, as long as
-/// there are both. So neither holds up the other.
-#[derive(Drop)]
-struct Coming {
-    /// The events of the client.
-    waiting: Backlog,
-    /// The numbers of the roots of which an idle moment is due, each once.
-    due: VecDeque<u64>,
-    /// Whether an idle moment came last.
-    was_moment: bool,
-}
-
-impl Coming {
-    /// Takes the next event. There is none only if no idle moment is due.
-    fn take(&mut self) -> Option<Event>
-        ensures { TakesNext self.old result self.new }
+impl<E: History> Queue<E> {
+    /// Puts an event of the client after the others as soon as there is room, and says whether it did. If it did not,
+    /// the queue is closed.
+    fn put<R: Wait>(&self, rt: &R, mine: &mut Front<E>, event: Event) -> bool
+        ensures { PutsEvent mine.old event result mine.new }
     {
-        // A moment comes next, if one is due, unless one came last and the client's event waits.
-        if !self.waiting.is_closed()
-            && (!self.was_moment || self.waiting.is_idle())
-            && let Some(number) = self.due.pop_front()
-        {
-            self.was_moment = true;
-            return Some(Event::Idle(number));
+        let lock = self.link.coming.lock(rt);
+        let mut coming = self.link.changed.wait_while(rt, lock, |it| it.is_full());
+        let is_there = !coming.is_closed() && self.waiting.lock(rt).put(&self.head, mine, event);
+        if is_there {
+            coming.add();
+        } else {
+            coming.close();
         }
-        self.was_moment = false;
-        self.waiting.take()
-    }
-
-    /// Makes an idle moment of each of these roots due, unless the queue is closed.
-    fn put_moments(&mut self, numbers: &[u64]) -> Result<(), AllocError>
-        ensures due { OnOk result (self.old.waiting.is_closed ≡ false
-            → All (Contains self.new.due.items) numbers.now) }
-        ensures kept { (more : List ℕ) × (self.new.due.items ≡ self.old.due.items ++ more) }
-        ensures events { self.new.waiting ≡ self.old.waiting }
-    {
-        if self.waiting.is_closed() {
-            return Ok(());
-        }
-        for number in numbers {
-            if !self.due.contains(number) {
-                self.due.push_back(*number)?;
-            }
-        }
-        Ok(())
-    }
-}
-
-impl Queue {
-    /// An empty queue. It takes the memory for a client's events now.
-    pub(crate) fn new(alloc: Global) -> Result<Queue, AllocError> {
-        Ok(Queue {
-            coming: Mutex::new(Coming {
-                waiting: Backlog::new(alloc)?,
-                due: VecDeque::new(alloc),
-                was_moment: false,
-            }),
-            changed: Condvar::new(),
-            closed: Condvar::new(),
-        })
-    }
-
-    /// Puts an event of the client after the others as soon as there is room, and says whether it
-    /// did. If it did not, the queue is closed.
-    pub(crate) fn put<R: Wait>(&self, rt: &R, event: Event) -> bool {
-        let lock = self.coming.lock(rt);
-        let mut coming = self.changed.wait_while(rt, lock, |it| it.waiting.is_full());
-        let is_there = coming.waiting.put(event);
         drop(coming);
-        self.changed.notify_all();
+        self.link.changed.notify_all();
         is_there
     }
 
-    /// Makes an idle moment of each of these roots due, and says whether memory sufficed. It waits
-    /// for no session. A root of which one is due already has no second one.
-    pub(crate) fn put_moments<R: Wait>(&self, rt: &R, numbers: &[u64]) -> bool {
-        let put = self.coming.lock(rt).put_moments(numbers);
-        self.changed.notify_all();
-        put.is_ok()
-    }
-
-    /// Takes the next event as soon as there is one, or the end if the queue is closed.
-    pub(crate) fn take<R: Wait>(&self, rt: &R) -> Event {
-        let lock = self.coming.lock(rt);
-        let mut coming = self.changed.wait_while(rt, lock, |it| {
-            it.waiting.is_idle() && it.due.is_empty()
-        });
-        let event = coming.take();
+    /// Takes the next event as soon as there is one, or a moment that is due, or the end if the queue is closed.
+    fn take<R: Wait>(&self, rt: &R, mine: &mut Place<E>) -> Event
+        ensures { TakesEvent mine.old result mine.new }
+    {
+        let lock = self.link.coming.lock(rt);
+        let mut coming = self.link.changed.wait_while(rt, lock, |it| it.is_idle());
+        let event = match coming.next() {
+            Some(Turn::Moment(number)) => Event::Idle(number),
+            Some(Turn::Client) => self.waiting.lock(rt).take(mine),
+            Some(Turn::Closed) | None => Event::End,
+        };
         drop(coming);
-        self.changed.notify_all();
-        event.unwrap_or(Event::End)
+        self.link.changed.notify_all();
+        event
     }
+}
 
-    /// Closes the queue: it takes in no more events, and whoever takes one gets the end.
-    pub(crate) fn close<R: Wait>(&self, rt: &R) {
-        self.coming.lock(rt).waiting.close();
-        self.changed.notify_all();
-        self.closed.notify_all();
+/// The end of a queue into which a reader puts events. Contracts see all that it put.
+#[derive(Drop)]
+pub struct Feed<E: History> {
+    queue: Arc<Queue<E>>,
+    put: Front<E>,
+}
+
+impl<E: History> Model for Feed<E> {
+    ghost use Rattle.std.specs.Prelude.{List};
+    ghost use Rattle.wq_stream.specs.declared.event.Event.{Event};
+
+    ghost Value = { List Event };
+
+    ghost view = { λ f. f.put };
+}
+
+impl<E: History> Feed<E> {
+    /// Puts an event after the others as soon as there is room, and says whether it did. If it did not, the queue is
+    /// closed.
+    pub(crate) fn put<R: Wait>(&mut self, rt: &R, event: Event) -> bool
+        ensures { PutsEvent self.old event result self.new }
+    {
+        self.queue.put(rt, &mut self.put, event)
     }
 
     /// Waits so long, but no longer than the queue is open. Says whether it is closed.
     pub(crate) fn pause<R: Wait + Clock>(&self, rt: &R, time: Duration) -> bool {
-        let lock = self.coming.lock(rt);
-        let (coming, _) = self
-            .closed
-            .wait_timeout_while(rt, lock, time, |it| !it.waiting.is_closed());
-        coming.waiting.is_closed()
+        self.queue.link.pause(rt, time)
     }
+}
+
+/// The end of a queue from which a session takes events. Contracts see the client's events that it took.
+#[derive(Drop)]
+pub struct Outlet<E: History> {
+    queue: Arc<Queue<E>>,
+    place: Place<E>,
+}
+
+impl<E: History> Model for Outlet<E> {
+    ghost use Rattle.std.specs.Prelude.{List};
+    ghost use Rattle.wq_stream.specs.declared.event.Event.{Event};
+
+    ghost Value = { List Event };
+
+    ghost view = { λ o. o.place };
+}
+
+impl<E: History> Outlet<E> {
+    /// Takes the next event as soon as there is one and the session may read it. If the server ends before it may, or
+    /// the queue is closed, that is the end, and all later ones are.
+    pub(crate) fn next<R: Wait + Clock>(&mut self, rt: &R, ticket: &Ticket<'_, R>) -> Event
+        ensures { TakesEvent self.old result self.new }
+    {
+        let mut next = self.place.again();
+        let event = self.queue.take(rt, &mut next);
+        if !ticket.lets(&event) {
+            return Event::End;
+        }
+        self.place = next;
+        event
+    }
+}
+
+/// The two ends of an empty queue of this link, over a history of its own.
+pub fn open_queue<E: History>(
+    alloc: Global,
+    link: Arc<Link>,
+    opened: Opened,
+) -> Result<(Feed<E>, Outlet<E>), AllocError>
+    requires { opened ≡ E.book }
+    ensures { IfOk result (λ ends. (ends.0 ≡ []) × (ends.1 ≡ [])) }
+{
+    let (head, front) = opened.named::<E>();
+    let put = front.again();
+    let place = Place::new(front.again());
+    let waiting = Waiting::new(alloc, front)?;
+    let queue = Arc::new(
+        alloc,
+        Queue {
+            link,
+            head,
+            waiting: Mutex::new(waiting),
+        },
+    )?;
+    Ok((
+        Feed {
+            queue: queue.clone()?,
+            put,
+        },
+        Outlet { queue, place },
+    ))
+}
+
+/// Law: what a session took, and what the reader put, begin one history.
+pub fn takes_what_was_put<E: History>(outlet: &Outlet<E>, feed: &Feed<E>)
+    ensures { BeginOne outlet.now feed.now }
+{
+    outlet.place.agree(&feed.put);
 }

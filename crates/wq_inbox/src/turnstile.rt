@@ -88,17 +88,17 @@ impl<'a, R: Wait + Clock> Ticket<'a, R> {
         }
     }
 
-    /// The event that the session takes up next: this one, once the session is inside if it is a long line. If the
-    /// server ends before, it is the end.
-    pub(crate) fn take_up(&self, event: Event) -> Event {
-        if !is_long(&event) {
-            return event;
+    /// Waits until the session may take up this event, which it may once it is inside if that is a long line. Says
+    /// whether it may. If not, the server ends.
+    pub(crate) fn lets(&self, event: &Event) -> bool {
+        if !is_long(event) {
+            return true;
         }
-        if !self.turnstile.enter(self.rt) {
-            return Event::End;
+        let enters = self.turnstile.enter(self.rt);
+        if enters {
+            self.is_inside.store(true, Ordering::SeqCst);
         }
-        self.is_inside.store(true, Ordering::SeqCst);
-        event
+        enters
     }
 
     /// The session has read its line, and goes out if it is inside.

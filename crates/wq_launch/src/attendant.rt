@@ -6,6 +6,7 @@ ghost use Rattle.std.specs.Prelude.{◌≡◌, IfSome};
 use crate::failures::quoted;
 use crate::notices::Notices;
 use crate::run::StartedCommand;
+use crate::run_table::EndedRun;
 use crate::runs::Runs;
 use std::alloc::{AllocError, Global};
 use std::io::Write;
@@ -93,13 +94,27 @@ where
 /// Takes a command, and attends it until it has ended.
 fn see_through<R: Wait, O: Notices>(rt: &R, alloc: Global, post: &Post, runs: &Runs, notices: &O) {
     if let Some(run) = post.take(rt) {
-        let number = run.number;
-        let line = wait_for(rt, alloc, runs, run);
-        runs.end(rt, number);
-        if let Some(line) = line {
-            notices.tell(&line);
-        }
+        attend_to(rt, alloc, runs, notices, run);
     }
+}
+
+/// Attends a command until it has ended. Its number is free then.
+fn attend_to<R: Wait, O: Notices>(
+    rt: &R,
+    alloc: Global,
+    runs: &Runs,
+    notices: &O,
+    run: StartedCommand,
+) -> EndedRun
+    ensures { result.number ≡ run.number }
+{
+    let number = run.number;
+    let line = wait_for(rt, alloc, runs, run);
+    let ended = runs.end(rt, number);
+    if let Some(line) = line {
+        notices.tell(&line);
+    }
+    ended
 }
 
 /// Writes the input of a command, as far as it takes it, and waits for its end. Gives a line if it

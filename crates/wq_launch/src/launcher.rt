@@ -5,12 +5,13 @@ ghost use Rattle.std.specs.Prelude.{length, option_to_list, OnSome};
 ghost use Rattle.wq_follow.specs.Launcher.{Rose, StartsRun, run_of};
 ghost use Rattle.wq_follow.specs.Started.{env_data, start_data};
 ghost use Rattle.wq_launch.specs.FailingStarts.{TellsFirst, after_success};
-ghost use Rattle.wq_launch.specs.Launching.{KeepsFailure, given_back, with_waiting};
+ghost use Rattle.wq_launch.specs.Launching.{KeepsFailure, given_back, with_spawned, with_waiting};
 ghost use Rattle.wq_launch.specs.Limit.{max_runs};
 
 use crate::failures::{FailedStart, FailingStarts};
 use crate::run::StartedCommand;
-use crate::runs::{MAX_RUNS, Runs};
+use crate::run_table::MAX_RUNS;
+use crate::runs::Runs;
 use crate::system::Spawn;
 use crate::words::Words;
 use std::alloc::{AllocError, Global};
@@ -21,8 +22,8 @@ use std::sync::{Arc, Wait};
 use wq_base::Text;
 use wq_follow::{Env, Launch, LaunchFault, Start};
 
-/// Starts commands, and keeps each until somebody takes it to attend it. Contracts see the commands
-/// that it keeps, how often it failed, and the starts that fail.
+/// Starts commands, and keeps each until somebody takes it to attend it. Contracts see the commands that it started, if
+/// these are shown, and those that it keeps, how often it failed, and the starts that fail.
 #[derive(Drop)]
 pub struct Launcher<S: Spawn + Drop, R: Wait + Drop> {
     spawn: S,
@@ -42,6 +43,7 @@ impl<S: Spawn + Drop, R: Wait + Drop> Model for Launcher<S, R> {
     ghost Value = { LauncherNow };
 
     ghost view = { λ l. record {
+      spawned = S.spawned l.spawn;
       waiting = l.waiting.items;
       failures = l.failures;
       failing = l.failing;
@@ -59,6 +61,7 @@ impl<S: Spawn + Drop, R: Wait + Drop> Launcher<S, R> {
         runs: Arc<Runs>,
     ) -> Result<Launcher<S, R>, AllocError>
         ensures { IfOk result (λ l. l ≡ record {
+          spawned = S.spawned spawn;
           waiting = [];
           failures = 0;
           failing = record { told = []; untold = [] };
@@ -78,6 +81,7 @@ impl<S: Spawn + Drop, R: Wait + Drop> Launcher<S, R> {
     /// Takes the first command that nobody attends yet.
     pub fn take(&mut self) -> Option<StartedCommand>
         ensures first { self.old.waiting ≡ option_to_list result ++ self.new.waiting }
+        ensures spawned { self.new.spawned ≡ self.old.spawned }
         ensures failures { self.new.failures ≡ self.old.failures }
         ensures failing { self.new.failing ≡ self.old.failing }
     {
@@ -90,6 +94,7 @@ impl<S: Spawn + Drop, R: Wait + Drop> Launcher<S, R> {
     /// Keeps a command that could not be attended, until it is taken again. It is the last one then.
     pub fn give_back(&mut self, run: StartedCommand)
         ensures kept { self.new.waiting ≡ given_back run self.old.waiting }
+        ensures spawned { self.new.spawned ≡ self.old.spawned }
         ensures failures { self.new.failures ≡ self.old.failures }
         ensures failing { self.new.failing ≡ self.old.failing }
     {
@@ -106,15 +111,22 @@ impl<S: Spawn + Drop, R: Wait + Drop> Launcher<S, R> {
     pub fn next_line(&mut self) -> Result<Option<Text>, AllocError>
         ensures ok { IfOk result (λ line. TellsFirst self.old.failing line self.new.failing) }
         ensures err { OnErr result (self.new.failing ≡ self.old.failing) }
+        ensures spawned { self.new.spawned ≡ self.old.spawned }
         ensures failures { self.new.failures ≡ self.old.failures }
         ensures waiting { self.new.waiting ≡ self.old.waiting }
     {
         self.failing.next_line(self.alloc)
     }
 
-    /// Starts a command under a number of its own.
-    fn begin(&self, start: &Start) -> io::Result<(u32, Child)>
-        ensures { OnOk result (length self.now.waiting < max_runs) }
+    /// Starts a command under a number of its own, and once.
+    fn begin(&mut self, start: &Start) -> io::Result<(u32, Child)>
+        ensures ok { OnOk result (self.new.spawned
+            ≡ with_spawned (start_data start.now) self.old.spawned) }
+        ensures err { OnErr result (self.new.spawned ≡ self.old.spawned) }
+        ensures room { OnOk result (length self.new.waiting < max_runs) }
+        ensures waiting { self.new.waiting ≡ self.old.waiting }
+        ensures failures { self.new.failures ≡ self.old.failures }
+        ensures failing { self.new.failing ≡ self.old.failing }
     {
         let Some(number) = self.next_number(start.input.len()) else {
             return Err(io::Error::new(io::ErrorKind::ResourceBusy, "too many commands run"));
@@ -143,6 +155,7 @@ impl<S: Spawn + Drop, R: Wait + Drop> Launcher<S, R> {
     /// Keeps the reason why a start of a trigger failed.
     fn fail(&mut self, env: Env, error: &io::Error)
         ensures failing { KeepsFailure (env_data env) self.old.failing self.new.failing }
+        ensures spawned { self.new.spawned ≡ self.old.spawned }
         ensures failures { self.new.failures ≡ self.old.failures }
         ensures waiting { self.new.waiting ≡ self.old.waiting }
     {
@@ -164,6 +177,9 @@ impl<S: Spawn + Drop, R: Wait + Drop> Launch for Launcher<S, R> {
     fn start(&mut self, start: Start) -> Result<u32, LaunchFault>
         ensures counted { IfErr result (λ _. Rose self.old.failures self.new.failures) }
         ensures told { StartsRun None (start_data start) (run_of result) None }
+        ensures spawned { OnOk result (self.new.spawned
+            ≡ with_spawned (start_data start) self.old.spawned) }
+        ensures unspawned { OnErr result (self.new.spawned ≡ self.old.spawned) }
         ensures waiting { self.new.waiting
             ≡ with_waiting (start_data start) result self.old.waiting }
         ensures ok { OnOk result ((self.new.failures ≡ self.old.failures)
@@ -197,7 +213,9 @@ impl<S: Spawn + Drop, R: Wait + Drop> Launch for Launcher<S, R> {
         }
     }
 
-    fn ended(&mut self, run: u32) -> bool {
+    fn ended(&mut self, run: u32) -> bool
+        ensures { self.new ≡ self.old }
+    {
         !self.runs.has(&self.rt, run)
     }
 

@@ -1,4 +1,7 @@
 //! Starting a command by the system.
+ghost use Rattle.std.specs.Prelude.{◌≡◌, OnErr, OnOk};
+ghost use Rattle.wq_follow.specs.Started.{start_data};
+ghost use Rattle.wq_launch.specs.Launching.{with_spawned};
 
 use crate::command::command_of;
 use std::alloc::Global;
@@ -6,10 +9,19 @@ use std::io;
 use std::process::{Child, Processes, SystemProcess};
 use wq_follow::Start;
 
-/// Starts commands, which then run beside the server.
+/// Starts commands, which then run beside the server. It may show the commands that it started.
 pub trait Spawn {
+    ghost use Rattle.std.specs.Prelude.{List, Option};
+    ghost use Rattle.wq_follow.specs.Start.{StartData};
+
+    // The commands that it started so far, if they are shown.
+    ghost spawned: { Self → Option (List StartData) };
+
     /// Starts a command. If its input is empty, then so is its standard input.
-    fn spawn(&self, alloc: Global, start: &Start) -> io::Result<Child>;
+    fn spawn(&mut self, alloc: Global, start: &Start) -> io::Result<Child>
+        ensures ok { OnOk result (spawned self.new
+            ≡ with_spawned (start_data start.now) (spawned self.old)) }
+        ensures err { OnErr result (spawned self.new ≡ spawned self.old) };
 
     /// How many commands may be there at once whose input is not written yet. Each takes a handle of the server.
     fn most_inputs(&self) -> usize;
@@ -35,7 +47,11 @@ impl<P: Processes<Started = SystemProcess> + Drop> System<P> {
 }
 
 impl<P: Processes<Started = SystemProcess> + Drop> Spawn for System<P> {
-    fn spawn(&self, alloc: Global, start: &Start) -> io::Result<Child> {
+    ghost use Rattle.std.specs.Prelude.{None};
+
+    ghost spawned = { λ _. None };
+
+    fn spawn(&mut self, alloc: Global, start: &Start) -> io::Result<Child> {
         command_of(alloc, start)?.spawn(&self.processes)
     }
 

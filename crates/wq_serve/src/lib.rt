@@ -5,7 +5,7 @@
 #![tactic(auto)]
 
 pub use wq_ask::{Ask, LoneAsk, Refusal, RootAsk, RootText, ShelfAsk};
-pub use wq_crawl::{At, Crawl, CrawlFault, Crawler, FoundRoot, Need, Roots, SeatViews};
+pub use wq_crawl::{Asked, At, Crawl, CrawlFault, Crawler, FoundRoot, Need, Roots, SeatViews};
 pub use wq_replay::{Happening, ReplayFault, Sent, SentLines, World, replay};
 pub use wq_session::{
     Cursor, Desk, Ended, Line, LockDesk, Out, Prepared, ReplyLine, Session, SharedShelf, Unset,

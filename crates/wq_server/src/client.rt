@@ -1,4 +1,5 @@
 //! The two threads of one client: one reads its stream, and one runs its session.
+ghost use Rattle.std.specs.Prelude.{◌≡◌};
 
 use crate::host::Host;
 use crate::placed_inbox::PlacedInbox;
@@ -7,11 +8,12 @@ use crate::refusal::refuse;
 use crate::runtime::Runtime;
 use crate::server::Server;
 use std::alloc::Global;
+use std::marker::Brand;
 use std::os::unix::net::UnixStream;
 use std::sync::Arc;
 use std::thread::{self, JoinHandle};
 use wq_ask::Refusal;
-use wq_inbox::{Link, LinkInbox, Ticket, read_all};
+use wq_inbox::{History, Link, LinkInbox, Opened, Outlet, Ticket, open_queue, read_all};
 
 /// The place that a client has.
 #[derive(Clone, Copy, PartialEq, Eq, Drop)]
@@ -39,9 +41,28 @@ where
     R: Runtime,
     H: Host + Drop + Send + Sync + 'static,
 {
-    let has_asked = match begin_reading(rt, alloc, &link, &stream) {
-        Some(reader) => {
-            let has_asked = run_session(rt, alloc, &link, &stream, place, server);
+    run_reading::<R, H, Brand>(rt, alloc, link, stream, place, server, Opened::new());
+}
+
+/// Runs a client's session to its end, with a thread that reads its stream. The events of the client have this history.
+fn run_reading<R, H, E>(
+    rt: R,
+    alloc: Global,
+    link: Arc<Link>,
+    stream: Arc<UnixStream>,
+    place: ClientPlace,
+    server: &Arc<Server<H>>,
+    opened: Opened,
+)
+where
+    R: Runtime,
+    H: Host + Drop + Send + Sync + 'static,
+    E: History + Send + Sync + 'static,
+    requires { opened ≡ E.book }
+{
+    let has_asked = match begin_reading::<R, E>(rt, alloc, &link, &stream, opened) {
+        Some((reader, outlet)) => {
+            let has_asked = run_session(rt, alloc, outlet, &stream, place, server);
             link.end(&rt);
             reader.join(&rt);
             has_asked
@@ -59,25 +80,33 @@ where
     link.set_over(&rt);
 }
 
-/// Starts the thread that reads a client's stream.
-fn begin_reading<R: Runtime>(
+/// Starts the thread that reads a client's stream, and gives the end of the queue into which it puts the events.
+fn begin_reading<R, E>(
     rt: R,
     alloc: Global,
     link: &Arc<Link>,
     stream: &Arc<UnixStream>,
-) -> Option<JoinHandle<()>> {
+    opened: Opened,
+) -> Option<(JoinHandle<()>, Outlet<E>)>
+where
+    R: Runtime,
+    E: History + Send + Sync + 'static,
+    requires { opened ≡ E.book }
+{
     let (theirs, stream) = (link.clone().ok()?, stream.clone().ok()?);
-    thread::spawn(&rt, move || {
-        read_all(&rt, alloc, &mut &*stream, &theirs)
-    })
-    .ok()
+    let (feed, outlet) = open_queue::<E>(alloc, theirs, opened).ok()?;
+    let reader = thread::spawn(&rt, move || {
+        let mut feed = feed;
+        read_all(&rt, alloc, &mut &*stream, &mut feed)
+    });
+    Some((reader.ok()?, outlet))
 }
 
 /// Runs a client's session, and says whether it asked that the server ends.
-fn run_session<R, H>(
+fn run_session<R, H, E>(
     rt: R,
     alloc: Global,
-    link: &Arc<Link>,
+    outlet: Outlet<E>,
     mut stream: &UnixStream,
     place: ClientPlace,
     server: &Server<H>,
@@ -85,14 +114,11 @@ fn run_session<R, H>(
 where
     R: Runtime,
     H: Host + Drop,
+    E: History,
 {
-    let Ok(theirs) = link.clone() else {
-        refuse(&mut stream, Refusal::NoMemory);
-        return false;
-    };
     let ticket = Ticket::new(&rt, &server.turnstile);
     let events = LinkInbox {
-        link: theirs,
+        outlet,
         rt,
         ticket: &ticket,
     };

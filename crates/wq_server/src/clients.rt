@@ -188,7 +188,7 @@ where
     H: Host + Drop + Send + Sync + 'static,
 {
     let stream = Arc::new(alloc, stream)?;
-    let link = Arc::new(alloc, Link::new(alloc, stream.clone()?)?)?;
+    let link = Arc::new(alloc, Link::new(alloc, stream.clone()?))?;
     let (theirs, held, shared) = (link.clone()?, link.clone()?, server.clone()?);
     server.links.add(&rt, held)?;
     let session = thread::spawn(&rt, move || {

@@ -1,6 +1,6 @@
 //! Idle moments: the roots for which sessions get one, and the thread that puts them into their
 //! queues.
-ghost use Rattle.std.specs.Prelude.{◌≡◌, ◌+◌, ◌-◌, ◌++◌, IfOk};
+ghost use Rattle.std.specs.Prelude.{◌≡◌, ◌+◌, ◌-◌, ◌++◌, IfOk, IfSome};
 ghost use Rattle.std.specs.List.{range_with_len};
 
 use crate::host::Host;
@@ -69,7 +69,10 @@ where
 }
 
 /// The roots at this moment, and the numbers that are due since then; none if memory runs out.
-fn due_by_now<H: Host>(host: &H, then: &RootNumbers) -> Option<(RootNumbers, Vec<u64>)> {
+fn due_by_now<H: Host>(host: &H, then: &RootNumbers) -> Option<(RootNumbers, Vec<u64>)>
+    ensures { IfSome result (λ it. it.1.items ≡ then.now.shown.items
+        ++ range_with_len (then.now.given + 1) (it.0.given - then.now.given)) }
+{
     let now = host.numbers()?;
     let due = then.due(now.given).ok()?;
     Some((now, due))

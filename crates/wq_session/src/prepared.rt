@@ -27,10 +27,10 @@ use wq_verify::StoredProgram;
 #[derive(Drop)]
 pub struct Prepared<'a> {
     alloc: Global,
-    pub(crate) ask: Ask,
-    pub(crate) at: Option<At<'a>>,
-    pub(crate) object: ReadObject,
-    pub(crate) lookup: Lookup,
+    ask: Ask,
+    at: Option<At<'a>>,
+    object: ReadObject,
+    lookup: Lookup,
 }
 
 impl<'a> Prepared<'a> {

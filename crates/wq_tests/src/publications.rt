@@ -15,7 +15,7 @@ use std::time::Clock;
 use wq_base::{Stays, Workers};
 use wq_clock::Run;
 use wq_crawl::{
-    Crawl, CrawlFault, FoundRoot, LaneParts, LockRoots, Roots, SeatViews, SharedCrawler,
+    Asked, Crawl, CrawlFault, FoundRoot, LaneParts, LockRoots, Roots, SeatViews, SharedCrawler,
 };
 use wq_live::{Blank, Named, Told};
 use wq_registry::{CacheKey, Compiled, Forgotten};
@@ -29,10 +29,16 @@ struct Publishing<'a, N: Named, R: Wait + Clock + Drop> {
     roots: LockRoots<'a, N, R, Turning, Still, Stays>,
 }
 
+/// Publishes a pass.
+fn publish<N: Named, R: Roots<N>>(roots: &mut R) {
+    let asked = roots.ask();
+    let _ = roots.crawl(asked, "/r");
+}
+
 /// Publishes two passes.
 fn publish_twice<N: Named, R: Roots<N>>(roots: &mut R) {
-    let _ = roots.crawl("/r");
-    let _ = roots.crawl("/r");
+    publish(roots);
+    publish(roots);
 }
 
 impl<N: Named, R: Wait + Clock + Drop> Roots<N> for Publishing<'_, N, R> {
@@ -46,9 +52,15 @@ impl<N: Named, R: Wait + Clock + Drop> Roots<N> for Publishing<'_, N, R> {
         told
     }
 
-    fn crawl(&mut self, root: &str) -> Result<Crawl<N>, CrawlFault> {
-        let _ = self.roots.crawl(root);
-        self.roots.crawl(root)
+    fn ask(&self) -> Asked {
+        self.roots.ask()
+    }
+
+    fn crawl(&mut self, asked: Asked, root: &str) -> Result<Crawl<N>, CrawlFault> {
+        // A crawl before it would serve this one too.
+        let crawl = self.roots.crawl(asked, root);
+        publish(&mut self.roots);
+        crawl
     }
 
     fn retire(&mut self, root: FoundRoot) -> Result<Told<N>, CrawlFault> {

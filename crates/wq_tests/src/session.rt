@@ -104,7 +104,8 @@ fn play_at_lock<N: Named, R: Threads + Wait + Copy + Drop + Sync>(
 
 /// Whether a crawl of a root gives a list, unless it is refused.
 fn is_crawled<N: Named, R: Roots<N>>(roots: &mut R, root: &str) -> Option<bool> {
-    Some(roots.crawl(root).ok()?.told().is_some())
+    let asked = roots.ask();
+    Some(roots.crawl(asked, root).ok()?.told().is_some())
 }
 
 /// Whether roots give the right answers if only `/r` is shown, which a look found.

@@ -1,23 +1,16 @@
 -- The number of pieces that have a name, if one more piece is cut off.
 use Rattle.std.proofs.Common.{◌≡◌, ℕ, ◌+◌, Bool, true, false, cond, not, ◌&&◌, List, [], ◌∷◌, ◌++◌, Bor, Some, None, refl, ap, ◌∙◌, arith}
 use mathlib.Core.Bool.{false≢true}
-use Rattle.std.specs.declared.cmp.Ordering.{Ordering}
-use Rattle.std.specs.declared.cmp.Ordering.TheVariants.{Less, Equal, Greater}
 use Rattle.std.specs.Prelude.{Option}
 use Rattle.std.specs.Ordering.{is_lt}
 use Rattle.std.specs.Cmp.Lexicographic.{nat_list_cmp_total}
 use Rattle.std.proofs.lemmas.List.Sums.{sum_by-append}
+use Rattle.wq_base.proofs.Facts.{less_from_lt}
 use Rattle.wq_record.specs.Name.{name_cmp}
 use Rattle.wq_disk.specs.declared.part.Part.{Part}
 use Rattle.wq_walk.specs.declared.piece.Piece.{Piece}
 use Rattle.wq_disk.specs.Part.{is_in}
 use Rattle.wq_walk.specs.Pieces.{is_behind, pieces_with, IsSharedOut, IsSharedOutBelow}
-
--- an order that is tested to be less is less
-less_from_lt : (o : Ordering) → is_lt o ≡ true → o ≡ Less
-less_from_lt Less e = refl
-less_from_lt Equal e = absurd (false≢true e)
-less_from_lt Greater e = absurd (false≢true e)
 
 -- a name below a cut is below each name after it
 below_both : (name cut other : List ℕ) → is_lt (name_cmp cut other) ≡ true → is_lt (name_cmp name cut) ≡ true → is_lt (name_cmp name other) ≡ true

@@ -3,7 +3,7 @@
 use Rattle.std.specs.Prelude.{◌≡◌, ◌⊎◌, ℕ, List, Option, Some}
 use Rattle.wq_patch.specs.declared.tree.TreeFault.{TreeFault}
 use Rattle.wq_patch.specs.declared.tree.TreeFault.TheVariants.{Unreadable}
-use Rattle.wq_disk.specs.System.{fails_here, has_here, says_here}
+use Rattle.wq_disk.specs.FileSystem.{fails_here, has_here, says_here}
 use Rattle.wq_record.specs.RecordData.{RecordData}
 use Rattle.wq_record.specs.Seen.{SeenData}
 use Rattle.wq_walk.specs.Glance.{IsGlancedAt}

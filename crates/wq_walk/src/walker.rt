@@ -3,7 +3,7 @@ ghost use Rattle.std.specs.Prelude.{◌≡◌, true, false, ◌≤◌, length, I
 ghost use Rattle.std.specs.List.{list_all};
 ghost use Rattle.wq_patch.specs.Tree.{IsCounted, ListingFits, rows_listed};
 ghost use Rattle.wq_patch.specs.declared.tree.TreeFault.TheVariants.{Unreadable};
-ghost use Rattle.wq_disk.specs.System.{fails_here, has_here, says_here};
+ghost use Rattle.wq_disk.specs.FileSystem.{fails_here, has_here, says_here};
 ghost use Rattle.wq_view.specs.Limit.{max_listing_rows};
 ghost use Rattle.wq_record.specs.Seen.{is_lawful_row};
 ghost use Rattle.wq_walk.specs.Glance.{IsGlancedAt};
