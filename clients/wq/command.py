@@ -24,6 +24,7 @@ MODULES: Dict[str, str] = {
     "stop": "serving",
     "restart": "serving",
 }
+STANDARD_ERROR = 2
 # If their server ends before it answered, they ask the next one: nothing was printed or run then.
 ASK_AGAIN = ("find", "since", "follow", "wait", "run")
 
@@ -31,6 +32,7 @@ ASK_AGAIN = ("find", "since", "follow", "wait", "run")
 def main(words: List[str], directory: str) -> int:
     """Runs a command; `directory` is that of the command wq, without links."""
     speak_utf8()
+    keep_standard_error()
     if sys.stdout is None:
         say("there is no standard output")
         return FAILED
@@ -62,6 +64,18 @@ def main(words: List[str], directory: str) -> int:
 def write_no_more() -> None:
     """The output cannot be written, as when its reader has gone. Nothing is to be written at the end either."""
     os.dup2(os.open(os.devnull, os.O_WRONLY), sys.stdout.fileno())
+
+
+def keep_standard_error() -> None:
+    """Standard error that was closed becomes one that nobody reads: else the next file that is opened would be it, and
+    Python would end with a status of its own."""
+    try:
+        os.fstat(STANDARD_ERROR)
+    except OSError:
+        number = os.open(os.devnull, os.O_WRONLY)
+        if number != STANDARD_ERROR:
+            os.dup2(number, STANDARD_ERROR)
+            os.close(number)
 
 
 def speak_utf8() -> None:

@@ -7,6 +7,7 @@ import subprocess
 import tempfile
 from typing import IO, Dict, List, Optional, Set, Tuple, Union
 
+from .left_behind import end_all, of_group
 from .names_handed import as_argument, batches
 from .processes import state_of
 from .shell_text import with_names
@@ -133,7 +134,17 @@ class Run:
             signal.pthread_sigmask(signal.SIG_SETMASK, before)
 
     def has_ended(self) -> bool:
-        """Whether the last process has ended. After each of the others the next one begins."""
+        """Whether the last process has ended, and for a run that was to end its whole group. After each of the other
+        processes the next one begins."""
+        return self.has_led() and not self.is_group_left()
+
+    def is_group_left(self) -> bool:
+        """Whether a part goes on of the group of a run that was to end."""
+        is_meant = self.is_ending and not self.is_killed and self.command.is_alone
+        return is_meant and self.process is not None and bool(of_group(self.process.pid))
+
+    def has_led(self) -> bool:
+        """Whether the last process has ended that was started here."""
         while self.process is None or self.process.poll() is not None:
             if self.process is not None:
                 self.fault = self.fault or self.process.returncode
@@ -170,15 +181,23 @@ class Run:
             )
 
     def end_at_once(self, number: int, grace: float) -> None:
-        """Ends the run, since this command ends: a run that does not go by itself is killed, and then left alone."""
+        """Ends the run, since this command ends, with its group if it has one: what does not go by itself is killed,
+        and then left alone."""
         self.is_ending = True
         if self.process is None or self.has_ended():
             return
+        if not self.has_led():
+            self.end_first(self.process, number, grace)
+        if self.command.is_alone and not self.is_killed:
+            end_all(self.process.pid, grace)
+
+    def end_first(self, process: "subprocess.Popen[bytes]", number: int, grace: float) -> None:
+        """Ends the process that was started here, which perhaps ends the others itself."""
         self.signal(number)
         was_killed = False
         while not was_killed:
             try:
-                self.process.wait(grace)
+                process.wait(grace)
                 return
             except (subprocess.TimeoutExpired, KeyboardInterrupt):
                 was_killed = self.is_killed

@@ -9,7 +9,7 @@ from wqclient.sockets import is_listened_on
 from wqclient.unit import is_started
 from wqprogram.limits import MAX_ROWS
 
-from .file_systems import hearing_of, mount_of
+from .file_systems import NEVER, Hearing, hearing_of, mount_of
 from .home import Home
 from .pace import seconds_between_scans, seconds_shown
 from .processes import words_of
@@ -49,8 +49,16 @@ def of_file_system(root: str) -> Iterator[str]:
         )
         return
     yield row("kernel", f"it does not tell of what {deaf.silent_about} change here: only scans see it, as those of wqd")
-    if deaf.option:
-        yield row("mount", f"with {deaf.option} scans see such a change sooner")
+    yield row("mount", mount_shown(deaf))
+
+
+def mount_shown(deaf: Hearing) -> str:
+    """How late a mount shows a change that the kernel does not tell of, and what helps."""
+    if deaf.late == NEVER:
+        return "it never shows such a change, until it is mounted again"
+    late = f"it shows such a change up to {deaf.late} late" if deaf.late else "how late it shows such a change differs"
+    then = f"up to {deaf.then}" if deaf.then else "sooner, if it has that option"
+    return f"{late}, also to a query that scans first" + (f"; with `{deaf.option}` {then}" if deaf.option else "")
 
 
 def of_scans(server: Server, root: str, watched: List[str]) -> Iterator[str]:

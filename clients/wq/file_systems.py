@@ -13,27 +13,38 @@ class Mount(NamedTuple):
 
 
 class Hearing(NamedTuple):
-    """Of whose changes the kernel does not tell, and the mount option with which scans see those sooner."""
+    """Of whose changes the kernel does not tell; how late the mount itself shows them, if that was measured or is said
+    by its documentation; the option by which a scan sees them sooner, and how late they are then, if that was measured.
+    """
 
     silent_about: str
-    option: str
+    late: str = ""
+    option: str = ""
+    then: str = ""
 
 
 SERVER = "other machines"
 HOST = "the host"
-# By the beginning of the kind.
+BEHIND = "whatever is behind it"
+# The mount shows such a change only if it is mounted again.
+NEVER = "never"
+# By the beginning of the kind. docs/FILESYSTEMS.md has the same, and what was tried of it.
 DEAF: Dict[str, Hearing] = {
-    "nfs": Hearing(SERVER, "actimeo=1"),
-    "cifs": Hearing(SERVER, "actimeo=1"),
-    "smb": Hearing(SERVER, "actimeo=1"),
-    "ceph": Hearing(SERVER, ""),
-    "fuse.sshfs": Hearing(SERVER, "dcache_timeout=1"),
-    "9p": Hearing(HOST, "cache=none"),
-    "virtiofs": Hearing(HOST, "cache=auto, which the host sets"),
-    "vboxsf": Hearing(HOST, ""),
-    "drvfs": Hearing("Windows", ""),
-    "fuse": Hearing("whatever is behind it", "attr_timeout=1"),
-    "overlay": Hearing("changes of its lower layers", ""),
+    "nfs": Hearing(SERVER, "3 to 60 s", "-o actimeo=1", "1 s"),
+    "cifs": Hearing(SERVER, "1 s", "-o actimeo=0"),
+    "smb": Hearing(SERVER, "1 s", "-o actimeo=0"),
+    "ceph": Hearing(SERVER),
+    "fuse.sshfs": Hearing(SERVER, "20 s", "-o dcache_timeout=1,dcache_stat_timeout=1,dcache_dir_timeout=1", "1 s"),
+    "fuse.rclone": Hearing(SERVER, "", "--dir-cache-time 1s --attr-timeout 1s", "1 s"),
+    "fuse.bindfs": Hearing(BEHIND, "1 s", "-o attr_timeout=0,entry_timeout=0"),
+    "fuse.mergerfs": Hearing(BEHIND, "1 s", "-o cache.attr=0,cache.entry=0"),
+    "fuse.fuse-overlayfs": Hearing("changes of its layers", NEVER),
+    "9p": Hearing(HOST, "", "-o cache=none"),
+    "virtiofs": Hearing(HOST, "", "virtiofsd --cache never"),
+    "vboxsf": Hearing(HOST),
+    "drvfs": Hearing("Windows"),
+    "fuse": Hearing(BEHIND, "", "-o attr_timeout=0,entry_timeout=0"),
+    "overlay": Hearing("changes of its lower layers"),
 }
 # How the kernel writes spaces and backslashes of a path.
 ESCAPE = re.compile(r"\\([0-7]{3})")

@@ -52,13 +52,15 @@ def expression_of(place: Place, globs: List[str], options: argparse.Namespace) -
     if place.below and not parts:
         parts.append(["dirname", place.below])
     if globs:
-        parts.append(any_of([glob_term(glob, place, options.ignore_case) for glob in all_expanded(globs)]))
+        terms = [glob_terms(glob, place, options.ignore_case) for glob in all_expanded(globs)]
+        parts.append(any_of([term for several in terms for term in several]))
     if options.type:
         parts += kind_terms([*kinds_of(options.type), *([LINK] if are_links_told(options) else [])])
     if options.ext:
         parts.append(["suffix", suffixes_of(options.ext)])
     if getattr(options, "size", None):
-        parts.append(size_term(options.size))
+        require_files(options)
+        parts += [["type", FILE], size_term(options.size)]
     if getattr(options, "newer", None):
         parts.append(["since", second_of(options.newer, "--newer"), "mtime"])
     if getattr(options, "older", None):
@@ -110,6 +112,12 @@ def depth_terms(place: Place, options: argparse.Namespace) -> Iterator[Any]:
             if depth < 1:
                 raise WrongWords(f"{name} takes a number from 1 on, which is what lies directly in the directory")
             yield ["dirname", place.below, ["depth", relation, depth - 1]]
+
+
+def glob_terms(glob: str, place: Place, ignores_case: bool = False) -> List[Any]:
+    """The terms for a glob. Names such as `[id].tsx` have brackets, so each bracket is taken as it is too."""
+    globs = [glob] if "[" not in glob or "\\" in glob else [glob, glob.replace("[", "\\[")]
+    return [glob_term(one, place, ignores_case) for one in globs]
 
 
 def glob_term(glob: str, place: Place, ignores_case: bool = False) -> Any:
@@ -186,6 +194,12 @@ def suffix_of(word: str) -> str:
             f"the glob {quoted('*.' + word)} finds such names"
         )
     return word
+
+
+def require_files(options: argparse.Namespace) -> None:
+    """Only files have a size of their own."""
+    if options.type and not {FILE, EXECUTABLE, EMPTY} & set(kinds_of(options.type)):
+        raise WrongWords(f"--size is for files, and -t {','.join(options.type)} lists none: take one out")
 
 
 def size_term(word: str) -> List[Any]:

@@ -156,5 +156,6 @@ def of_inotifywait(command: str, words: List[str]) -> List[str]:
         if option == "-e" and value and set(value.split(",")) <= EVENTS:
             raise WrongWords(f"-e is for suffixes, and {value} is an event: leave it out, since each change is told")
     return [
-        "--timeout" if option == "-t" and value.isdigit() and command == "wait" else option for option, value in pairs
+        "--timeout" if option == "-t" and value[:1].isdigit() and command == "wait" else option
+        for option, value in pairs
     ]

@@ -24,6 +24,7 @@ from .globs import (
 from .ignore_rules import Said
 from .ignored import Ignored, name_of
 from .open_roots import OpenRoots
+from .outside import require_below, require_none_above
 from .roots import Place, front_of, is_directory, is_pattern, place_of, real_path, require_utf8
 from .server import Server, Value
 from .trouble import WrongWords
@@ -69,7 +70,8 @@ class Places:
         self.places = [place_of(directory, watched) for directory in self.directories]
         if getattr(options, "absolute", False):
             self.places = [place._replace(front=front_of(os.path.abspath(place.front))) for place in self.places]
-        # Made before a root is watched, since an option may be wrong.
+        # Looked at before a root is watched, since an option or a word may be wrong.
+        require_below(self.words, self.places)
         self.expressions = [expression_of(place, self.globs, options) for place in self.places]
         # The roots that were scanned since this command began, and those that were not watched before.
         self.scanned: Set[str] = set()
@@ -231,8 +233,7 @@ def directories_and_globs(words: List[str]) -> Tuple[List[str], List[str]]:
             real_path(word)
         if word.endswith("/"):
             raise WrongWords(f"{word} is no directory here")
-        if ".." in word.split("/"):
-            raise WrongWords(f"{word} is no directory here, and no name below a directory has '..' in it")
+        require_none_above(word)
         globs.append(word)
     return directories or [FIRST], globs
 

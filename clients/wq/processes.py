@@ -73,16 +73,25 @@ def state_of(process: int) -> str:
     return fields_of(process)[0]
 
 
+def states_of(process: int) -> Set[str]:
+    """The letters of all threads of a process: its first one may only wait for the others."""
+    try:
+        threads = os.listdir(f"/proc/{process}/task")
+    except OSError:
+        return set()
+    return {fields_of(process, f"task/{thread}/stat")[0] for thread in threads}
+
+
 def own_processor_seconds(process: int) -> float:
     """The processor time that a process took so far; nothing if it is not there."""
     fields = fields_of(process)
     return (int(fields[11]) + int(fields[12])) / TICKS if len(fields) > 12 else 0.0
 
 
-def fields_of(process: int) -> List[str]:
+def fields_of(process: int, name: str = "stat") -> List[str]:
     """The fields of /proc/PID/stat from the state on."""
     try:
-        return text_of(process, "stat").rsplit(")", 1)[1].split()
+        return text_of(process, name).rsplit(")", 1)[1].split()
     except (OSError, IndexError):
         return [""]
 

@@ -12,6 +12,7 @@ from typing import Dict, List, NamedTuple, Optional
 from .changes import File, counted
 from .commands_run import GRACE, Command, Run, Unrunnable, status_words
 from .keys import Keys
+from .left_behind import PAUSE
 from .names_handed import variables
 from .notifying import notify
 from .own_changes import OwnChanges, sentence
@@ -116,6 +117,9 @@ class Runner:
     def seconds_left(self, now: float) -> Optional[float]:
         """How long to wait at most: until it is quiet, or until a run is killed."""
         moments = [self.killed_at] if self.run is not None else []
+        # Nobody tells when the processes that a run started have ended.
+        if self.run is not None and self.run.is_ending and self.run.has_led():
+            moments.append(now + PAUSE)
         if self.pending.is_due and self.may_act():
             moments.append(self.pending.begins_at())
         nearest = min(moments, default=NEVER)

@@ -6,7 +6,7 @@ import json
 import os
 import re
 import time
-from typing import Dict, Iterable, Iterator, NamedTuple, Tuple
+from typing import Dict, Iterable, Iterator, NamedTuple, Optional, Tuple
 
 from wqclient.files import opened
 from wqclient.kept import TRIGGERS, keep, kept, run_of
@@ -149,11 +149,19 @@ def path_of(process: int) -> str:
         return ""
 
 
-def note_registered(server: Server, root: str, name: str) -> None:
-    """Notes that a trigger begins anew here: what the log says before is of another one of its name."""
+def note_registered(server: Server, root: str, name: str, words: str) -> None:
+    """Notes that a trigger begins anew here, for what files: what the log says before is of another one of its name."""
     process = server.peer.process
     with contextlib.suppress(OSError):
-        keep({"run": run_of(process), "place": end_of(process)}, TRIGGERS, server.sockname, root, name)
+        note = {"run": run_of(process), "place": end_of(process), "words": words}
+        keep(note, TRIGGERS, server.sockname, root, name)
+
+
+def words_noted(server: Server, root: str, name: str) -> Optional[str]:
+    """The words of the person who registered a trigger, if `wq` did that at this run of the server."""
+    note = kept(TRIGGERS, server.sockname, root, name)
+    words = note.get("words")
+    return words if isinstance(words, str) and note.get("run") == run_of(server.peer.process) else None
 
 
 def registered_at(server: Server, root: str, name: str) -> int:

@@ -2,7 +2,7 @@
 
 import time
 
-from .processes import own_processor_seconds, state_of
+from .processes import own_processor_seconds, state_of, states_of
 
 # A reply is late after this time, in seconds.
 LATE = 5.0
@@ -36,11 +36,13 @@ class Silence:
         used, seconds = own_processor_seconds(self.process) - self.used, time.monotonic() - self.began
         if is_stopped(self.process):
             return "it is stopped"
-        state = state_of(self.process)
-        if state == WAITS_FOR_A_DISK:
-            return "it waits for a disk or another file system"
-        if state == RUNS or used >= BUSY * seconds:
+        states = states_of(self.process)
+        if used >= BUSY * seconds:
             return f"it is busy, and took {used:.1f} s of processor time meanwhile"
+        if WAITS_FOR_A_DISK in states:
+            return "it waits for a disk or another file system"
+        if RUNS in states:
+            return f"it waits for a processor, and got {used:.1f} s of one meanwhile"
         return "it waits, and took no processor time"
 
 

@@ -57,7 +57,7 @@ def since(options: argparse.Namespace, home: Home) -> int:
             fault = tell(asked, options)
             if not options.peek and not fault:
                 for one in asked:
-                    keep_clock(one, server.sockname)
+                    keep_clock(one, server.sockname, options.name)
     return fault or (FOUND if any(one.found["files"] for one in asked) else NOTHING)
 
 
@@ -92,7 +92,8 @@ def ask(places: Places, number: int) -> Asked:
     found = places.ask(place, query if before is None else {**query, "since": before})
     clock = found["clock"]
     if found["is_fresh_instance"]:
-        note(f"{why_all(places.options.name, before, clock, place)}: listing everything")
+        why = why_all(before, clock, place) or why_first(places.options.name, place, sockname)
+        note(f"{why}: listing everything")
     if places.links and not found["is_fresh_instance"]:
         places.links[number] = Links(links_kept(note_of))
     found = places.told(number, found)
@@ -184,18 +185,33 @@ def links_kept(kept_before: Dict[str, Any]) -> Optional[Set[str]]:
         return None
 
 
-def keep_clock(asked: Asked, sockname: str) -> None:
+def keep_clock(asked: Asked, sockname: str, name: str) -> None:
+    root = asked.place.root
     try:
-        keep(asked.kept, CLOCKS, sockname, asked.place.root, asked.key)
+        keep(asked.kept, CLOCKS, sockname, root, asked.key)
+        if not kept(CLOCKS, sockname, root, note_of_name(name)):
+            keep({"asked": True}, CLOCKS, sockname, root, note_of_name(name))
     except OSError as error:
-        where = error.filename or path_of(CLOCKS, sockname, asked.place.root, asked.key)
+        where = error.filename or path_of(CLOCKS, sockname, root, asked.key)
         raise Trouble(f"{where}: {error.strerror}; so the next call tells this again") from None
 
 
-def why_all(name: str, before: Optional[str], now: str, place: Place) -> str:
-    """Why the server does not know the clock of the last call, by that clock and the one of this call."""
+def why_first(name: str, place: Place, sockname: str) -> str:
+    """That this was not asked before. Something else may have been, under the same name."""
+    with_these = " with these words" if kept(CLOCKS, sockname, place.root, note_of_name(name)) else ""
+    return f"first since {f'as {name}' if name else 'here'}{with_these}"
+
+
+def note_of_name(name: str) -> str:
+    """The key under which it is kept that a name was asked about."""
+    return f"name {name}"
+
+
+def why_all(before: Optional[str], now: str, place: Place) -> str:
+    """Why the server does not know the clock of the last call, by that clock and the one of this call; nothing if there
+    was no call."""
     if before is None:
-        return f"first since {f'as {name}' if name else 'here'}"
+        return ""
     _, start, process, root, _ = before.split(":")
     _, other_start, other_process, other_root, _ = now.split(":")
     if (start, process) != (other_start, other_process):

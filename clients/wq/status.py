@@ -3,15 +3,18 @@
 import argparse
 import sys
 import time
-from typing import Any, Dict, Iterator, List, Optional, Tuple
+from concurrent.futures import ThreadPoolExecutor
+from typing import Any, Dict, Iterator, List, NamedTuple, Optional
 
 from wqclient.client import Client
 from wqclient.harmless import harmless
 from wqclient.kept import BUDGETS, kept, run_of
+from wqclient.lines import Ended
 from wqclient.unit import RESTART
 
 from .home import Home
-from .processes import Facts, facts_of, is_of_unit
+from .pace import seconds_between_scans, seconds_shown
+from .processes import Facts, facts_of, is_of_unit, own_processor_seconds, words_of
 from .server import Server, Value, reached
 from .server_log import Failures, Log
 from .silence import LATE
@@ -23,6 +26,8 @@ from .values_shown import json_shown
 # How far back the last change is looked for, in seconds.
 AGES = (1, 10, 60, 600, 3_600, 21_600, 86_400, 604_800)
 MEBIBYTE = 1024 * 1024
+# So many roots are asked at once: a server has 32 clients at most.
+MOST_AT_ONCE = 8
 # How the system names a program whose file is gone, as after an upgrade.
 REPLACED = " (deleted)"
 
@@ -40,7 +45,8 @@ def status(options: argparse.Namespace, home: Home) -> int:
 def facts(server: Server, home: Home) -> Dict[str, Any]:
     # A client is one of the server's only when it was answered.
     programs = server.ask("program-list")["programs"]
-    process, log = facts_of(server.peer.process), Log(server)
+    roots = server.roots()
+    process, log, words = facts_of(server.peer.process), Log(server), words_of(server.peer.process)
     return {
         "socket": server.sockname,
         "version": home.version(),
@@ -48,7 +54,7 @@ def facts(server: Server, home: Home) -> Dict[str, Any]:
         "process": server.peer.process,
         **(process_facts(process) if process else {}),
         "log": log.words(),
-        "roots": [root_facts(server, root, log) for root in server.roots()],
+        "roots": [root_facts(server, root, log, words, scan) for root, scan in zip(roots, scans(server, roots))],
         "programs": [{"name": name, "budget": budget_of(server, name)} for name in programs],
     }
 
@@ -65,33 +71,53 @@ def process_facts(found: Facts) -> Dict[str, Any]:
     }
 
 
-def root_facts(server: Server, root: str, log: Log) -> Dict[str, Any]:
-    """The facts about a root: how long a scan takes is measured by one."""
-    reply, took = scanned(server, root)
-    if "error" in reply:
-        return {"root": root, "error": reply["error"]}
+class Scan(NamedTuple):
+    """The clock of a root after a scan, or an error; the seconds that it took, and those of a processor."""
+
+    reply: Value
+    took: float = 0.0
+    used: float = 0.0
+
+
+def root_facts(server: Server, root: str, log: Log, words: List[str], scan: Scan) -> Dict[str, Any]:
+    """The facts about a root: how long a scan takes was measured by one. The server tells no pause, and by its own
+    words a scan of that cost has this one."""
+    if "error" in scan.reply:
+        return {"root": root, "error": scan.reply["error"]}
     letters = server.look("query", root, {"fields": ["type"], "sync_timeout": 0}).get("files", [])
     return {
         "root": root,
         "files": len(letters),
         "directories": letters.count("d"),
-        "tick": int(reply["clock"].rsplit(":", 1)[1]),
-        "crawl_seconds": round(took, 4),
+        "tick": int(scan.reply["clock"].rsplit(":", 1)[1]),
+        "crawl_seconds": round(scan.took, 4),
+        "crawl_processor_seconds": round(scan.used, 4),
+        "between_scans": round(seconds_between_scans(words, scan.used), 4) if words else None,
         "changed_within": changed_within(server, root),
         "left_out": dict(zip(("names", "directories"), log.left_out.get(root, (0, 0)))),
         "triggers": [trigger_facts(one, root, log) for one in server.look("trigger-list", root).get("triggers", [])],
     }
 
 
-def scanned(server: Server, root: str) -> Tuple[Value, float]:
-    """The clock of a root after a scan, and the seconds that it took. It has a connection of its own, since it may not
-    end."""
-    began = time.monotonic()
+def scans(server: Server, roots: List[str]) -> List[Scan]:
+    """A scan of each root, one after the other, so that each is measured alone. When one does not end, the others begin
+    at once: a person waits for none of them."""
+    found: List[Scan] = []
+    while len(found) < len(roots) and not (found and found[-1].took >= LATE):
+        found.append(scanned(server, roots[len(found)]))
+    with ThreadPoolExecutor(MOST_AT_ONCE) as pool:
+        return [*found, *pool.map(lambda root: scanned(server, root), roots[len(found) :])]
+
+
+def scanned(server: Server, root: str) -> Scan:
+    """A scan by a connection of its own, since it may not end."""
+    began, used = time.monotonic(), own_processor_seconds(server.peer.process)
     try:
         with Client(server.sockname, LATE) as client:
-            return client.ask("clock", root, {"sync_timeout": 1}), time.monotonic() - began
-    except OSError:
-        return {"error": "its file system does not answer"}, 0.0
+            reply = client.ask("clock", root, {"sync_timeout": 1})
+    except (OSError, Ended):
+        return Scan({"error": f"no scan of it ended within {LATE:.0f} s; its file system may not answer"}, LATE)
+    return Scan(reply, time.monotonic() - began, own_processor_seconds(server.peer.process) - used)
 
 
 def trigger_facts(trigger: Dict[str, Any], root: str, log: Log) -> Dict[str, Any]:
@@ -153,7 +179,8 @@ def root_lines(root: Dict[str, Any]) -> Iterator[str]:
     yield row(
         "",
         f"{of_size(root['files'], root['directories'])}, tick {root['tick']}, "
-        f"a scan takes {root['crawl_seconds']:.3f} s, last change {changed}",
+        f"a scan takes {root['crawl_seconds']:.3f} s ({root['crawl_processor_seconds']:.2f} s of a processor)"
+        f"{pause_shown(root)}, last change {changed}",
     )
     for what, count in zip(("names that are not UTF-8", "directories that cannot be read"), root["left_out"].values()):
         if count:
@@ -163,6 +190,11 @@ def root_lines(root: Dict[str, Any]) -> Iterator[str]:
         failures = Failures(trigger["failures"], trigger["last_failure"]).sentence()
         if failures:
             yield row("", f"  {failures}", "red")
+
+
+def pause_shown(root: Dict[str, Any]) -> str:
+    between = root["between_scans"]
+    return "" if between is None else f" and comes about each {seconds_shown(between)}"
 
 
 def row(head: str, text: str, colour: Optional[str] = None) -> str:

@@ -1,6 +1,7 @@
 """`wq trigger`, `wq triggers` and `wq untrigger`: commands that the server starts after changes."""
 
 import argparse
+import json
 import os
 import shlex
 from typing import Any, Dict, Iterator, List, Tuple
@@ -9,14 +10,16 @@ from .braces import has_braces
 from .commands_run import PLACE
 from .globs import any_of, expression_of
 from .home import Home
+from .outside import require_below
 from .places import directories_and_globs
 from .roots import is_directory, is_pattern, place_of, require_utf8, root_to_unwatch
-from .server import Server, reached
-from .server_log import Log, note_registered
+from .server import Server, Value, reached
+from .server_log import Log, note_registered, words_noted
 from .terminal import name_shown, say, show
 from .trouble import FOUND, NOTHING, WrongWords
 from .values_shown import json_shown
 
+NOT_WATCHED = "E14:"
 # The server hands names as they are. So a command that takes names is run by a shell, which puts `./` before each name,
 # as `wq run` does. Its text has the numbers of the words alone; after this the count of the command's own words comes.
 NUMBERS = r"""BEGIN { for (i = 2; i <= all; i++) printf " \"%s${%d}\"", (i > own + 1 ? "./" : ""), i }"""
@@ -36,10 +39,20 @@ def trigger(options: argparse.Namespace, home: Home) -> int:
         root, expression = asked_files(words, options, watched)
         server.watch(root, watched)
         asked = {"name": name, **command, **({} if expression == "true" else {"expression": expression})}
-        note_registered(server, root, name)
+        note_registered(server, root, name, words_shown(options.given, name, root))
         found = server.ask("trigger", root, asked)
     say(f"trigger {name} of {root} is {found['disposition']}; its command runs there")
     return FOUND
+
+
+def words_shown(given: List[str], name: str, root: str) -> str:
+    """The words that say which files a trigger is for, as they were typed, and in which directory; nothing if it is for
+    all files."""
+    words = [word for word in given if word != "--stdin"]
+    words.remove(name)
+    below = os.path.relpath(os.path.realpath("."), root)
+    text = shlex.join(words) or ("all files" if below != "." else "")
+    return text if below == "." or not text else f"{text} in {below}"
 
 
 def command_asked(options: argparse.Namespace) -> Dict[str, Any]:
@@ -67,6 +80,7 @@ def asked_files(words: List[str], options: argparse.Namespace, watched: List[str
             )
             raise WrongWords(f"{word} is no file here; write './{word}' for one that may come{hint}")
     places = [place_of(directory, watched) for directory in directories]
+    require_below(globs, places)
     roots = list(dict.fromkeys(place.root for place in places))
     if len(roots) > 1:
         raise WrongWords(f"a trigger is of one root, and these directories are of several: {', '.join(roots)}")
@@ -100,20 +114,42 @@ def root_of(server: Server, word: str) -> str:
 def triggers(options: argparse.Namespace, home: Home) -> int:
     with reached(home, starts=False) as server:
         root = root_of(server, options.directory)
-        found = server.ask("trigger-list", root)
+        found = server.reply(["trigger-list", root])
+        if is_not_watched(found, root):
+            return NOTHING
+        server.checked(["trigger-list", root], found)
         if options.json:
             show([json_shown(found)])
         else:
-            show(rows_of(found["triggers"], Log(server), root))
+            show(rows_of(found["triggers"], Log(server), root, server))
     return FOUND if found["triggers"] else NOTHING
 
 
-def rows_of(triggers: List[Dict[str, Any]], log: Log, root: str) -> Iterator[str]:
+def is_not_watched(found: Value, root: str) -> bool:
+    """Says that a root has no triggers, since it is not watched."""
+    if not found.get("error", "").startswith(NOT_WATCHED):
+        return False
+    say(f"{root} is not watched, so it has no triggers")
+    return True
+
+
+def rows_of(triggers: List[Dict[str, Any]], log: Log, root: str, server: Server) -> Iterator[str]:
     for one in triggers:
         yield name_shown(row_of(one), None)
+        files = files_of(one, root, server)
+        if files:
+            yield name_shown(f"  for {files}", None)
         failures = log.failures(root, one["name"]).sentence()
         if failures:
             yield name_shown(f"  {failures}", "red")
+
+
+def files_of(found: Dict[str, Any], root: str, server: Server) -> str:
+    """Which files a trigger is for: in the words of its user, or by its expression if another client registered it."""
+    words = words_noted(server, root, found["name"])
+    if words is None:
+        return json.dumps(found["expression"], ensure_ascii=False) if "expression" in found else ""
+    return words
 
 
 def row_of(found: Dict[str, Any]) -> str:
@@ -134,7 +170,10 @@ def untrigger(options: argparse.Namespace, home: Home) -> int:
     require_utf8(name, "the name")
     with reached(home, starts=False) as server:
         root = root_of(server, words[0] if words else ".")
-        found = server.ask("trigger-del", root, name)
+        found = server.reply(["trigger-del", root, name])
+        if is_not_watched(found, root):
+            return NOTHING
+        server.checked(["trigger-del", root, name], found)
         if not found["deleted"]:
             names = [one["name"] for one in server.look("trigger-list", root).get("triggers", [])]
             say(f"{root} has no trigger {name}{'; there are ' + ', '.join(names) if names else ''}")

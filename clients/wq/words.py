@@ -1,7 +1,8 @@
 """The options and other words of each command, which argparse reads, and the pages of help."""
 
 import argparse
-from typing import Any, Dict, List, NamedTuple, NoReturn, Optional, Tuple
+import re
+from typing import Any, Callable, Dict, List, NamedTuple, NoReturn, Optional, Tuple
 
 from .trouble import WrongWords
 
@@ -15,6 +16,10 @@ EXECUTING = {
 }
 # Options that other versions had, and what to write now.
 GONE = {"--all": "-u", "--lines": "--jsonl"}
+VERSION = "--version"
+
+# As argparse says that an option has no value.
+NO_VALUE = re.compile(r"^argument (\S+): expected one argument$")
 
 # So much a mistyped option has to be like another one.
 LIKENESS = 0.75
@@ -26,6 +31,7 @@ class Parser(argparse.ArgumentParser):
     """Refuses wrong words in one line. Its page of help ends with exit statuses and examples."""
 
     def error(self, message: str) -> NoReturn:
+        message = NO_VALUE.sub(r"\1 takes a value, and has none", message)
         raise WrongWords(f"{message}; see `{self.prog} --help`")
 
     def format_help(self) -> str:
@@ -89,6 +95,18 @@ def whole(word: str, first: int = 0) -> int:
     return int(word)
 
 
+def within(first: int, last: int, *others: str) -> Callable[[str], str]:
+    """A number of the server's, as it is typed: one that the server refuses would be met when the last one has gone."""
+
+    def number(word: str) -> str:
+        if word not in others and not (word.isascii() and word.isdigit() and first <= int(word) <= last):
+            more = "".join(f" or {other}" for other in others)
+            raise argparse.ArgumentTypeError(f"it takes a number from {first:,} to {last:,}{more}, and not {word}")
+        return word
+
+    return number
+
+
 def level(word: str) -> int:
     return whole(word, 1)
 
@@ -148,9 +166,11 @@ JSON = flag("--json", help="print the server's reply")
 JSONL = flag("--jsonl", help="print each file as a JSON object on a line of its own")
 PRINTING = [ABSOLUTE, ZEROS, JSON, JSONL, COLOR]
 NUMBERS = [
-    value("--interval", metavar="MS", help="pause MS ms between two scans [default: 100]"),
-    value("--share", metavar="P", help="scans take at most P percent of one processor [default: 10]"),
-    value("--workers", metavar="N", help="use N threads for a query"),
+    value("--interval", metavar="MS", type=within(10, 3_600_000), help="pause MS ms between two scans [default: 100]"),
+    value(
+        "--share", metavar="P", type=within(1, 100), help="scans take at most P percent of one processor [default: 10]"
+    ),
+    value("--workers", metavar="N", type=within(1, 16, "auto"), help="use N threads for a query [default: auto]"),
 ]
 WORDS = value("words", metavar="WORD", nargs="*", default=[], help=argparse.SUPPRESS)
 DIRECTORY = value("directory", metavar="DIR", nargs="?", default=".", help="a directory of the root")
@@ -210,7 +230,8 @@ FORMS: Dict[str, Form] = {
             value(
                 "--size",
                 metavar="SIZE",
-                help="list files of at least (+10k) or at most (-10k) a size; k is 1,024 bytes, kB 1,000",
+                help="list files, and no directories, of at least (+10k) or at most (-10k) a size; k is 1,024 bytes, "
+                "kB 1,000",
             ),
             value(
                 "--newer",
@@ -273,7 +294,12 @@ FORMS: Dict[str, Form] = {
             DIRS,
             *PRINTING,
             QUIET,
-            value("--timeout", metavar="S", type=seconds, help="give up after S seconds, with status 1"),
+            value(
+                "--timeout",
+                metavar="S",
+                type=seconds,
+                help="give up after S seconds, and not before the first scan has ended, with status 1",
+            ),
             WORDS,
         ],
     ),
@@ -388,7 +414,7 @@ def read(command: str, words: List[str]) -> argparse.Namespace:
     parser = parser_of(command)
     found = read_any_order(parser, command, words, () if command in NEEDS_DASHES else rest, has_dashes)
     if command in NEEDS_DASHES:
-        found.command = rest
+        found.command, found.given = rest, words
     for name, given in commands.items():
         setattr(found, name, given)
     if getattr(found, "unrestricted", False):
@@ -437,6 +463,8 @@ def no_option(command: str, word: str, has_dashes: bool) -> str:
 
     given = word.partition("=")[0]
     known = options_of(command)
+    if given == VERSION:
+        return f"{command} has no option {VERSION}; write: wq {VERSION}"
     if GONE.get(given) in known:
         return f"there is no option {given}; write {GONE[given]}"
     like = difflib.get_close_matches(given, [name for name in known if name.startswith("--")], 1, LIKENESS)

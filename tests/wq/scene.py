@@ -26,7 +26,9 @@ INTERVAL = "40"
 # So long, in seconds, a scene waits for its server to be gone.
 MOST_AT_END = 5.0
 SLOW_CRAWL = re.compile(rb"wq: the server looks at all files below .*\n(wq: that took [0-9.]+ s\n)?")
-LATE_REPLY = re.compile(rb"wq: the server, process [0-9]+, has not answered for [0-9]+ s: it (is busy|waits), .*\n")
+LATE_REPLY = re.compile(
+    rb"(?:\x1b\[33m)?wq: the server, process [0-9]+, has not answered for [0-9]+ s: it (is busy|waits)[, ].*\n"
+)
 FILES = ["Makefile", "src/a.c", "src/b b.c", "src/deep/c.h", ".git/HEAD", "node_modules/x/y.c", "target/z.c"]
 
 
@@ -229,7 +231,8 @@ class AtTerminal(NamedTuple):
 
 
 def at_terminal(scene: Scene, *words: str, **environment: str) -> str:
-    return called_at_terminal(scene, list(words), environment).text
+    text = called_at_terminal(scene, list(words), environment).text
+    return LATE_REPLY.sub(b"", text.encode()).decode()
 
 
 def called_at_terminal(

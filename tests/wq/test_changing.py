@@ -67,6 +67,7 @@ class Changing(Beside):
         questions = [words for words, _ in QUESTIONS]
         for words in questions[:5]:
             self.same(f"a first since {words}", scene.wq("since", *words).errors, first)
+            first = said("first since as q with these words: listing everything")
         for words in questions[5:7]:
             scene.wq("since", *words)
         self.same("a first since of two directories", scene.wq("since", *questions[7]).errors, first)
@@ -132,7 +133,7 @@ class Changing(Beside):
             "name; for a name write: wq since -n build src '*.c'",
         )
         scene.wq("since")
-        first = said("first since here: listing everything")
+        first = said("first since here with these words: listing everything")
         self.same("a first glob without a name", scene.wq("since", "*.d").errors, first)
         wrong(self, scene, ["since", "-n", "x" * 256], "the name has 256 bytes, and 1 to 255 may be")
         self.same("a name with blanks", scene.wq("since", "-n", "a b:ü").status, 0)

@@ -2,6 +2,7 @@
 
 import json
 import os
+import shutil
 import subprocess
 import time
 from typing import Callable, List, Tuple
@@ -19,6 +20,7 @@ class Finding(Beside):
         with Scene(self.room) as scene:
             self.check_globs(scene)
             self.check_options(scene)
+            self.check_brackets(scene)
             self.check_printing(scene)
             self.check_names(scene)
             self.check_json(scene)
@@ -78,7 +80,8 @@ class Finding(Beside):
             (["-t", "f,l", "l*"], ["large", "link"]),
             (["-e", "h"], ["src/deep/c.h"]),
             (["-e", "C", "-e", "h"], [*C_FILES, "src/deep/c.h"]),
-            (["--size", "+4k", "-t", "f"], ["large"]),
+            (["--size", "+4k"], ["large"]),
+            (["--size", "+4k", "-t", "f,d"], ["large"]),
             (["-t", "e"], ["empty"]),
             (["-t", "f,empty"], ["empty"]),
             (["--size", "-0b", "-t", "f"], ["empty"]),
@@ -98,6 +101,18 @@ class Finding(Beside):
         self.same("a glob with ./", here, built.Ended(b"Makefile\n", b"", 0))
         self.same("nothing found", scene.wq("find", "*.nothing"), built.Ended(b"", b"", 1))
         self.same("a count of nothing", scene.wq("find", "--count", "*.nothing"), built.Ended(b"0\n", b"", 1))
+
+    def check_brackets(self, scene: Scene) -> None:
+        scene.write("pages/[id].tsx")
+        scene.write("pages/[deep]/d.tsx")
+        for words, expected in (
+            (["[id].tsx"], ["pages/[deep]/d.tsx", "pages/[id].tsx"]),
+            (["pages/[id].tsx"], ["pages/[id].tsx"]),
+            (["pages/[deep]/*.tsx"], ["pages/[deep]/d.tsx"]),
+            (["[a-d].tsx"], ["pages/[deep]/d.tsx"]),
+        ):
+            self.same(f"brackets in names, {words}", scene.names("find", *words), expected)
+        shutil.rmtree(scene.tree / "pages")
 
     def check_printing(self, scene: Scene) -> None:
         self.same("find -0", scene.wq("find", "-0", "*.c").output, b"src/a.c\0src/b b.c\0")
@@ -169,7 +184,18 @@ class Finding(Beside):
         wrong(
             self, scene, ["find", "../scr"], "../scr is no directory here, and no name below a directory has '..' in it"
         )
-        wrong(self, scene, ["find", "/dev/null"], "/dev/null is no directory here")
+        outside = "is outside of the directories that are asked about; write"
+        for word, instead in (
+            ("/dev/null", "/dev ./null"),
+            ("/etc/host*", "/etc './host*'"),
+            ("/etc/*/{a,b}", "/etc '*/{a,b}'"),
+            ("../x*", ".. './x*'"),
+            ("src/../M*", "src/.. './M*'"),
+        ):
+            for command in (["find"], ["find", "src"], ["since"], ["trigger", "t"]):
+                ends = ["--", "true"] if command[0] == "trigger" else []
+                wrong(self, scene, [*command, word, *ends], f"{word} {outside}: {instead}")
+        self.same("a whole path below", scene.names("find", scene.tree / "src" / "a*"), ["src/a.c"])
         self.same("a file that may come", scene.wq("find", "./scr"), built.Ended(b"", b"", 1))
         scene.write("src/gone.c")
         scene.wq("watch")
@@ -225,6 +251,7 @@ class Finding(Beside):
             (["-t", "y"], f'{letters} "y"'),
             (["--size", "big"], f'{size} "big"'),
             (["--size", "10k"], "--size takes +10k for at least so much, or -10k for at most"),
+            (["--size", "+1", "-t", "d,l"], "--size is for files, and -t d,l lists none: take one out"),
             (["--color", "blue"], "--color takes auto, always or never, and not blue"),
             (
                 ["--newer", "soon"],
@@ -233,7 +260,8 @@ class Finding(Beside):
                 'and not "soon"',
             ),
             (["--frob"], "there is no option --frob; see `wq find --help`"),
-            (["-e"], "argument -e/--extension: expected one argument; see `wq find --help`"),
+            (["--version"], "find has no option --version; write: wq --version; see `wq find --help`"),
+            (["-e"], "-e/--extension takes a value, and has none; see `wq find --help`"),
             (["-e", ""], "-e takes suffixes, such as c,h; it is empty, as of a variable that is not set"),
             (["/not/there"], "/not/there: No such file or directory"),
             (

@@ -1,15 +1,16 @@
 """`wq run`: one run at a time, bursts, names, restarts, and how it ends."""
 
-import json
 import os
 import signal
+import subprocess
 import time
 from pathlib import Path
 
 import built
 from case import Beside
+from client import PATIENCE
 from runs import Log, change_until, command, has_runs
-from scene import Scene, following, said, touch_until, wrong
+from scene import COMMAND, Scene, following, said, touch_until, wrong
 from waiting import wait_until
 
 
@@ -81,7 +82,7 @@ class Running(Beside):
             touch_until(scene, going, "src/deep/c.h")
             self.same("run --postpone --once", (going.ends(), going.output), (0, b"./src/deep/c.h\n"))
         with scene.begin("run", "*.nothing", "--", "echo", "{}") as going:
-            going.waits_for(lambda _: is_asked(scene))
+            going.says("following")
             self.same(
                 "no run without a name", (going.ends(signal.SIGINT), going.output, following(going)), (130, b"", b"")
             )
@@ -109,6 +110,27 @@ class Running(Beside):
             self.check("with what it started", is_gone(child))
             os.kill(going.process.pid, signal.SIGKILL)
             os.killpg(os.getpgid(int(Path(f"{log.path}.child").read_text())), signal.SIGKILL)
+
+    def test_left_behind(self) -> None:
+        """A process that a run started with --restart, and that hears no signal, does not go on after that: not beside
+        the next run, and not after the end. A daemon does."""
+        leaves = (
+            'sh -c \'trap "" HUP INT TERM; echo $$ >> "$LOG.left"; while :; do sleep 0.05; done\' & '
+            'rm -f "$LOG.daemon"; setsid sh -c \'echo $$ > "$LOG.daemon"; exec sleep 30\' & '
+            'while [ ! -s "$LOG.left" ] || [ ! -s "$LOG.daemon" ]; do sleep 0.01; done; echo run >> "$LOG"; wait'
+        )
+        with Scene(self.room) as scene:
+            log = Log(scene)
+            left = Path(f"{log.path}.left")
+            with scene.begin("run", "--restart", "*.c", "--", "sh", "-c", leaves) as going:
+                self.check("a run", going.waits_for(has_runs(log, 1)))
+                change_until(scene, going, log, 2)
+                self.check("what the first run left", is_gone(int(left.read_text().split()[0])))
+                self.same("SIGTERM", going.ends(signal.SIGTERM), 143)
+                self.check("what is left", all(map(is_gone, map(int, left.read_text().split()))))
+                daemon = int(Path(f"{log.path}.daemon").read_text())
+                self.check("a daemon goes on", state_of(daemon) in list("SRD"))
+                os.kill(daemon, signal.SIGKILL)
 
     def test_ends_of_run(self) -> None:
         with Scene(self.room) as scene:
@@ -144,11 +166,9 @@ class Running(Beside):
                 ["run", "--debounce=-1", "--", "true"],
                 "argument --debounce: -1 is no number of milliseconds from 0 on; see `wq run --help`",
             )
-
-
-def is_asked(scene: Scene) -> bool:
-    """Whether another client is connected."""
-    return json.loads(scene.wq("status", "--json").output)["clients"] > 0
+            closed = ["sh", "-c", '"$0" run --once -- sh -c "exit 5" 2>&-', COMMAND]
+            code = subprocess.run(closed, cwd=scene.tree, env=scene.environment, timeout=PATIENCE).returncode
+            self.same("a run without standard error", code, 5)
 
 
 def is_gone(process: int) -> bool:

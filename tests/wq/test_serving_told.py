@@ -10,7 +10,7 @@ import time
 from pathlib import Path
 from threading import Timer
 from types import SimpleNamespace
-from typing import Any, Dict
+from typing import Any, Dict, List, Tuple
 from unittest import mock
 
 import built
@@ -18,11 +18,8 @@ from case import Beside
 from client import PATIENCE
 from scene import COMMAND, Scene, facts, said, without_delays, wrong
 from waiting import wait_until
-from wq.answering import require_answers
-from wq.file_systems import hearing_of, mount_of
 from wq.processes import is_of_unit, names_unit
 from wq.server_log import Failures, Log
-from wq.trouble import WrongWords
 from wqclient.unit import listens_soon
 
 A_HOUR = 3_600
@@ -60,11 +57,25 @@ class ServingTold(Beside):
             usual = ["--share", "10", "--interval", "100", *WORKERS]
             self.same("the usual words", words_of(facts(scene)["process"])[-6:], usual)
             scene.wq("stop")
-            failed = scene.wq("start", "--interval", "1")
-            has_reason = b"--interval takes a number from 10" in failed.errors
-            self.same("start with a wrong word", (failed.status, has_reason), (3, True))
+            self.check_wrong_numbers(scene)
             self.check_starts_at_once(scene)
             self.check_sockets(scene)
+
+    def check_wrong_numbers(self, scene: Scene) -> None:
+        """A number that the server does not take is refused before the last one has ended."""
+        scene.wq("start")
+        process = facts(scene)["process"]
+        for word, number, takes in (
+            ("--interval", "1", "from 10 to 3,600,000"),
+            ("--share", "101", "from 1 to 100"),
+            ("--workers", "0", "from 1 to 16 or auto"),
+            ("--workers", "x", "from 1 to 16 or auto"),
+        ):
+            for command in ("restart", "start"):
+                reason = f"argument {word}: it takes a number {takes}, and not {number}; see `wq {command} --help`"
+                wrong(self, scene, [command, word, number], reason)
+        self.same("the same server", facts(scene)["process"], process)
+        scene.wq("stop")
 
     def test_unit(self) -> None:
         """A server that systemd started is known by its control group."""
@@ -304,43 +315,19 @@ class ServingTold(Beside):
             self.same("one file is no files", size, "size      1 file and 0 directories")
             self.same("it leaves no root", scene.wq("roots").status, 1)
 
-    def test_file_systems(self) -> None:
-        """The mount of a path, and what the kernel does not tell of there."""
-        mounts = (
-            "22 1 8:1 / / rw,relatime - ext4 /dev/sda1 rw\n"
-            "30 22 0:40 / /mnt/with\\040space rw - nfs4 host:/ rw,vers=4.2\n"
-            "31 22 0:41 / /mnt/with\\040space/in rw - fuse.sshfs host: rw\n"
-        )
-        for path, kind, silent in (
-            ("/home", "ext4", None),
-            ("/mnt/with space/x", "nfs4", "other machines"),
-            ("/mnt/with space/in", "fuse.sshfs", "other machines"),
-            ("/mnt/with spaces", "ext4", None),
-        ):
-            mount = mount_of(path, mounts)
-            found = hearing_of(mount.kind)
-            self.same(f"the mount of {path}", (mount.kind, found and found.silent_about), (kind, silent))
-        for kind in ("9p", "virtiofs", "cifs", "fuse.unknown"):
-            self.check(f"{kind} is not heard", hearing_of(kind) is not None)
-
-    def test_answers(self) -> None:
-        """A file system that does not answer is named, and nothing waits for it."""
-        began = time.monotonic()
-        with self.assertRaisesRegex(WrongWords, "^hangs: its file system does not answer$"):
-            require_answers(["good", "hangs", "later"], lambda path: time.sleep(60 if path == "hangs" else 0), 8.0)
-        self.check("it does not take long", time.monotonic() - began < 40)
-        require_answers(["good", "not there"])
-
     def test_triggers(self) -> None:
         with Scene(self.room) as scene:
-            self.same("the root of a trigger is watched", scene.wq("triggers").status, 3)
+            none = f"{scene.tree} is not watched, so it has no triggers"
+            for words in (["triggers"], ["untrigger", "t"]):
+                wrong(self, scene, words, none, status=1)
             made = said(f"trigger t of {scene.tree} is created; its command runs there")
             script = 'pwd > ../ran; echo "$@" >> ../ran'
             call = scene.wq("trigger", "t", "src", "*.h", "--", "sh", "-c", script, "sh", "{}")
             self.same("trigger", call, built.Ended(b"", made, 0))
             self.check("its command runs", reads(self.room / "ran", f"{scene.tree}\n./src/deep/c.h\n"))
             lines = scene.names("triggers", "src")
-            self.same("triggers", lines, [f"t: sh -c '{script}' sh {{}}"])
+            self.same("triggers", lines, [f"t: sh -c '{script}' sh {{}}", "  for src '*.h'"])
+            self.check_words_of_triggers(scene)
             asked = json.loads(scene.wq("triggers", "--json").output)["triggers"][0]
             self.same("triggers --json", (asked["append_files"], asked["expression"][0]), (True, "allof"))
             again = said(f"trigger t of {scene.tree} is replaced; its command runs there")
@@ -349,6 +336,20 @@ class ServingTold(Beside):
             self.check("names on its input", reads(self.room / "names", "Makefile\n"))
             self.check_names_of_triggers(scene)
             self.check_wrong_triggers(scene)
+
+    def check_words_of_triggers(self, scene: Scene) -> None:
+        """`wq` says which files a trigger is for: in the words of its user, or by its expression."""
+        rows: List[Tuple[List[str], List[str]]] = [
+            (["all", "--", "true"], ["all: true"]),
+            (["--stdin", "-e", "c", "options", "src", "--", "true"], ["options: true", "  for -e c src"]),
+        ]
+        for words, shown in rows:
+            scene.wq("trigger", *words)
+            self.same(f"the files of {words}", scene.names("triggers")[-len(shown) :], shown)
+        scene.wq("ask", f'["trigger","{scene.tree}",{{"name":"raw","command":["true"],"expression":["suffix","md"]}}]')
+        self.same("those of another client", scene.names("triggers")[-2:], ["raw: true", '  for ["suffix", "md"]'])
+        for name in ("all", "options", "raw"):
+            scene.wq("untrigger", name)
 
     def check_wrong_triggers(self, scene: Scene) -> None:
         """A trigger is removed, and wrong ones are refused."""
@@ -380,9 +381,8 @@ class ServingTold(Beside):
             self,
             scene,
             ["triggers", self.room],
-            "E14: root is not watched",
-            f'"{self.room}" is not watched; did you mean "{scene.tree}"?. ["watch","{self.room}"] watches it',
-            status=3,
+            f"{self.room} is not watched, so it has no triggers",
+            status=1,
         )
 
     def check_names_of_triggers(self, scene: Scene) -> None:
@@ -424,16 +424,22 @@ class ServingTold(Beside):
             scene.wq("trigger", "no-command", "*.h", "--", "not-there", "{}")
             scene.wq("trigger", "good", "*.h", "--", "true")
             once = "; failed 1 time since it was registered"
+            files = "  for '*.h'"
             lines = [
                 "fails: sh -c 'echo unread; exit 3'",
+                files,
                 f"  last failure: ended with status 3{once}",
                 "killed: sh -c 'kill -9 $$'",
+                files,
                 f"  last failure: ended by signal 9{once}",
                 "no-file: ./not-there",
+                files,
                 "  last failure: could not be started: No such file or directory (os error 2)",
                 "no-command: not-there {}",
+                files,
                 f"  last failure: ended with status 127, which shells say of a command that is not there{once}",
                 "good: true",
+                files,
             ]
             self.check(
                 "failures of triggers", wait_until(lambda: scene.names("triggers") == lines), scene.names("triggers")
@@ -441,12 +447,12 @@ class ServingTold(Beside):
             scene.write("src/deep/c.h", "changed")
             # A scan may come in the middle of a write, so it may be two more.
             more = re.compile("  last failure: ended with status 3; failed [2-9] times since it was registered")
-            self.check("a second failure", wait_until(lambda: bool(more.fullmatch(scene.names("triggers")[1]))))
+            self.check("a second failure", wait_until(lambda: bool(more.fullmatch(scene.names("triggers")[2]))))
             scene.wq("trigger", "fails", "*.h", "--", "true")
             self.same(
                 "one that is registered anew has none",
-                scene.names("triggers")[:2],
-                ["fails: true", "killed: sh -c 'kill -9 $$'"],
+                scene.names("triggers")[:3],
+                ["fails: true", files, "killed: sh -c 'kill -9 $$'"],
             )
             self.check_left_out(scene)
 

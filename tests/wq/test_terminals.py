@@ -41,6 +41,7 @@ SENTENCES = (
     ("since", "--peek show what since would print, without marking it as seen"),
     ("run", "run a command here, now and after each change"),
     ("run", "--debounce MS wait until nothing has changed for MS ms [default: 100]"),
+    ("wait", "--timeout S give up after S seconds, and not before the first scan has ended, with status 1"),
     ("untrigger", "remove a trigger"),
     ("unwatch", "stop watching"),
 )
@@ -50,6 +51,8 @@ class Terminals(Beside):
     def test_terminal(self) -> None:
         """Colours, layout and escapes are for terminals, and NO_COLOR takes the colours away."""
         with Scene(self.room) as scene:
+            # So that no find looks at all files first, of which it tells when that takes over a second.
+            scene.wq("watch")
             (scene.tree / "link").symlink_to("Makefile")
             self.same("no link below a directory", at_terminal(scene, "find", "src", "./link", "-t", "d,l"), "")
             self.same(

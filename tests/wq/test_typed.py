@@ -201,7 +201,7 @@ class Typed(Beside):
         quoted = "echo hi: there is no such command; write its words without quotes around them all"
         for words in (["find", "*.h", "-x", "echo hi"], ["run", "--once", "--", "echo hi"]):
             wrong(self, scene, words, quoted, status=127)
-        wrong(self, scene, ["find", "-x"], "argument -x/--exec: expected one argument; see `wq find --help`")
+        wrong(self, scene, ["find", "-x"], "-x/--exec takes a value, and has none; see `wq find --help`")
 
     def check_dashes(self, scene: Scene) -> None:
         """Two dashes end the options of each command."""

@@ -1,0 +1,96 @@
+"""File systems: what the kernel tells of there, what `wq doctor` says of them, and those that do not answer."""
+
+import json
+import subprocess
+import sys
+import time
+from typing import Any, Dict
+
+from case import Beside
+from client import PATIENCE
+from scene import Scene
+from stand_ins import answering, stand_in
+from waiting import wait_until
+from wq.answering import require_answers
+from wq.doctor import mount_shown
+from wq.file_systems import hearing_of, mount_of
+from wq.processes import states_of
+from wq.trouble import WrongWords
+
+# The answers of a stand-in for a server to commands of `wq status`.
+STAND_IN: Dict[str, Any] = {
+    "program-list": {"programs": []},
+    "version": {"version": "wq-1"},
+    "clock": {"clock": "c:1:2:3:7"},
+    "query": {"files": ["f"]},
+    "trigger-list": {"triggers": []},
+}
+
+
+class HungRoots(Beside):
+    def test_file_systems(self) -> None:
+        """The mount of a path, and what the kernel does not tell of there."""
+        mounts = (
+            "22 1 8:1 / / rw,relatime - ext4 /dev/sda1 rw\n"
+            "30 22 0:40 / /mnt/with\\040space rw - nfs4 host:/ rw,vers=4.2\n"
+            "31 22 0:41 / /mnt/with\\040space/in rw - fuse.sshfs host: rw\n"
+        )
+        for path, kind, silent in (
+            ("/home", "ext4", None),
+            ("/mnt/with space/x", "nfs4", "other machines"),
+            ("/mnt/with space/in", "fuse.sshfs", "other machines"),
+            ("/mnt/with spaces", "ext4", None),
+        ):
+            mount = mount_of(path, mounts)
+            found = hearing_of(mount.kind)
+            self.same(f"the mount of {path}", (mount.kind, found and found.silent_about), (kind, silent))
+        for kind, part in (
+            ("9p", "`-o cache=none` sooner"),
+            ("virtiofs", "`virtiofsd --cache never` sooner"),
+            ("cifs", "up to 1 s late, also to a query that scans first; with `-o actimeo=0` sooner"),
+            ("nfs4", "3 to 60 s late, also to a query that scans first; with `-o actimeo=1` up to 1 s"),
+            ("fuse.sshfs", "dcache_stat_timeout=1"),
+            ("fuse.rclone", "`--dir-cache-time 1s --attr-timeout 1s`"),
+            ("fuse.bindfs", "attr_timeout=0"),
+            ("fuse.mergerfs", "cache.attr=0"),
+            ("fuse.fuse-overlayfs", "never shows such a change"),
+            ("fuse.unknown", "how late it shows such a change differs"),
+            ("overlay", "how late it shows such a change differs"),
+        ):
+            deaf = hearing_of(kind)
+            self.check(f"{kind} is not heard", deaf is not None and part in mount_shown(deaf))
+
+    def test_threads(self) -> None:
+        """A process is judged by all its threads: the first one may only wait for the others."""
+        text = "import threading, time; threading.Thread(target=lambda: [None for _ in iter(int, 1)]).start()"
+        with subprocess.Popen([sys.executable, "-c", f"{text}; time.sleep(1000)"]) as process:
+            self.check("a thread that works", wait_until(lambda: "R" in states_of(process.pid)))
+            self.check("beside one that waits", wait_until(lambda: "S" in states_of(process.pid)))
+            process.kill()
+
+    def test_hung_roots(self) -> None:
+        """Roots whose file systems do not answer are named, all of them in the time of two."""
+        with Scene(self.room, starts=False) as scene:
+            roots = ["/hangs", "/also", "/third", "/fourth", "/fifth"]
+
+            def answer(line: bytes) -> bytes:
+                command, *words = json.loads(line)
+                if command == "clock" and words[0] in roots:
+                    time.sleep(PATIENCE)
+                return json.dumps(STAND_IN.get(command, {"roots": [*roots, "/good"]})).encode()
+
+            stand_in(scene.sockname, answering(answer))
+            began = time.monotonic()
+            found = json.loads(scene.wq("status", "--json").output)["roots"]
+            silent = "no scan of it ended within 5 s; its file system may not answer"
+            self.same("roots that hang", found[:5], [{"root": root, "error": silent} for root in roots])
+            self.same("one that answers", (found[5]["root"], found[5]["tick"]), ("/good", 7))
+            self.check("two waits, one after the other", time.monotonic() - began < 20)
+
+    def test_answers(self) -> None:
+        """A file system that does not answer is named, and nothing waits for it."""
+        began = time.monotonic()
+        with self.assertRaisesRegex(WrongWords, "^hangs: its file system does not answer$"):
+            require_answers(["good", "hangs", "later"], lambda path: time.sleep(60 if path == "hangs" else 0), 8.0)
+        self.check("it does not take long", time.monotonic() - began < 40)
+        require_answers(["good", "not there"])
