@@ -5,6 +5,8 @@ from pathlib import Path
 from typing import Dict
 
 PATH = Path(__file__).resolve().parent / "publisher"
+# The word in the place of a key if nothing is signed.
+NO_KEY = "none"
 
 
 def fields() -> Dict[str, str]:

@@ -1,5 +1,6 @@
-"""The parts of a release beside its packages: an archive of the files that ./install puts below a prefix, a note of how
-the program was proved, and the checksums of all of it. Each is the same on every machine, if its files are."""
+"""The parts of a release beside its packages: archives of the sources and of the files that ./install puts below a
+prefix, a note of how the program was proved, the checksums of all of it, and a signature of these. But for that each is
+the same on every machine, if its files are."""
 
 import hashlib
 import io
@@ -13,6 +14,7 @@ from pathlib import Path
 from typing import List
 
 import notices
+import publisher
 from files import TOP, File, built_program, compressed, files, version
 
 # The prefix that the unit of the archive names, below which a user unpacks it.
@@ -44,8 +46,13 @@ def seconds() -> int:
 
 
 def tar_of(found: List[File], second: int, front: str = "./") -> bytes:
-    """The files, all of root, compressed. Each name begins with this front. Debian has `./` there, and entries for the
-    directories. Without a front there are none, so that a user's own directories keep their modes."""
+    """The files as `plain_tar_of` has them, compressed."""
+    return compressed(plain_tar_of(found, second, front), second)
+
+
+def plain_tar_of(found: List[File], second: int, front: str = "./") -> bytes:
+    """The files, all of root. Each name begins with this front. Debian has `./` there, and entries for the directories.
+    Without a front there are none, so that a user's own directories keep their modes."""
     written = io.BytesIO()
     above = {str(path) for file in found for path in Path(file.path).parents} if front else set()
     entries = [File(path, 0o755, b"") for path in above] + found
@@ -56,13 +63,14 @@ def tar_of(found: List[File], second: int, front: str = "./") -> bytes:
             info.mode, info.size, info.mtime = entry.mode, len(entry.data), second
             info.uname = info.gname = "root"
             tar.addfile(info, io.BytesIO(entry.data))
-    return compressed(written.getvalue(), second)
+    return written.getvalue()
 
 
-def archive() -> File:
-    """The files below one directory with the version, for those who have no package manager or do not want one."""
+def archive(prefix: Path = PREFIX) -> File:
+    """The files below one directory with the version, for those who have no package manager or do not want one. The
+    unit names this prefix."""
     home = f"wqd-{version()}"
-    found = [File(f"{home}/{file.path}", file.mode, file.data) for file in files(str(PREFIX))]
+    found = [File(f"{home}/{file.path}", file.mode, file.data) for file in files(str(prefix))]
     found.append(File(f"{home}/share/doc/wqd/README", 0o644, about().encode()))
     return File(f"{home}-linux-x86_64.tar.gz", 0o644, tar_of(found, seconds(), front=""))
 
@@ -102,6 +110,23 @@ def sources() -> str:
     return ended.stdout.decode().strip()
 
 
+def source_archive() -> File:
+    """The sources of the commit, with the program and its note in release/, where ./wq, ./wqd and ./install look."""
+    home = f"wqd-{version()}"
+    with tempfile.TemporaryDirectory() as room:
+        for name, data, mode in (("wqd", built_program(), 0o755), ("wqd.proof", NOTE.read_bytes(), 0o644)):
+            path = Path(room, name)
+            path.write_bytes(data)
+            path.chmod(mode)
+        added = [f"--add-file={room}/{name}" for name in ("wqd", "wqd.proof")]
+        words = ["git", "-c", "tar.umask=022", "archive", "--format=tar", f"--prefix={home}/release/", *added]
+        words += [f"--prefix={home}/", "HEAD"]
+        ended = subprocess.run(words, cwd=TOP, stdout=subprocess.PIPE, stderr=subprocess.PIPE)
+    if ended.returncode != 0:
+        raise ValueError(f"the sources are those of a commit, and git says: {ended.stderr.decode().strip()}")
+    return File(f"{home}-sources.tar.gz", 0o644, compressed(ended.stdout, seconds()))
+
+
 def bill() -> File:
     """The list of the program's parts."""
     return File(f"wqd-{version()}.cdx.json", 0o644, notices.bill(version(), built_program()))
@@ -111,3 +136,18 @@ def checksums(found: List[File]) -> File:
     """The SHA-256 of each file, as `sha256sum --check` reads it."""
     lines = [f"{hashlib.sha256(file.data).hexdigest()}  {file.path}\n" for file in sorted(found)]
     return File("SHA256SUMS", 0o644, "".join(lines).encode())
+
+
+def signatures(signed: File) -> List[File]:
+    """The signature of a file by the publisher's key, unless the publisher has none."""
+    key = publisher.fields()["key"]
+    if key == publisher.NO_KEY:
+        return []
+    words = ["gpg", "--batch", "--local-user", key, "--armor", "--detach-sign", "--output", "-", "-"]
+    try:
+        ended = subprocess.run(words, input=signed.data, stdout=subprocess.PIPE, stderr=subprocess.PIPE)
+    except FileNotFoundError:
+        raise ValueError("gpg, which signs by the publisher's key, is not installed") from None
+    if ended.returncode != 0:
+        raise ValueError(f"gpg does not sign by the key {key}: {ended.stderr.decode().strip()}")
+    return [File(f"{signed.path}.asc", 0o644, ended.stdout)]

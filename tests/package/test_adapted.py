@@ -16,7 +16,7 @@ from typing import Dict, List
 import built
 from case import Case
 from client import PATIENCE
-from test_installed import FILES, call, listing, modes, version_of
+from installing import FILES, call, listing, modes, version_of
 
 NODE_PLACE, PYTHON_PLACE = "lib/node_modules/wqd-chokidar", "lib/wqd/python/wqd_watchdog"
 NODE_CLIENT_PLACE, PYTHON_CLIENT_PLACE = "lib/node_modules/wqd-client", "lib/wqd/python/wqclient"
@@ -185,14 +185,16 @@ class Adapted(Case):
         command = [*pip, *words, str(target), str(adapter), str(client)]
         ended = subprocess.run(command, stdout=subprocess.PIPE, stderr=subprocess.STDOUT)
         self.same("pip", (ended.returncode, b"Successfully installed" in ended.stdout), (0, True))
-        by_pip = {"PYTHONPATH": str(target)}
+        python = str(target)
         words = [sys.executable, "-m", "wqd_watchdog", "--help"]
-        self.same("the module by pip", head_of(words, self.room, **by_pip), HELP)
+        self.same("the module by pip", head_of(words, self.room, python=python), HELP)
         self.same(
-            "the command by pip", head_of([str(target / "bin" / "wqd-watchdog"), "--help"], self.room, **by_pip), HELP
+            "the command by pip",
+            head_of([str(target / "bin" / "wqd-watchdog"), "--help"], self.room, python=python),
+            HELP,
         )
         said = f"{target}/wqclient/client.py True".encode()
-        self.same("the client by pip", head_of([sys.executable, "-c", OF_CLIENT], self.room, **by_pip), said)
+        self.same("the client by pip", head_of([sys.executable, "-c", OF_CLIENT], self.room, python=python), said)
 
 
 def has_watchdog() -> bool:
@@ -219,10 +221,10 @@ def version_in(package: Path) -> str:
     return str(json.loads((package / "package.json").read_text())["version"])
 
 
-def head_of(command: List[str], home: Path, at: Path = Path("/"), **variables: str) -> bytes:
+def head_of(command: List[str], home: Path, at: Path = Path("/"), python: str = "") -> bytes:
     """The first line that a command prints in a directory, for somebody with this home and no settings for Python."""
     environment = {name: value for name, value in os.environ.items() if not name.startswith("PYTHON")}
-    environment.update(HOME=str(home), **variables)
+    environment.update(HOME=str(home), **({"PYTHONPATH": python} if python else {}))
     ended = subprocess.run(command, cwd=at, env=environment, capture_output=True, timeout=PATIENCE)
     return ended.stdout.partition(b"\n")[0] or ended.stderr
 

@@ -12,7 +12,8 @@ from typing import Dict, List, Tuple
 import built
 from case import Case
 from client import PATIENCE, PLAIN, Client, Server
-from test_installed import call
+from clones import bare, tools
+from installing import call, present
 
 GOOD = {"sockname": "/nothing/here", "start": "0", "pid": str(2**62), "interval": "10", "share": "1", "workers": "16"}
 WRONG: List[Tuple[List[str], str]] = [
@@ -153,11 +154,11 @@ class Command(Case):
         environment = {**os.environ, "WQD": str(built.program_path())}
         process = subprocess.Popen([str(built.TOP / "wqd"), *words], stderr=subprocess.PIPE, env=environment)
         try:
-            self.same("a stale socket", process.stderr.readline(), f"listening on {sockname}\n".encode())
+            self.same("a stale socket", present(process.stderr).readline(), f"listening on {sockname}\n".encode())
         finally:
             process.terminate()
             self.same("the end by a signal", process.wait(PATIENCE), -15)
-            process.stderr.close()
+            present(process.stderr).close()
 
     def test_serve_without_words(self) -> None:
         """The socket, the second and the process are filled in, unless they are said."""
@@ -166,7 +167,7 @@ class Command(Case):
         own = self.room / f"wqd-{os.getuid()}"
         base = {name: value for name, value in os.environ.items() if name not in ("XDG_RUNTIME_DIR", "WQD_SOCK")}
         base.update(WQD=str(built.program_path()), TMPDIR=str(self.room))
-        for name, words, values, sockname, numbers in (
+        cases: List[Tuple[str, List[str], Dict[str, str], Path, Dict[int, str]]] = [
             ("nothing said", [], {"XDG_RUNTIME_DIR": str(runtime)}, runtime / "wqd.sock", {}),
             ("WQD_SOCK", [], {"WQD_SOCK": str(self.room / "named")}, self.room / "named", {}),
             ("no directory of the session", [], {"XDG_RUNTIME_DIR": str(self.room / "nothing")}, own / "wqd.sock", {}),
@@ -179,7 +180,8 @@ class Command(Case):
                 {1: "7", 2: "9"},
             ),
             ("one number said", ["--pid=9"], {"WQD_SOCK": str(self.room / "named")}, self.room / "named", {2: "9"}),
-        ):
+        ]
+        for name, words, values, sockname, numbers in cases:
             found = served(words, {**base, **values}, sockname, self.room)
             self.same(f"serve with {name}", {place: found[place] for place in numbers}, numbers)
             self.same(
@@ -246,7 +248,7 @@ def served(words: List[str], environment: Dict[str, str], sockname: Path, room: 
     began = int(time.time())
     process = subprocess.Popen([str(built.TOP / "wqd"), "serve", *words], stderr=subprocess.PIPE, env=environment)
     try:
-        line = process.stderr.readline()
+        line = present(process.stderr).readline()
         if line != f"listening on {sockname}\n".encode():
             raise ValueError(f"the server says {line!r}")
         root = room / "root"
@@ -259,32 +261,8 @@ def served(words: List[str], environment: Dict[str, str], sockname: Path, room: 
     finally:
         process.kill()
         process.wait()
-        process.stderr.close()
+        present(process.stderr).close()
     start = next(
         (str(second) for second in range(began, began + int(PATIENCE)) if str(second) == parts[1]), "none of now"
     )
     return {**parts, "start": start, "pid": str(process.pid)}
-
-
-def bare(room: Path) -> None:
-    """A copy of the scripts at the top, beside one crate of one file, in which nothing is built."""
-    for name in ("install", "verify", "wq", "wqd", "CHANGELOG.md", "crates.txt"):
-        shutil.copy(built.TOP / name, room / name)
-    shutil.copytree(built.TOP / "contrib", room / "contrib")
-    for package in ("wq", "wqclient", "wqprogram"):
-        shutil.copytree(built.TOP / "clients" / package, room / "clients" / package)
-    for part in ("src", "specs", "proofs"):
-        (room / "crates" / "wqd" / part).mkdir(parents=True)
-    (room / "crates" / "wqd" / "src" / "main.rt").write_text("fn main() {}\n")
-
-
-def tools(room: Path) -> Path:
-    """A directory with the commands that the scripts need, and no other."""
-    directory = room / "bin"
-    directory.mkdir()
-    for name in (
-        "sh dirname sed head tail find cat awk wc date mktemp rm touch env python3 cp mkdir mv grep sleep id "
-        "sha256sum sort xargs cut cmp nproc"
-    ).split():
-        (directory / name).symlink_to(shutil.which(name))
-    return directory

@@ -153,8 +153,8 @@ def in_fish(lines: List[str], room: Path) -> Dict[str, List[str]]:
     script = f"source {room}/wq.fish\n" + "".join(f"echo '= {line}'; complete -C 'wq {line}'\n" for line in lines)
     words = ["fish", "--no-config", "-c", script]
     found: Dict[str, List[str]] = {}
-    streams = {"stdout": subprocess.PIPE, "stderr": subprocess.DEVNULL}
-    for line in subprocess.run(words, cwd=room, env=of_home(room), **streams).stdout.decode().splitlines():
+    ended = subprocess.run(words, cwd=room, env=of_home(room), stdout=subprocess.PIPE, stderr=subprocess.DEVNULL)
+    for line in ended.stdout.decode().splitlines():
         if line.startswith("= "):
             words = found[line[2:]] = []
         else:

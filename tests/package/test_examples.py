@@ -11,7 +11,8 @@ from typing import Dict, List
 import built
 from case import Case
 from client import PATIENCE, Server
-from test_pages import blocks
+from installing import present
+from quoting import blocks
 
 EXAMPLES = built.TOP / "examples"
 LARGE = EXAMPLES / "large.program"
@@ -93,7 +94,7 @@ def followed(server: Server, root: Path, words: List[str]) -> List[str]:
     client = subprocess.Popen(command, stdin=subprocess.PIPE, stdout=subprocess.PIPE, env=environment)
     lines = []
     if not words:
-        lines = [client.stdout.readline(), client.stdout.readline()]
+        lines = [present(client.stdout).readline(), present(client.stdout).readline()]
         (root / "src" / "a.c").rename(root / "src" / "b.c")
     else:
         with open(root / "large", "wb") as large:

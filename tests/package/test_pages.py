@@ -8,7 +8,8 @@ from typing import List
 import files
 import manual
 from case import Case
-from test_installed import FILES
+from installing import FILES
+from quoting import blocks
 from wq.words import FORMS, options_of
 
 MACROS = {".TH", ".SH", ".SS", ".PP", ".TP", ".IP", ".B", ".br", ".nf", ".fi", ".RS", ".RE", ".ad", ".nh"}
@@ -35,11 +36,6 @@ SMALL_MADE = [
     ".PP",
     "\\&'q'",
 ]
-
-
-def blocks(page: str, language: str) -> List[str]:
-    """The blocks of code of a page that name this language."""
-    return re.findall(rf"^```{language}\n(.*?)^```$", page, re.DOTALL | re.MULTILINE)
 
 
 class Pages(Case):
@@ -84,21 +80,19 @@ class Pages(Case):
             shown = [shown_as(line) for line in lines if line[:1] != "."]
             headings = [line.split(" ", 1) for line in text.splitlines() if re.match("##+ ", line)]
             expected = [
-                words.replace("`", "").upper() if marks == "##" else words.replace("`", "") for marks, words in headings
+                title.replace("`", "").upper() if marks == "##" else title.replace("`", "") for marks, title in headings
             ]
             found = [shown_as(line.split(" ", 1)[1]) for line in lines if line.startswith((".SH", ".SS"))]
-            found = [
-                words for words in found if words not in ("NAME", "SYNOPSIS", "DESCRIPTION", "EXAMPLES", "SEE ALSO")
-            ]
+            found = [it for it in found if it not in ("NAME", "SYNOPSIS", "DESCRIPTION", "EXAMPLES", "SEE ALSO")]
             self.same(f"{name}: headings", found, expected)
             code = [line for line in code_of(text) if line]
             self.same(f"{name}: lines of code that are missing", [line for line in code if line not in shown], [])
             left = [line for line in shown if "](" in line or "<!--" in line]
             self.same(f"{name}: what is left of Markdown", left, [])
             self.check_by_roff(name, made)
-        made = manual.page(SMALL, "n", 1, "s", "0").splitlines()
-        self.same("a small page", made[6 : made.index(".SH SEE ALSO")], SMALL_MADE)
-        self.same("its last line", made[-1], manual.ELSEWHERE)
+        small = manual.page(SMALL, "n", 1, "s", "0").splitlines()
+        self.same("a small page", small[6 : small.index(".SH SEE ALSO")], SMALL_MADE)
+        self.same("its last line", small[-1], manual.ELSEWHERE)
 
     def test_sections(self) -> None:
         """The page of wq has what people look for in one, in the usual order, and each option of each command."""

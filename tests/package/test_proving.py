@@ -12,7 +12,7 @@ from typing import Dict
 
 import built
 from case import Case
-from test_command import bare, tools
+from clones import bare, path_of, tools
 
 CRATES = "# One line a crate.\nwq_base: itoa\nwq_cases: wq_base\nwqd: wq_base clap\n"
 KIT = """#!/bin/sh
@@ -97,7 +97,7 @@ class Proving(Case):
         (self.room / "crates" / "wq_base" / "out" / "kept").write_text("")
         (self.room / "temporary").mkdir()
         kit = tools(self.room)
-        (kit / "ls").symlink_to(shutil.which("ls"))
+        (kit / "ls").symlink_to(path_of("ls"))
         (kit / "rt").write_text(KIT)
         (kit / "rt").chmod(0o755)
 

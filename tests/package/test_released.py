@@ -5,26 +5,24 @@ import hashlib
 import json
 import os
 import re
-import shutil
 import subprocess
 import sys
 import tarfile
 from pathlib import Path
-from typing import List
+from typing import Dict, List
 
 import built
 import files
 import notices
 from case import Case, needs
-from test_command import bare
-from test_installed import FILES, LIST, call, version_of
+from clones import make_clone, sources_of
+from installing import FILES, LIST, call, version_of
 
-# The sources of a release beside the scripts and clients at the top.
-PARTS = ("docs", "examples", "LICENSE-MIT", "LICENSE-APACHE", "package", "install", "verify")
-CLIENTS = ("bridge", "node", "wqasm", "watchdog", "watchman")
 # What a release has.
 RELEASED = (
     "SHA256SUMS",
+    "SHA256SUMS.asc",
+    "devcontainer-feature-wqd.tgz",
     "node-wqd-chokidar_{}_all.deb",
     "python3-wqd-watchdog_{}_all.deb",
     "wqclient-{}-py3-none-any.whl",
@@ -32,6 +30,8 @@ RELEASED = (
     "wqd-client-{}.tgz",
     "wqd-watchman_{}_all.deb",
     "wqd-{}-linux-x86_64.tar.gz",
+    "wqd-{}-oci.tar",
+    "wqd-{}-sources.tar.gz",
     "wqd-{}.cdx.json",
     "wqd-{}.proof",
     "wqd_watchdog-{}-py3-none-any.whl",
@@ -68,6 +68,7 @@ class Released(Case):
             ended = subprocess.run([str(top / "bin" / name), "--version"], stdout=subprocess.PIPE)
             self.same(f"its command {name}", ended.stdout.decode().splitlines(True)[:1], [says])
 
+    @needs("gpg")
     def test_release(self) -> None:
         """It has the packages, the archive, the note and their checksums. Of another program or other sources than the
         proved ones there is none, and none without a publisher."""
@@ -77,6 +78,8 @@ class Released(Case):
         self.check_refused(place, "contrib/publisher says no name, address, security, key, home")
         lines = ["name", "address", "security", "key", "home"]
         (place / "contrib" / "publisher").write_text("".join(f"{line}: {line}@example.com\n" for line in lines))
+        make_key(place, "key@example.com")
+        make_commit(place)
         self.check_refused(place, "is not the one that ./wqd --build proved and built here")
         digest, sources = hashlib.sha256(program).hexdigest(), sources_of(place)
         for said, refusal in (
@@ -110,15 +113,40 @@ class Released(Case):
         pairs = [
             ((self.room / "first" / name).read_bytes(), (self.room / "second" / name).read_bytes()) for name in names
         ]
-        self.check("it is the same each time", all(one == two for one, two in pairs))
+        differ = [name for name, (one, two) in zip(names, pairs) if one != two]
+        self.same("what is not the same each time", differ, ["SHA256SUMS.asc"])
         checked = subprocess.run(
             ["sha256sum", "--check", "--quiet", "SHA256SUMS"], cwd=self.room / "first", stdout=subprocess.PIPE
         )
         self.same("its checksums", (checked.returncode, checked.stdout), (0, b""))
+        self.check_signed(place)
+        self.check_sources(version)
         self.same("its note", (self.room / "first" / f"wqd-{version}.proof").read_text(), note.read_text())
         bill = json.loads((self.room / "first" / f"wqd-{version}.cdx.json").read_text())
         parts = {part["name"] for part in bill["components"]}
         self.check("the parts of the program", {"mio", "memchr", "serde_json"} <= parts, sorted(parts))
+
+    def check_signed(self, place: Path) -> None:
+        """The checksums are signed by the key that the publisher names; without a key nothing is."""
+        sums = self.room / "first" / "SHA256SUMS"
+        words = ["gpg", "--batch", "--verify", f"{sums}.asc", str(sums)]
+        self.same("its signature", built.call(words, env=at_home(place)).status, 0)
+        named = place / "contrib" / "publisher"
+        named.write_text(named.read_text().replace("key: key@example.com", "key: none"))
+        made = release(place, self.room / "unsigned")
+        self.same("without a key", (made.status, (self.room / "unsigned" / "SHA256SUMS.asc").exists()), (0, False))
+
+    def check_sources(self, version: str) -> None:
+        """The sources have the program and its note where the commands look for them."""
+        with tarfile.open(self.room / "first" / f"wqd-{version}-sources.tar.gz") as archive:
+            archive.extractall(self.room / "sources")
+        top = self.room / "sources" / f"wqd-{version}"
+        program = top / "release" / "wqd"
+        said = built.call([str(top / "wqd"), "--program"], env={"PATH": "/usr/bin:/bin", "HOME": str(self.room)})
+        self.same("the program of the sources", said.output.decode(), f"{program}\n")
+        self.check("it is the one of the release", program.read_bytes() == built.program_path().read_bytes())
+        self.same("its mode", program.stat().st_mode & 0o777, 0o755)
+        self.check("its note", (top / "release" / "wqd.proof").read_text().startswith("program "))
 
     def test_each_python(self) -> None:
         """Packages are the same, whichever Python makes them."""
@@ -127,15 +155,15 @@ class Released(Case):
         made = {}
         for number, python in enumerate(python for python in pythons if python.exists()):
             out = self.room / str(number)
-            for kind in ("--debian", "--archive", "--adapters"):
+            for kind in ("--debian", "--archive", "--adapters", "--containers"):
                 words = [str(python), "-IB", str(built.TOP / "package"), kind, str(out)]
                 environment = {**os.environ, "WQD": "/bin/true", "SOURCE_DATE_EPOCH": "1000000000"}
                 self.same(f"{python} {kind}", built.call(words, env=environment).status, 0)
             made[str(python)] = {path.name: hashlib.sha256(path.read_bytes()).hexdigest() for path in out.iterdir()}
         first = next(iter(made.values()))
-        self.same("a package for each tool", len(first), 9)
-        for python, sums in made.items():
-            self.same(f"packages that {python} makes otherwise", {n for n in first if sums.get(n) != first[n]}, set())
+        self.same("a package for each tool", len(first), 11)
+        for maker, sums in made.items():
+            self.same(f"packages that {maker} makes otherwise", {n for n in first if sums.get(n) != first[n]}, set())
 
     def test_notices(self) -> None:
         """The notices are those of the kit, and each library that is MIT alone has its own. Kits of one logic differ in
@@ -156,12 +184,6 @@ def is_new(python: Path) -> bool:
     return int(python.parent.parent.name.split(".")[1]) >= 9
 
 
-def sources_of(place: Path) -> str:
-    """The checksum of the sources in a clone, as `./wqd --build` notes it."""
-    script = '. "$top/contrib/prove.sh"; room=$(mktemp -d); copy_crates "$room" && sources "$room"; rm -rf "$room"'
-    return built.call(["sh", "-c", script], env={**os.environ, "top": str(place)}).output.decode().strip()
-
-
 def unpacked(path: Path, room: Path) -> Path:
     """The place of the archive after the commands that its own README has for that."""
     top = room / "user" / ".local"
@@ -173,35 +195,24 @@ def unpacked(path: Path, room: Path) -> Path:
     return top
 
 
-def make_clone(place: Path) -> bytes:
-    """The sources of a release, with the program in the place to which `./wqd --build` writes it."""
-    bare(place)
-    for name in PARTS:
-        copy(built.TOP / name, place / name)
-    for name in CLIENTS:
-        copy(built.TOP / "clients" / name, place / "clients" / name)
-    copy(built.TOP / "HANDLES", place / "HANDLES")
-    for line in (place / "crates.txt").read_text().splitlines():
-        if not line.startswith("#"):
-            (place / "crates" / line.partition(":")[0] / "src").mkdir(parents=True, exist_ok=True)
-    program = built.program_path().read_bytes()
-    out = place / "crates" / "wqd" / "out"
-    out.mkdir()
-    (out / "wqd").write_bytes(program)
-    (out / "wqd").chmod(0o755)
-    return program
-
-
-def copy(source: Path, target: Path) -> None:
-    if target.exists():
-        return
-    if source.is_dir():
-        shutil.copytree(source, target, ignore=shutil.ignore_patterns("__pycache__", "node_modules"))
-    else:
-        shutil.copy(source, target)
-
-
 def release(place: Path, directory: Path) -> built.Ended:
     words: List[str] = [str(place / "package"), "--release", str(directory)]
-    environment = {"PATH": "/usr/local/bin:/usr/bin:/bin", "HOME": str(place), "SOURCE_DATE_EPOCH": "1000000000"}
-    return built.call(words, env=environment)
+    return built.call(words, env=at_home(place))
+
+
+def at_home(place: Path) -> Dict[str, str]:
+    """The environment of a publisher at home in a clone."""
+    return {"PATH": "/usr/local/bin:/usr/bin:/bin", "HOME": str(place), "SOURCE_DATE_EPOCH": "1000000000"}
+
+
+def make_key(place: Path, name: str) -> None:
+    (place / ".gnupg").mkdir(mode=0o700)
+    words = ["gpg", "--batch", "--quiet", "--passphrase", "", "--quick-gen-key", name, "default", "default", "never"]
+    subprocess.run(words, env=at_home(place), stderr=subprocess.DEVNULL, check=True)
+
+
+def make_commit(place: Path) -> None:
+    (place / ".gitignore").write_text("out/\n.gnupg/\n.cache/\n")
+    author = ["-c", "user.name=a", "-c", "user.email=a@example.com"]
+    for words in (["init", "--quiet"], ["add", "--all"], [*author, "commit", "--quiet", "--message", "all"]):
+        subprocess.run(["git", *words], cwd=place, env=at_home(place), check=True)

@@ -12,7 +12,7 @@ from typing import Dict, List
 import built
 from case import Case
 from client import PATIENCE, Client
-from test_command import bare
+from clones import bare
 from waiting import wait_until
 from wq.compiled import how_far
 
@@ -208,9 +208,9 @@ class Unproved(Case):
             self.same("no kit", missing, built.Ended(words.encode(), b"", 3))
             own = self.room / f"wqd-{os.getuid()}"
             own.mkdir(mode=0o755)
-            words = f"wq: {own}: it is no directory of yours alone\n".encode()
+            says = f"wq: {own}: it is no directory of yours alone\n".encode()
             refused = asking.find(XDG_RUNTIME_DIR="", TMPDIR=str(self.room))
-            self.same("a directory of others", refused, built.Ended(words, b"", 3))
+            self.same("a directory of others", refused, built.Ended(says, b"", 3))
 
     def test_built_meanwhile(self) -> None:
         """A server of a built program is not said to be without proof. One that is there goes on until it is ended."""

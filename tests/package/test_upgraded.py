@@ -7,10 +7,8 @@ from pathlib import Path
 
 from case import Case, needs
 from client import PATIENCE, Client
-from test_installed import UNIT, call, client_of, dpkg, in_debian, install_package, version_of, words_of
-from test_released import make_clone
-
-OLDER = "0.9.0"
+from clones import OLDER, older_package
+from installing import UNIT, call, client_of, dpkg, in_debian, install_package, version_of, words_of
 
 
 class Running:
@@ -61,20 +59,6 @@ class Upgraded(Case):
             self.same("that watches again", (reply["files"], reply["is_fresh_instance"]), (["a.c", "b.c"], True))
         remove()
         self.same("what is left of it", sorted(path.name for path in directory.glob("usr/**/*")), [])
-
-
-def older_package(room: Path) -> Path:
-    """A package of these sources with the number of an earlier version."""
-    place = room / "clone"
-    place.mkdir()
-    make_clone(place)
-    changes = place / "CHANGELOG.md"
-    changes.write_text(changes.read_text().replace(f"## {version_of(room)}", f"## {OLDER}", 1))
-    environment = {"PATH": os.environ["PATH"], "HOME": str(place)}
-    done = subprocess.run(
-        [str(place / "package"), str(room / "old")], stdout=subprocess.PIPE, check=True, env=environment
-    )
-    return Path(done.stdout.decode().strip())
 
 
 def version_in(directory: Path) -> str:
