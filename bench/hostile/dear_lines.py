@@ -10,7 +10,7 @@ from wqprogram.instructions import BY_NAME
 from wqprogram.program_file import Operation, Program, written
 
 LONGEST_LINE = 1_048_576
-NAMES = {"fields": ["name"]}
+NAMES: Dict[str, object] = {"fields": ["name"]}
 ATOMS = 255
 # Nearly as many patterns as the program of one expression holds, and as many as a program of a client's own does.
 PATTERNS = 1_000
@@ -45,7 +45,8 @@ def line(*command: object) -> bytes:
 
 
 def query(root: str, **asked: object) -> bytes:
-    return line("query", root, {"sync_timeout": 0, **NAMES, **asked})
+    keys: Dict[str, object] = {"sync_timeout": 0, **NAMES, **asked}
+    return line("query", root, keys)
 
 
 def filled(begin: str, part: str, end: str) -> bytes:

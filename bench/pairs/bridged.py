@@ -41,7 +41,8 @@ def commands(tree: Tree) -> List[Tuple[str, List[object]]]:
     root = str(tree.root)
 
     def query(**keys: object) -> List[object]:
-        return ["query", root, {"sync_timeout": 0, **keys}]
+        all_keys: Dict[str, object] = {"sync_timeout": 0, **keys}
+        return ["query", root, all_keys]
 
     flat = [{"path": tree.directories[0], "depth": 0}]
     return [

@@ -1,5 +1,6 @@
 """The measures of both servers on one tree, in turn for each measure."""
 
+import contextlib
 import json
 import multiprocessing
 import random
@@ -8,14 +9,13 @@ import subprocess
 import time
 from multiprocessing.synchronize import Event
 from pathlib import Path
-from typing import Callable, Dict, List, NamedTuple
+from typing import Callable, Dict, List, NamedTuple, Tuple
 
 from measured import seconds_of
-from pairs.peers import Peer, watchman, wqd
+from pairs.peers import AS_WQ, Peer, watchman, wqd
 from pairs.tree import Tree
 
 HERE = Path(__file__).resolve().parent
-A_SECOND = 1000
 WRITES_AT_ONCE, WRITE_PAUSE = 20, 0.01
 IDLE = 10.0
 TOLD = 6
@@ -79,18 +79,12 @@ class Run:
         self.peers: List[Peer] = []
 
     def run(self) -> None:
-        self.peers = [watchman(self.room), wqd(self.room)]
+        self.peers = [watchman(self.room), wqd(self.room, AS_WQ)]
         try:
             self.each(self.first_answer)
             self.queries()
             self.since()
             self.each(self.hostile)
-        finally:
-            self.end()
-        self.peers = [watchman(self.room), wqd(self.room, A_SECOND)]
-        try:
-            for peer in self.peers:
-                self.watch(peer)
             self.under_churn()
             self.each(self.write_to_list)
             self.idle()
@@ -128,13 +122,14 @@ class Run:
         digits = ["match", "**/*[0-9]_[0-9]*7?.?", "wholename"]
         heavy = ["allof", ["type", "f"], some, ["not", none], ["size", "gt", 32], digits]
         listed = ["name", self.tree.files[:: max(1, len(self.tree.files) // LISTED)][:LISTED], "wholename"]
-        for name, query in (
+        queries: List[Tuple[str, Dict[str, object]]] = [
             ("names", {"fields": ["name"]}),
             ("four fields", {"fields": ["name", "exists", "new", "size"]}),
             ("suffix", {"suffix": ["md"], "fields": ["name"]}),
             ("heavy expression", {"expression": heavy, "fields": ["name"]}),
             (f"{LISTED:,} whole names", {"expression": listed, "fields": ["name"]}),
-        ):
+        ]
+        for name, query in queries:
             self.each(lambda peer: self.median(name, peer, query, 1))
         # A directory's own entries, with an eighth of the tree below it.
         entries = {"path": [{"path": self.tree.directories[0], "depth": 0}], "fields": ["name"]}
@@ -228,13 +223,16 @@ class Run:
             self.results.add(Measure("write to answer", "ms"), peer.name, statistics.median(answered))
 
     def idle(self) -> None:
-        """Processor time of both while nothing happens, at wqd's interval by default."""
-        time.sleep(2)
-        before, began = {peer.name: peer.processor_seconds() for peer in self.peers}, time.monotonic()
-        time.sleep(IDLE)
-        for peer in self.peers:
-            used = (peer.processor_seconds() - before[peer.name]) / (time.monotonic() - began)
-            self.results.add(Measure("idle", "%"), peer.name, used * 100)
+        """Processor time of both while nothing happens and a client is connected. Without one wqd scans nothing."""
+        with contextlib.ExitStack() as connected:
+            for peer in self.peers:
+                connected.enter_context(peer.client())
+            time.sleep(2)
+            before, began = {peer.name: peer.processor_seconds() for peer in self.peers}, time.monotonic()
+            time.sleep(IDLE)
+            for peer in self.peers:
+                used = (peer.processor_seconds() - before[peer.name]) / (time.monotonic() - began)
+                self.results.add(Measure("idle", "%"), peer.name, used * 100)
 
 
 def write_on(root: str, files: List[str], is_over: Event) -> None:

@@ -6,7 +6,7 @@ import subprocess
 import sys
 import time
 from pathlib import Path
-from typing import List, Optional
+from typing import List, Optional, Sequence
 
 TOP = Path(__file__).resolve().parent.parent.parent
 sys.path[:0] = [str(TOP / "clients")]
@@ -18,6 +18,9 @@ from wqclient.lines import Ended
 PATIENCE = 300.0
 TICKS = os.sysconf("SC_CLK_TCK")
 AN_HOUR = 3_600_000
+# As `wq` and the systemd unit start wqd: often, for at most a tenth of a processor, with as many workers as there are
+# processors, at most four.
+AS_WQ = ["--interval", "100", "--share", "10", "--workers", str(min(4, os.cpu_count() or 1))]
 # The variables that ./wqd adds to the environment.
 MALLOC = {
     "MALLOC_ARENA_MAX": "2",
@@ -98,7 +101,7 @@ def watchman(room: Path) -> Peer:
     return Peer("watchman", words, f"{room}/w", room)
 
 
-def wqd(room: Path, interval: int = AN_HOUR, *more: str) -> Peer:
+def wqd(room: Path, setting: Sequence[str] = ("--interval", str(AN_HOUR))) -> Peer:
     program = os.environ.get("WQD") or str(TOP / "crates" / "wqd" / "out" / "wqd")
     words = [
         program,
@@ -109,9 +112,7 @@ def wqd(room: Path, interval: int = AN_HOUR, *more: str) -> Peer:
         str(int(time.time())),
         "--pid",
         str(os.getpid()),
-        "--interval",
-        str(interval),
-        *more,
+        *setting,
     ]
     return Peer("wqd", words, f"{room}/q", room)
 

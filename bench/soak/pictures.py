@@ -9,7 +9,7 @@ import sys
 import threading
 import time
 from pathlib import Path
-from typing import Callable, List, Set
+from typing import Callable, Dict, List, Set
 
 TESTS = Path(__file__).resolve().parent.parent.parent / "tests"
 sys.path[:0] = [str(TESTS), str(TESTS / "server")]
@@ -82,7 +82,7 @@ class Asker(Keeper):
         self.ask({})
 
     def ask(self, more: dict) -> None:
-        query = {"fields": FIELDS, **more}
+        query: Dict[str, object] = {"fields": FIELDS, **more}
         if self.clock:
             query["since"] = self.clock
         began = time.monotonic()
