@@ -13,6 +13,7 @@ import socket
 import struct
 import sys
 from pathlib import Path
+from typing import Dict
 
 
 class Client:
@@ -62,7 +63,7 @@ def main() -> None:
     except OSError as error:
         sys.exit(f"{default_sockname()}: {error.strerror}; `wq start` starts a server")
     root = os.path.realpath(sys.argv[1])
-    query = {"fields": ["name", "exists"]}
+    query: Dict[str, object] = {"fields": ["name", "exists"]}
     if len(sys.argv) > 2:
         text = base64.b64encode(Path(sys.argv[2]).read_bytes()).decode()
         client.ask("program-add", "example", text)
