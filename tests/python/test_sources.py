@@ -7,7 +7,7 @@ import sys
 import unittest
 from collections import Counter
 from pathlib import Path
-from typing import Any, Callable, Iterator, List, Sequence, Union
+from typing import Any, Callable, Dict, Iterator, List, Sequence, Union
 
 import built
 from case import Case
@@ -56,11 +56,6 @@ def faults_of_types(words: Sequence[Union[str, Path]], path: Sequence[Path]) -> 
     return [line for line in lines if ": note: " not in line]
 
 
-def is_typed(line: str) -> bool:
-    """Whether a line of mypy is about what has to be without a fault."""
-    return not line.startswith(tuple(f"{path}/" for path in words_of("not-yet-typed")))
-
-
 def long_in(text: str) -> Iterator[str]:
     """What is too long in a source."""
     lines = text.splitlines()
@@ -98,8 +93,17 @@ class Sources(Case):
         """Tests, and the modules that they use."""
         files = [path for path in sources() if path.suffix == ".py" and TESTS in path.parents]
         rooms = sorted({path.parent for path in files})
-        found = faults_of_types(files, [*rooms, CLIENTS, CLIENTS / "watchdog", built.TOP / "contrib"])
-        self.assertEqual(list(filter(is_typed, found)), [])
+        self.same("tests", faults_of_types(files, [*rooms, CLIENTS, CLIENTS / "watchdog", built.TOP / "contrib"]), [])
+
+    @needs("mypy")
+    def test_types_of_scripts(self) -> None:
+        """Benches, scripts of pages and of releases: those of each directory together, since some have one name."""
+        rooms: Dict[Path, List[Path]] = {}
+        for path in sources():
+            if not {TESTS, CLIENTS} & {*path.parents}:
+                rooms.setdefault(path.parent, []).append(path)
+        for room, files in rooms.items():
+            self.same(str(room.relative_to(built.TOP)), faults_of_types(["--scripts-are-modules", *files], []), [])
 
     def test_modules(self) -> None:
         """No two modules on the path of the tests have one name."""
@@ -107,8 +111,8 @@ class Sources(Case):
         self.assertEqual([name for name, count in Counter(names).items() if count > 1], [])
 
     def test_helpers(self) -> None:
-        """No module of tests imports from another one, but for the parts that the settings name."""
+        """No module of tests imports from another one."""
         for path in sources():
             name = str(path.relative_to(built.TOP))
-            if TESTS in path.parents and is_typed(name):
+            if TESTS in path.parents:
                 self.same(name, re.findall(r"^ *(?:from|import) (test_\w+)", path.read_text("utf-8"), re.M), [])

@@ -81,8 +81,9 @@ class Names(Beside):
             text_of(out, lambda text: text)
             expected = ["-fixed", *sorted(f"./{name}" for name in HOSTILE)]
             self.same("names of a trigger", sorted(names_in(out.read_bytes())), sorted(expected))
-            shown = scene.wq("triggers").output.decode()
-            self.same("the trigger as it was written", (shown[:3], shown.endswith(" sh -fixed {}\n")), ("t: ", True))
+            shown, files = scene.wq("triggers").output.decode().splitlines()
+            self.same("the trigger as it was written", (shown[:3], shown.endswith(" sh -fixed {}")), ("t: ", True))
+            self.same("its files", files, "  for . '/*.c'")
             self.same("its status", " sh -fixed {}" in scene.wq("status").output.decode(), True)
 
     def test_names_of_watchman(self) -> None:
