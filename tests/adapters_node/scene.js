@@ -35,9 +35,18 @@ function tree(name, files) {
   return root;
 }
 
+/**
+ * Writes a file, or makes a directory if the name ends in a slash. A file that is there is not emptied first: a scan between
+ * the two would tell of two changes.
+ */
 function put(file, content = path.basename(file)) {
   fs.mkdirSync(file.endsWith('/') ? file : path.dirname(file), { recursive: true });
-  if (!file.endsWith('/')) fs.writeFileSync(file, content);
+  if (file.endsWith('/')) return;
+  const bytes = Buffer.from(content);
+  const handle = fs.openSync(file, fs.constants.O_WRONLY | fs.constants.O_CREAT, 0o666);
+  fs.writeSync(handle, bytes, 0, bytes.length, 0);
+  if (fs.fstatSync(handle).size > bytes.length) fs.ftruncateSync(handle, bytes.length);
+  fs.closeSync(handle);
 }
 
 /** A watcher and the events that it emitted, as texts such as `add a.txt`, with names from a directory on. */
