@@ -8,7 +8,6 @@ from typing import Callable, List, Sequence
 
 from case import Case, needs
 from client import PATIENCE, Server
-from judged.served import Served
 from judged.tools import (
     DETECTED,
     MKDOCS,
@@ -134,11 +133,10 @@ class Tools(Case):
         """mkdocs notices a save soon, though each call takes long and a scan by one thread several times as long."""
         source = make_project(self.room / "project", SOURCES)
         os.environ.update(WQD_SOCK=str(self.room / "socket"), XDG_STATE_HOME=str(self.room))
-        server = Served(str(self.room / "socket"), delayed(OF_SERVER))
         try:
-            self.check_slow_saves([*delayed(OF_TOOL), *by_server(MKDOCS), *mkdocs_words()], source)
+            with Server(self.room, interval=100, share=10, through=delayed(OF_SERVER)):
+                self.check_slow_saves([*delayed(OF_TOOL), *by_server(MKDOCS), *mkdocs_words()], source)
         finally:
-            server.kill()
             del os.environ["WQD_SOCK"], os.environ["XDG_STATE_HOME"]
 
     def check_slow_saves(self, command: Sequence[str], source: Path) -> None:

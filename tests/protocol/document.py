@@ -16,12 +16,12 @@ In marks `{{TEXT*N}}` is the text, N times.
 import re
 from typing import Dict, Iterator, List, NamedTuple, Optional
 
+from rows import expand
 from sessions import Room
 
 COMMENT = re.compile(r"<!--(.*?)-->", re.DOTALL)
 CODE = re.compile(r"`([^`]+)`")
 ERROR = re.compile(r"`(E[0-9]+): ([^`]+)`")
-REPEATED = re.compile(r"\{\{(.*?)\*([0-9]+)\}\}", re.DOTALL)
 
 
 class Element(NamedTuple):
@@ -41,10 +41,6 @@ class Page(NamedTuple):
     scripts: Dict[str, List[str]]
     errors: Dict[str, str]
     room: Room
-
-
-def expand(text: str) -> str:
-    return REPEATED.sub(lambda found: found.group(1) * int(found.group(2)), text)
 
 
 def read_page(text: str) -> Page:
