@@ -47,7 +47,7 @@ abbrev pub TakesEvent : List Event → Event → List Event → Type 0
 TakesEvent before event after =
     (after ≡ before ++ event ∷ []) ⊎ ((after ≡ before) × (of_client event ≡ []))
 
--- whose turn it is: that of a moment that is due, or of an event of the client that waits; or the
+-- the next turn is that of a moment that is due, or of an event of the client that waits; or the
 -- queue is closed. It is nobody's only if there is neither
 abbrev pub TakesNext : Coming → Option Turn → Coming → Type 0
 TakesNext before (Some (Moment number)) after =
