@@ -13,9 +13,8 @@ from typing import Callable, Dict, Iterator, List, NamedTuple
 
 import built
 from reading import Block, Command, commands_of, is_as_shown
-from waiting import look_until, wait_until
+from waiting import PATIENCE, look_until, wait_until
 
-PATIENCE = 60.0
 PAUSE = 0.05
 # So long a client gets to ask for what it wants to hear of, before others change something.
 BEGINNING = 1.0
@@ -52,7 +51,7 @@ class Begun:
     def next_output(self, expected: List[str]) -> str:
         """What was written since the last look, when it is what is expected, or after a long time."""
         text = look_until(
-            lambda: self.log.read_text(encoding="utf-8")[self.seen :], lambda text: is_as_shown(text, expected)
+            lambda: self.log.read_text(encoding="utf-8")[self.seen :], lambda text: is_as_shown(once(text), expected)
         )
         self.seen += len(text)
         return text
@@ -148,7 +147,7 @@ class Terminal:
 
     def then(self, name: str, lines: List[str]) -> Iterator[Done]:
         written = self.begun[name].next_output(lines)
-        yield Done(f"{name} goes on", is_as_shown(written, lines), lines, written)
+        yield Done(f"{name} goes on", is_as_shown(once(written), lines), lines, written)
 
     def interrupts(self, name: str, _: List[str]) -> Iterator[Done]:
         status = self.begun[name].interrupt()
@@ -173,6 +172,13 @@ class Terminal:
         )
         self.directory = note.read_text().rstrip("\n") if note.exists() else self.directory
         return ended.stdout.decode("utf-8", "backslashreplace")
+
+
+def once(written: str) -> str:
+    """What was written, with one of equal lines that follow one another: a shell empties a file before it writes it, and
+    a scan may come between."""
+    lines = written.splitlines(keepends=True)
+    return "".join(line for line, before in zip(lines, ["", *lines]) if line != before)
 
 
 def done(command: Command, written: str) -> Done:
