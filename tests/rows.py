@@ -12,6 +12,7 @@ import json
 import re
 from pathlib import Path
 from typing import Any, Dict, List, NamedTuple
+from urllib.parse import unquote_to_bytes
 
 REPEATED = re.compile(r"\{\{(.*?)\*([0-9]+)\}\}", re.DOTALL)
 HEADLINE, ARROW = "== ", " => "
@@ -20,6 +21,13 @@ HEADLINE, ARROW = "== ", " => "
 class Row(NamedTuple):
     given: str
     expected: str
+
+    def data(self) -> bytes:
+        """The bytes that are given, of which `%ff` is one."""
+        return unquote_to_bytes(self.given)
+
+    def text(self) -> str:
+        return self.data().decode()
 
     def value(self) -> Any:
         """What is given, which is JSON."""
