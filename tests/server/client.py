@@ -133,6 +133,7 @@ class Server:
         through: Sequence[str] = (),
         workers: Optional[int] = None,
         share: Optional[int] = None,
+        quiet_after: Optional[int] = None,
     ) -> None:
         self.sockname = str(room / "socket")
         self.said = tempfile.TemporaryFile()
@@ -143,6 +144,8 @@ class Server:
             words += ["--workers", str(workers)]
         if share is not None:
             words += ["--share", str(share)]
+        if quiet_after is not None:
+            words += ["--quiet-after", str(quiet_after)]
         if is_plain:
             through = [sys.executable, str(PLAIN)]
         command = [*through, str(built.program_path()), *words]
