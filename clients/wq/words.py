@@ -170,6 +170,12 @@ NUMBERS = [
     value(
         "--share", metavar="P", type=within(1, 100), help="scans take at most P percent of one processor [default: 10]"
     ),
+    value(
+        "--quiet-after",
+        metavar="S",
+        type=within(0, 86_400),
+        help="after S seconds without a change or a request, scan less; 0 is never [default: 600]",
+    ),
     value("--workers", metavar="N", type=within(1, 16, "auto"), help="use N threads for a query [default: auto]"),
 ]
 WORDS = value("words", metavar="WORD", nargs="*", default=[], help=argparse.SUPPRESS)

@@ -61,7 +61,7 @@ class Begun:
     def next_output(self, expected: List[str]) -> str:
         """What was written since the last look, when it is what is expected, or after a long time."""
         text = look_until(
-            lambda: self.log.read_text(encoding="utf-8")[self.seen :], lambda text: is_as_shown(text, expected)
+            lambda: self.log.read_text(encoding="utf-8")[self.seen :], lambda text: is_as_shown(once(text), expected)
         )
         self.seen += len(text)
         return text
@@ -152,7 +152,7 @@ class Terminal(Shell):
 
     def then(self, name: str, lines: List[str]) -> Iterator[Done]:
         written = self.begun[name].next_output(lines)
-        yield Done(f"{name} goes on", is_as_shown(written, lines), lines, written)
+        yield Done(f"{name} goes on", is_as_shown(once(written), lines), lines, written)
 
     def interrupts(self, name: str, _: List[str]) -> Iterator[Done]:
         status = self.begun[name].interrupt()
@@ -161,6 +161,13 @@ class Terminal(Shell):
     def file(self, name: str, lines: List[str]) -> Iterator[Done]:
         self.write(name, lines)
         return iter(())
+
+
+def once(written: str) -> str:
+    """What was written, with one of equal lines that follow one another: a shell empties a file before it writes it, and
+    a scan may come between."""
+    lines = written.splitlines(keepends=True)
+    return "".join(line for line, before in zip(lines, ["", *lines]) if line != before)
 
 
 def done(command: Command, written: str) -> Done:
