@@ -7,6 +7,7 @@ import os
 import pty
 import re
 import select
+import shlex
 import signal
 import subprocess
 import time
@@ -16,6 +17,7 @@ from typing import Any, Callable, Dict, List, NamedTuple, Optional, Sequence, Tu
 import built
 from case import Case
 from client import PATIENCE, Client
+from rows import Row, tables
 from waiting import wait_until
 
 COMMAND = str(built.TOP / "wq")
@@ -118,6 +120,24 @@ class Scene:
         """The tick of a root: how often its files changed."""
         with self.client() as client:
             return int(client.ask("clock", str(root or self.tree), {"sync_timeout": 1})["clock"].rsplit(":", 1)[1])
+
+
+def check_names(case: Case, scene: Scene, table: str) -> None:
+    """Calls of calls.rows print these names, and say nothing else."""
+    for row in calls(scene, table):
+        expected = "".join(f"{name}\n" for name in shlex.split(row.expected))
+        ended = built.Ended(expected.encode(), b"", 0 if expected else 1)
+        case.same(f"wq {row.given}", scene.wq(*row.words()), ended)
+
+
+def check_wrong(case: Case, scene: Scene, table: str) -> None:
+    """Calls of calls.rows are refused with these words."""
+    for row in calls(scene, table):
+        wrong(case, scene, row.words(), row.expected)
+
+
+def calls(scene: Scene, table: str) -> List[Row]:
+    return tables(Path(__file__).with_name("calls.rows"), TREE=str(scene.tree))[table]
 
 
 def without_delays(errors: bytes) -> bytes:
