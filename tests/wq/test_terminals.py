@@ -12,6 +12,7 @@ from scene import INTERVAL, Scene, at_terminal, called_at_terminal, said, wrong
 from stand_ins import answering, stand_in
 from wq.examples import EXAMPLES
 from wq.statuses import HANDED, statuses_of
+from wq.terminal import fitted
 from wq.trouble import WrongWords
 from wq.usage import USAGE
 from wq.words import FORMS, options_of, read
@@ -188,6 +189,15 @@ class Terminals(Beside):
                 fault = str(error)
             self.same(f"the words of {example.line}", (words[:2], fault), (["wq", command], ""))
 
+    def check_narrow(self, scene: Scene, looks: str) -> None:
+        """A terminal takes back one row alone, so a line that is longer than a row is cut before its time."""
+        shown = at_terminal(scene, "find", NO_COLOR="1", columns=60)
+        begin, end = f"wq: {looks}"[:43], "..., 1 s so far "
+        self.check("a crawl at a narrow terminal", f"\r{begin}{end}\r" in shown, [shown])
+        self.same("its width", (len(begin + end) < 60, fitted("wq: 木木木", ", 1 s", 14)), (True, "wq: ..., 1 s"))
+        for columns, text in ((0, "wq: 木木木, 1 s"), (16, "wq: 木木木, 1 s"), (15, "wq: 木..., 1 s")):
+            self.same(f"wide letters in {columns} columns", fitted("wq: 木木木", ", 1 s", columns), text)
+
     def test_no_directory_of_socket(self) -> None:
         """The directory of the socket is missing: that is what is told, and not a file of wq in it."""
         with Scene(self.room, starts=False) as scene:
@@ -215,6 +225,8 @@ class Terminals(Beside):
                 f"\rwq: {looks}, 1 s so far" in shown and f"{looks}, 2 s so far" in shown,
                 [shown],
             )
+            self.same("how long it took, at a terminal", shown.splitlines()[-1].rpartition(":")[0], f"\x1b[Kwq: {looks}")
+            self.check_narrow(scene, looks)
             with scene.begin("find") as going:
                 self.check("a crawl that goes on", going.says(looks.partition(",")[0]))
                 began = time.monotonic()
