@@ -34,7 +34,9 @@ class Bytecode(Beside):
                 ended = scene.wq("sockname", XDG_CACHE_HOME=str(cache))
                 self.same(f"{part} is there", (ended.status, ended.errors), (1, b""))
                 again = {path: path.read_bytes() for path in whole}
-                self.same(f"{part} is there: as before", [path.name for path in whole if again[path] != whole[path]], [])
+                self.same(
+                    f"{part} is there: as before", [path.name for path in whole if again[path] != whole[path]], []
+                )
 
     def test_no_space(self) -> None:
         """No space is left for bytecode: Python keeps parts, and wq answers, then and later."""

@@ -225,7 +225,9 @@ class Terminals(Beside):
                 f"\rwq: {looks}, 1 s so far" in shown and f"{looks}, 2 s so far" in shown,
                 [shown],
             )
-            self.same("how long it took, at a terminal", shown.splitlines()[-1].rpartition(":")[0], f"\x1b[Kwq: {looks}")
+            self.same(
+                "how long it took, at a terminal", shown.splitlines()[-1].rpartition(":")[0], f"\x1b[Kwq: {looks}"
+            )
             self.check_narrow(scene, looks)
             with scene.begin("find") as going:
                 self.check("a crawl that goes on", going.says(looks.partition(",")[0]))
