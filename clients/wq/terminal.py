@@ -31,8 +31,13 @@ def say(text: str, colour: Optional[str] = None) -> None:
     if sys.stderr is None:
         return
     line = f"wq: {harmless(text)}"
-    sys.stderr.buffer.write(painted(line, colour, sys.stderr).encode("utf-8", "backslashreplace") + b"\n")
-    sys.stderr.buffer.flush()
+    try:
+        sys.stderr.buffer.write(painted(line, colour, sys.stderr).encode("utf-8", "backslashreplace") + b"\n")
+        sys.stderr.buffer.flush()
+    except BrokenPipeError:
+        raise
+    except OSError:
+        pass  # such as a log on a full file system, which is no reason to end
 
 
 def is_terminal(stream: Optional[IO[str]]) -> bool:
