@@ -2,6 +2,7 @@
 
 import argparse
 import re
+import sys
 from typing import Any, Callable, Dict, List, NamedTuple, NoReturn, Optional, Tuple
 
 from .trouble import WrongWords
@@ -33,6 +34,11 @@ class Parser(argparse.ArgumentParser):
     def error(self, message: str) -> NoReturn:
         message = NO_VALUE.sub(r"\1 takes a value, and has none", message)
         raise WrongWords(f"{message}; see `{self.prog} --help`")
+
+    def print_help(self, file: Any = None) -> None:
+        """Written at once, so that an output that is full is heard of."""
+        sys.stdout.write(self.format_help())
+        sys.stdout.flush()
 
     def format_help(self) -> str:
         from . import examples, statuses
@@ -275,7 +281,7 @@ FORMS: Dict[str, Form] = {
         "[DIR|GLOB]...",
         "print what changed since this was last asked: + came, - went, ~ changed",
         [
-            value("-n", "--name", metavar="NAME", default="", help="ask under a name, which has its own place in time"),
+            value("-n", "--name", metavar="NAME", help="ask under a name, which has its own place in time"),
             *SEARCHING,
             *IGNORING,
             DIRS,
@@ -351,7 +357,7 @@ FORMS: Dict[str, Form] = {
     ),
     "trigger": Form(
         "NAME [DIR|GLOB]... -- COMMAND...",
-        "have the server run a command in the root after changes",
+        "have the server run a command in the root, now and after changes",
         [
             *NARROWING,
             flag("--stdin", help="write the names as lines to the standard input of COMMAND"),
