@@ -1,0 +1,240 @@
+"""File systems that are mounted for a measurement, and the row of each: what inotify and Watchman hear of three changes
+behind the mount, how late the mount itself shows one, the first watch, a query that scans, the notice of a change and
+the load of wqd, and whether its list is that of `find`."""
+
+import contextlib
+import os
+import shutil
+import statistics
+import subprocess
+import tempfile
+import time
+from pathlib import Path
+from typing import Callable, Dict, Iterator, List, NamedTuple, Tuple
+
+from measured import seconds_of
+from pairs.peers import AS_WQ, Client, Peer, watchman, wqd
+from pairs.tree import Tree, make_tree
+
+HEAD = ["file system", "inotify, Watchman", "shown after", "first watch", "query", "notice", "load", "as `find`"]
+# So long, in seconds, a change may take to show.
+LONGEST = 60.0
+REST = 6.0
+
+
+class Missing(Exception):
+    """It cannot be mounted here, for this reason."""
+
+
+class Mount(NamedTuple):
+    """Where it is mounted, and where its files change without the kernel's knowledge."""
+
+    root: Path
+    behind: Path
+
+
+Mounting = Callable[[Path], Iterator[Mount]]
+
+
+def run(*words: object) -> None:
+    try:
+        ended = subprocess.run([*map(str, words)], stdin=subprocess.DEVNULL, capture_output=True, timeout=60)
+    except FileNotFoundError:
+        raise Missing(f"{words[0]} is not installed") from None
+    if ended.returncode:
+        raise Missing((ended.stderr or ended.stdout).decode(errors="replace").strip().split("\n")[-1])
+
+
+def made(room: Path, *names: str) -> List[Path]:
+    for name in names:
+        (room / name).mkdir()
+    return [room / name for name in names]
+
+
+def by_mount(kind: str, options: str, behind: str) -> Mounting:
+    """One that `mount` mounts, with its files in the directory `behind`; `{}` in the options is the room."""
+
+    def mounted(room: Path) -> Iterator[Mount]:
+        root, *_ = made(room, "root", "one", "two", "work")
+        source = room / "one" if kind == "bind" else "none"
+        how = ["--bind"] if kind == "bind" else ["-t", kind, "-o", options.replace("{}", str(room))]
+        run("mount", *how, source, root)
+        try:
+            yield Mount(root, room / behind)
+        finally:
+            run("umount", root)
+
+    return mounted
+
+
+def by_command(*words: str) -> Mounting:
+    """One that a command mounts; `{}` in its words is the room, `root` and `one` are there."""
+
+    def mounted(room: Path) -> Iterator[Mount]:
+        root, one = made(room, "root", "one")
+        run(*(word.replace("{}", str(room)) for word in words))
+        end = time.monotonic() + 10
+        while not os.path.ismount(root) and time.monotonic() < end:
+            time.sleep(0.05)
+        try:
+            yield Mount(root, one)
+        finally:
+            run("umount", root)
+
+    return mounted
+
+
+def table(mounts: Dict[str, Mounting], names: List[str], entries: int, turns: int, load: float) -> None:
+    """Prints the rows of these file systems, or of all, behind a head with the load of the machine."""
+    moment = time.strftime("%Y-%m-%d %H:%M", time.gmtime())
+    print(f"{moment}, Linux {os.uname().release}, load {load:.1f}, {entries:,} entries, seconds\n")
+    print(f"| {' | '.join(HEAD)} |\n|{'---|' * len(HEAD)}", flush=True)
+    for name in names or mounts:
+        with tempfile.TemporaryDirectory() as path:
+            try:
+                cells = row(Path(path).resolve(), mounts[name], entries, turns)
+            except Missing as reason:
+                cells = [f"not here: {reason}", *[""] * (len(HEAD) - 2)]
+            print(f"| {name} | {' | '.join(cells)} |", flush=True)
+
+
+def row(room: Path, mounting: Mounting, entries: int, turns: int) -> List[str]:
+    """The cells of a file system, but for its name."""
+    with contextlib.contextmanager(mounting)(room) as mount:
+        tree = make_tree(mount.behind / "tree", entries)
+        time.sleep(1.2)
+        return [heard(room, mount, tree), shown(mount, tree), *of_wqd(room, mount, tree, turns)]
+
+
+def changes(mount: Mount, tree: Tree, label: str) -> List[str]:
+    """Three changes behind the mount: a file that is written, one that is new and one that goes."""
+    names = [tree.files[40], f"{label}.c", tree.files[50 if label == "inotify" else 52]]
+    append(mount, names[0])
+    (mount.behind / "tree" / names[1]).write_text("new")
+    (mount.behind / "tree" / names[2]).unlink()
+    return names
+
+
+def append(mount: Mount, name: str) -> None:
+    with (mount.behind / "tree" / name).open("ab") as file:
+        file.write(b"y")
+
+
+def heard(room: Path, mount: Mount, tree: Tree) -> str:
+    """Of three changes how many inotify hears, and then how many of three others Watchman."""
+    return f"{by_inotify(room, mount, tree)}, {by_watchman(room, mount, tree)}"
+
+
+def by_inotify(room: Path, mount: Mount, tree: Tree) -> str:
+    if not shutil.which("inotifywait"):
+        return "-"
+    log = room / "inotify.log"
+    words = ["inotifywait", "-m", "-r", "-q", "-o", str(log), str(mount.root)]
+    with subprocess.Popen(words) as process:
+        time.sleep(2)
+        names = changes(mount, tree, "inotify")
+        time.sleep(3)
+        process.terminate()
+    text = log.read_text() if log.exists() else ""
+    return str(sum(name.rsplit("/", 1)[-1] in text for name in names))
+
+
+def by_watchman(room: Path, mount: Mount, tree: Tree) -> str:
+    if not shutil.which("watchman"):
+        return "-"
+    server, root = watchman(room), str(mount.root)
+    try:
+        with server.client() as client:
+            client.ask("watch", root)
+            clock = client.ask("clock", root, {"sync_timeout": 20_000})["clock"]
+            names = changes(mount, tree, "watchman")
+            time.sleep(3)
+            found = str(client.ask("query", root, {"since": clock, "fields": ["name"]})["files"])
+            return str(sum(name in found for name in names))
+    finally:
+        server.end()
+
+
+def shown(mount: Mount, tree: Tree) -> str:
+    """How long the mount itself shows the old size of a file that was looked at just before."""
+    name = tree.files[70]
+    path = mount.root / "tree" / name
+    size = os.stat(path).st_size
+    append(mount, name)
+    began = time.monotonic()
+    while os.stat(path).st_size == size:
+        if time.monotonic() - began > LONGEST:
+            return f"over {LONGEST:.0f}"
+        time.sleep(0.02)
+    return f"{time.monotonic() - began:.1f}"
+
+
+def of_wqd(room: Path, mount: Mount, tree: Tree, turns: int) -> List[str]:
+    """The first watch, a query that scans, the notices of a change, and the load, with what `wq` takes; at last whether
+    the list is right."""
+    server = wqd(room, AS_WQ)
+    try:
+        with server.client() as client:
+            root = str(mount.root)
+            watch = seconds_of(lambda: client.ask("watch", root))
+            query = statistics.median(
+                seconds_of(lambda: client.ask("query", root, {"suffix": "none"})) for _ in "12345"
+            )
+            client.ask("subscribe", root, "s", {"fields": ["name"]})
+            client.next_list()
+            times = [f"{watch:.2f}", f"{query:.3f}", noticed(client, mount, tree, turns), load(server)]
+            return [*times, as_find(client, mount)]
+    finally:
+        server.process.kill()
+        server.process.wait()
+
+
+def noticed(client: Client, mount: Mount, tree: Tree, turns: int) -> str:
+    """The seconds from a write to its list, the median and the worst, of a file that changed lately."""
+    name, found = tree.files[80], []
+    for turn in range(turns + 1):
+        time.sleep(0.3 + 0.17 * turn)
+        append(mount, name)
+        found.append(seconds_of(lambda: next_of(client, f"tree/{name}")))
+    return f"{statistics.median(found[1:]):.2f} ({max(found[1:]):.2f})"
+
+
+def next_of(client: Client, name: str) -> None:
+    """Waits for the list with this name."""
+    while name not in str(client.next_list()["files"]):
+        pass
+
+
+def load(server: Peer) -> str:
+    """The part of a processor that the server takes while nothing changes."""
+    time.sleep(1.5)
+    before = server.processor_seconds()
+    time.sleep(REST)
+    return f"{(server.processor_seconds() - before) / REST * 100:.1f} %"
+
+
+Rows = Dict[str, Tuple[str, int, int]]
+
+
+def as_find(client: Client, mount: Mount) -> str:
+    """Whether a list says of each file what `find` says before it, or after it: a mount may show something new between
+    the two."""
+    before = found_in(mount.root)
+    asked = {"expression": "exists", "fields": ["name", "type", "size", "mtime_ms"]}
+    files = client.ask("query", str(mount.root), asked)["files"]
+    after = found_in(mount.root)
+    assert isinstance(files, list)
+    listed: Rows = {file["name"]: (file["type"], file["size"], file["mtime_ms"]) for file in files}
+    names = {*before, *listed, *after}
+    wrong = sum(listed.get(name) not in (before.get(name), after.get(name)) for name in names)
+    return f"no: {wrong:,} of {len(names):,}" if wrong else "yes"
+
+
+def found_in(root: Path) -> Rows:
+    """The kind, the size and the milliseconds of each file, as `find` says them."""
+    words = ["find", str(root), "-mindepth", "1", "-printf", "%P\\0%y\\0%s\\0%T@\\0"]
+    fields = subprocess.run(words, stdout=subprocess.PIPE, check=True).stdout.decode().split("\0")
+    return {
+        name: (kind, int(size), int(seconds.replace(".", "")[: seconds.index(".") + 3]))
+        for name, kind, size, seconds in zip(*(fields[at:-1:4] for at in range(4)))
+    }
