@@ -1,6 +1,6 @@
 """File systems that are mounted for a measurement, and the row of each: what inotify and Watchman hear of three changes
-behind the mount, how late the mount itself shows one, the first watch, a query that scans, the notice of a change and
-the load of wqd, and whether its list is that of `find`."""
+behind the mount, how late the mount itself and a scan show one, the first watch, a query that scans, the notice of a
+change and the load of wqd, and whether its list is that of `find`."""
 
 import contextlib
 import os
@@ -16,7 +16,17 @@ from measured import seconds_of
 from pairs.peers import AS_WQ, Client, Peer, watchman, wqd
 from pairs.tree import Tree, make_tree
 
-HEAD = ["file system", "inotify, Watchman", "shown after", "first watch", "query", "notice", "load", "as `find`"]
+HEAD = [
+    "file system",
+    "inotify, Watchman",
+    "shown after",
+    "a scan sees",
+    "first watch",
+    "query",
+    "notice",
+    "load",
+    "as `find`",
+]
 # So long, in seconds, a change may take to show.
 LONGEST = 60.0
 REST = 6.0
@@ -157,21 +167,42 @@ def by_watchman(room: Path, mount: Mount, tree: Tree) -> str:
 
 def shown(mount: Mount, tree: Tree) -> str:
     """How long the mount itself shows the old size of a file that was looked at just before."""
-    name = tree.files[70]
-    path = mount.root / "tree" / name
+    path = mount.root / "tree" / tree.files[70]
     size = os.stat(path).st_size
-    append(mount, name)
+    append(mount, tree.files[70])
+    return until(lambda: os.stat(path).st_size != size)
+
+
+def until(is_shown: Callable[[], bool]) -> str:
     began = time.monotonic()
-    while os.stat(path).st_size == size:
+    while not is_shown():
         if time.monotonic() - began > LONGEST:
             return f"over {LONGEST:.0f}"
         time.sleep(0.02)
     return f"{time.monotonic() - began:.1f}"
 
 
+def seen(client: Client, mount: Mount, tree: Tree) -> str:
+    """How long a query that scans does not list a file that is written, then one that is new, then one that goes."""
+    behind, times = mount.behind / "tree", []
+    (directory, _), root = os.path.split(tree.files[71]), str(mount.root)
+    for name, change in (
+        (tree.files[71], lambda: append(mount, tree.files[71])),
+        (f"{directory}/late.c", lambda: (behind / directory / "late.c").write_text("late")),
+        (tree.files[72], lambda: (behind / tree.files[72]).unlink()),
+    ):
+        asked = {"since": f"n:{name}", "fields": ["name"], "expression": ["name", f"tree/{name}", "wholename"]}
+        # The second one makes the mount look at the file just before.
+        for _ in "12":
+            client.ask("query", root, asked)
+        change()
+        times.append(until(lambda: bool(client.ask("query", root, asked)["files"])))
+    return ", ".join(times)
+
+
 def of_wqd(room: Path, mount: Mount, tree: Tree, turns: int) -> List[str]:
-    """The first watch, a query that scans, the notices of a change, and the load, with what `wq` takes; at last whether
-    the list is right."""
+    """How late a scan sees three changes, the first watch, a query that scans, the notices of a change, and the load,
+    with what `wq` takes; at last whether the list is right."""
     server = wqd(room, AS_WQ)
     try:
         with server.client() as client:
@@ -180,10 +211,11 @@ def of_wqd(room: Path, mount: Mount, tree: Tree, turns: int) -> List[str]:
             query = statistics.median(
                 seconds_of(lambda: client.ask("query", root, {"suffix": "none"})) for _ in "12345"
             )
+            late = seen(client, mount, tree)
             client.ask("subscribe", root, "s", {"fields": ["name"]})
             client.next_list()
-            times = [f"{watch:.2f}", f"{query:.3f}", noticed(client, mount, tree, turns), load(server)]
-            return [*times, as_find(client, mount)]
+            notice = "-" if late.startswith("over") else noticed(client, mount, tree, turns)
+            return [late, f"{watch:.2f}", f"{query:.3f}", notice, load(server), as_find(client, mount)]
     finally:
         server.process.kill()
         server.process.wait()
