@@ -13,8 +13,10 @@ import threading
 from pathlib import Path
 from typing import Callable, ContextManager, Iterator, List
 
-HERE = Path(__file__).resolve().parent
-PROGRAM = os.environ.get("WQD") or str(HERE.parent.parent / "crates" / "wqd" / "out" / "wqd")
+sys.path[:0] = [str(Path(__file__).resolve().parent.parent.parent / "tests")]
+
+from built import program_path
+
 # A machine prints this line before its rows, and after them.
 MARK = "bench: the rows"
 # If this program ends, so does what it starts.
@@ -37,7 +39,7 @@ def measured(text: str, entries: int, needs: List[str], starting: Starting) -> N
     signal.signal(signal.SIGTERM, lambda *_: sys.exit(143))
     with tempfile.TemporaryDirectory() as path, contextlib.suppress(KeyboardInterrupt):
         room = Path(path).resolve()
-        words = {**vars(given), "program": str(Path(PROGRAM).resolve()), "load": os.getloadavg()[0], "mark": MARK}
+        words = {**vars(given), "program": str(program_path()), "load": os.getloadavg()[0], "mark": MARK}
         (room / "words").write_text(json.dumps(words))
         with starting(room) as command, begun(command, subprocess.PIPE) as machine:
             limit = threading.Timer(given.minutes * 60, machine.kill)

@@ -13,8 +13,9 @@ from pathlib import Path
 from typing import Callable, Dict, Iterator, List, NamedTuple, Tuple
 
 from measured import seconds_of
-from pairs.peers import AS_WQ, Client, Peer, watchman, wqd
-from pairs.tree import Tree, make_tree
+from served import AS_WQ, Client, Wqd, watchman
+from trees import Tree, append, make_project
+from waiting import wait_until
 
 HEAD = [
     "file system",
@@ -83,9 +84,7 @@ def by_command(*words: str) -> Mounting:
     def mounted(room: Path) -> Iterator[Mount]:
         root, one = made(room, "root", "one")
         run(*(word.replace("{}", str(room)) for word in words))
-        end = time.monotonic() + 10
-        while not os.path.ismount(root) and time.monotonic() < end:
-            time.sleep(0.05)
+        wait_until(lambda: os.path.ismount(root), 10)
         try:
             yield Mount(root, one)
         finally:
@@ -111,7 +110,7 @@ def table(mounts: Dict[str, Mounting], names: List[str], entries: int, turns: in
 def row(room: Path, mounting: Mounting, entries: int, turns: int) -> List[str]:
     """The cells of a file system, but for its name."""
     with contextlib.contextmanager(mounting)(room) as mount:
-        tree = make_tree(mount.behind / "tree", entries)
+        tree = make_project(mount.behind / "tree", entries)
         time.sleep(1.2)
         return [heard(room, mount, tree), shown(mount, tree), *of_wqd(room, mount, tree, turns)]
 
@@ -119,15 +118,10 @@ def row(room: Path, mounting: Mounting, entries: int, turns: int) -> List[str]:
 def changes(mount: Mount, tree: Tree, label: str) -> List[str]:
     """Three changes behind the mount: a file that is written, one that is new and one that goes."""
     names = [tree.files[40], f"{label}.c", tree.files[50 if label == "inotify" else 52]]
-    append(mount, names[0])
+    append(mount.behind / "tree" / names[0])
     (mount.behind / "tree" / names[1]).write_text("new")
     (mount.behind / "tree" / names[2]).unlink()
     return names
-
-
-def append(mount: Mount, name: str) -> None:
-    with (mount.behind / "tree" / name).open("ab") as file:
-        file.write(b"y")
 
 
 def heard(room: Path, mount: Mount, tree: Tree) -> str:
@@ -152,34 +146,27 @@ def by_inotify(room: Path, mount: Mount, tree: Tree) -> str:
 def by_watchman(room: Path, mount: Mount, tree: Tree) -> str:
     if not shutil.which("watchman"):
         return "-"
-    server, root = watchman(room), str(mount.root)
-    try:
-        with server.client() as client:
-            client.ask("watch", root)
-            clock = client.ask("clock", root, {"sync_timeout": 20_000})["clock"]
-            names = changes(mount, tree, "watchman")
-            time.sleep(3)
-            found = str(client.ask("query", root, {"since": clock, "fields": ["name"]})["files"])
-            return str(sum(name in found for name in names))
-    finally:
-        server.end()
+    root = str(mount.root)
+    with watchman(room) as server, server.client() as client:
+        client.ask("watch", root)
+        clock = client.ask("clock", root, {"sync_timeout": 20_000})["clock"]
+        names = changes(mount, tree, "watchman")
+        time.sleep(3)
+        found = str(client.ask("query", root, {"since": clock, "fields": ["name"]})["files"])
+        return str(sum(name in found for name in names))
 
 
 def shown(mount: Mount, tree: Tree) -> str:
     """How long the mount itself shows the old size of a file that was looked at just before."""
     path = mount.root / "tree" / tree.files[70]
     size = os.stat(path).st_size
-    append(mount, tree.files[70])
+    append(mount.behind / "tree" / tree.files[70])
     return until(lambda: os.stat(path).st_size != size)
 
 
 def until(is_shown: Callable[[], bool]) -> str:
-    began = time.monotonic()
-    while not is_shown():
-        if time.monotonic() - began > LONGEST:
-            return f"over {LONGEST:.0f}"
-        time.sleep(0.02)
-    return f"{time.monotonic() - began:.1f}"
+    took = seconds_of(lambda: wait_until(is_shown, LONGEST))
+    return f"{took:.1f}" if took < LONGEST else f"over {LONGEST:.0f}"
 
 
 def seen(client: Client, mount: Mount, tree: Tree) -> str:
@@ -187,7 +174,7 @@ def seen(client: Client, mount: Mount, tree: Tree) -> str:
     behind, times = mount.behind / "tree", []
     (directory, _), root = os.path.split(tree.files[71]), str(mount.root)
     for name, change in (
-        (tree.files[71], lambda: append(mount, tree.files[71])),
+        (tree.files[71], lambda: append(behind / tree.files[71])),
         (f"{directory}/late.c", lambda: (behind / directory / "late.c").write_text("late")),
         (tree.files[72], lambda: (behind / tree.files[72]).unlink()),
     ):
@@ -203,22 +190,14 @@ def seen(client: Client, mount: Mount, tree: Tree) -> str:
 def of_wqd(room: Path, mount: Mount, tree: Tree, turns: int) -> List[str]:
     """How late a scan sees three changes, the first watch, a query that scans, the notices of a change, and the load,
     with what `wq` takes; at last whether the list is right."""
-    server = wqd(room, AS_WQ)
-    try:
-        with server.client() as client:
-            root = str(mount.root)
-            watch = seconds_of(lambda: client.ask("watch", root))
-            query = statistics.median(
-                seconds_of(lambda: client.ask("query", root, {"suffix": "none"})) for _ in "12345"
-            )
-            late = seen(client, mount, tree)
-            client.ask("subscribe", root, "s", {"fields": ["name"]})
-            client.next_list()
-            notice = "-" if late.startswith("over") else noticed(client, mount, tree, turns)
-            return [late, f"{watch:.2f}", f"{query:.3f}", notice, load(server), as_find(client, mount)]
-    finally:
-        server.process.kill()
-        server.process.wait()
+    with Wqd(room, **AS_WQ) as server, server.client() as client:
+        root = str(mount.root)
+        watch = seconds_of(lambda: client.ask("watch", root))
+        query = statistics.median(seconds_of(lambda: client.ask("query", root, {"suffix": "none"})) for _ in "12345")
+        late = seen(client, mount, tree)
+        client.subscribe(mount.root)
+        notice = "-" if late.startswith("over") else noticed(client, mount, tree, turns)
+        return [late, f"{watch:.2f}", f"{query:.3f}", notice, load(server), as_find(client, mount)]
 
 
 def noticed(client: Client, mount: Mount, tree: Tree, turns: int) -> str:
@@ -226,18 +205,12 @@ def noticed(client: Client, mount: Mount, tree: Tree, turns: int) -> str:
     name, found = tree.files[80], []
     for turn in range(turns + 1):
         time.sleep(0.3 + 0.17 * turn)
-        append(mount, name)
-        found.append(seconds_of(lambda: next_of(client, f"tree/{name}")))
+        append(mount.behind / "tree" / name)
+        found.append(seconds_of(lambda: client.waits_for(f"tree/{name}")))
     return f"{statistics.median(found[1:]):.2f} ({max(found[1:]):.2f})"
 
 
-def next_of(client: Client, name: str) -> None:
-    """Waits for the list with this name."""
-    while name not in str(client.next_list()["files"]):
-        pass
-
-
-def load(server: Peer) -> str:
+def load(server: Wqd) -> str:
     """The part of a processor that the server takes while nothing changes."""
     time.sleep(1.5)
     before = server.processor_seconds()

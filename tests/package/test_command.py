@@ -14,21 +14,10 @@ from case import Case
 from client import PATIENCE, PLAIN, Client, Server
 from clones import bare, tools
 from installing import call, present
+from rows import tables
 
 GOOD = {"sockname": "/nothing/here", "start": "0", "pid": str(2**62), "interval": "10", "share": "1", "workers": "16"}
-WRONG: List[Tuple[List[str], str]] = [
-    ([], "there is no command; wqd --help says which there are"),
-    (["frob"], "there is no command frob; wqd --help says which there are"),
-    (["--help", "me"], "there is no command --help; wqd --help says which there are"),
-    (["help"], "there is no command help; wqd --help says which there are"),
-    ([""], "there is no command; wqd --help says which there are"),
-    (["replay", "now"], "replay takes no further words, and reads its script from standard input"),
-    (["check"], "check takes one file"),
-    (["check", "a", "b"], "check takes one file"),
-    (["serve", "fr\\nob"], "serve takes no further words: fr\\nob"),
-    (["serve", "--frob", "1"], "serve has no option --frob"),
-    (["serve", "--sockname"], "--sockname needs a value"),
-]
+ROWS = tables(Path(__file__).with_name("command.rows"))
 NUMBERS = {
     "start": "0 to 2^62",
     "pid": "0 to 2^62",
@@ -36,29 +25,6 @@ NUMBERS = {
     "share": "1 to 100",
     "workers": "1 to 16, or auto",
 }
-WRONG_NUMBERS = [
-    ("start", "-1"),
-    ("start", "01"),
-    ("start", str(2**62 + 1)),
-    ("start", "5" * 19),
-    ("start", "1" * 20),
-    ("start", str(2**64)),
-    ("pid", "x"),
-    ("pid", ""),
-    ("pid", " 1"),
-    ("pid", "1 "),
-    ("pid", "+1"),
-    ("interval", "9"),
-    ("interval", "3600001"),
-    ("share", "0"),
-    ("share", "101"),
-    ("share", "x"),
-    ("workers", "0"),
-    ("workers", "17"),
-    ("workers", "1.5"),
-    ("workers", "0x1"),
-    ("workers", "*"),
-]
 
 
 def serve(**values: str) -> List[str]:
@@ -79,8 +45,8 @@ class Command(Case):
 
     def test_wrong_words(self) -> None:
         """Each line is refused by the program, which says no more than that; then the command says which word it is."""
-        cases = list(WRONG)
-        for name, value in WRONG_NUMBERS:
+        cases = [(row.value(), row.expected) for row in ROWS["wrong words"]]
+        for name, value in (row.value() for row in ROWS["wrong numbers"]):
             cases.append((serve(**{name: value}), f"--{name} takes a number from {NUMBERS[name]}"))
         cases.append((serve() + ["--pid", "1"], "--pid is given twice"))
         for words, reason in cases:

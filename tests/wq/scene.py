@@ -77,9 +77,17 @@ class Scene:
         return Client(self.sockname)
 
     def write(self, name: str, text: str = "x") -> None:
-        path = self.tree / name
+        """Writes a file in one step. A scan may come between two, and would see a file that is new, or emptied first,
+        change twice. So it is written in place by one write, or moved in whole where it is new or was longer."""
+        path, data = self.tree / name, text.encode()
         path.parent.mkdir(parents=True, exist_ok=True)
-        path.write_text(text)
+        if path.is_file() and path.stat().st_size <= len(data):
+            with open(path, "r+b", buffering=0) as file:
+                file.write(data)
+            return
+        aside = self.room / "aside of the tree"
+        aside.write_bytes(data)
+        aside.replace(path)
 
     def call(self, words: Sequence[Word], enters: bytes = b"", **environment: str) -> built.Ended:
         """A call in the tree, with a standard input."""

@@ -6,7 +6,7 @@ import sys
 import time
 from typing import Any, Dict
 
-from case import Beside
+from case import Beside, Timed
 from client import PATIENCE
 from scene import Scene
 from stand_ins import answering, stand_in
@@ -27,7 +27,7 @@ STAND_IN: Dict[str, Any] = {
 }
 
 
-class HungRoots(Beside):
+class HungRoots(Timed, Beside):
     def test_file_systems(self) -> None:
         """The mount of a path, and what the kernel does not tell of there."""
         mounts = (

@@ -7,7 +7,8 @@ import shlex
 import time
 
 import built
-from case import Beside
+from case import Beside, Timed
+from client import PATIENCE
 from scene import INTERVAL, Scene, at_terminal, called_at_terminal, said, wrong
 from stand_ins import answering, stand_in
 from wq.examples import EXAMPLES
@@ -17,13 +18,15 @@ from wq.usage import USAGE
 from wq.words import FORMS, options_of, read
 
 SLOW = 2.3
+# How long it takes now.
+slow = [SLOW]
 
 
 def slowly(line: bytes) -> bytes:
     """The reply of a server that answers each `watch` after some seconds, and everything else at once."""
     name, *rest = json.loads(line)
     if name == "watch":
-        time.sleep(SLOW)
+        time.sleep(slow[0])
     replies = {
         "watch": {"watch": rest[:1]},
         "watch-list": {"roots": []},
@@ -47,7 +50,7 @@ SENTENCES = (
 )
 
 
-class Terminals(Beside):
+class Terminals(Timed, Beside):
     def test_terminal(self) -> None:
         """Colours, layout and escapes are for terminals, and NO_COLOR takes the colours away."""
         with Scene(self.room) as scene:
@@ -206,7 +209,8 @@ class Terminals(Beside):
             lines = ended.errors.decode().splitlines()
             self.same("a slow crawl, beside a pipe", (ended.status, lines[:1], len(lines)), (1, [f"wq: {looks}"], 2))
             took = lines[-1]
-            self.check("how long it took", took.startswith("wq: that took 2.") and took.endswith(" s"), lines)
+            found = re.fullmatch(r"wq: that took ([0-9.]+) s", took)
+            self.check("how long it took", found and SLOW <= float(found[1]) < PATIENCE, lines)
             again = f"again, which took {took.split()[3]} s before; `wq watch` would keep it watched"
             looks = f"the server looks at all files below {scene.tree} {again}"
             shown = at_terminal(scene, "find", NO_COLOR="1")
@@ -215,10 +219,11 @@ class Terminals(Beside):
                 f"\rwq: {looks}, 1 s so far" in shown and f"{looks}, 2 s so far" in shown,
                 [shown],
             )
+            slow[:] = [PATIENCE]
             with scene.begin("find") as going:
                 self.check("a crawl that goes on", going.says(looks.partition(",")[0]))
                 began = time.monotonic()
                 self.same("Ctrl-C in a first crawl", going.ends(2), 130)
-                self.same("ends at once", time.monotonic() - began < 1.5, True)
+                self.same("ends long before the reply", time.monotonic() - began < PATIENCE / 4, True)
                 self.same("no time of what has not ended", b"that took" in going.errors, False)
             os.unlink(scene.sockname)

@@ -88,12 +88,17 @@ class Feed {
     this.isRefused = false;
     this.asked = this.listed;
     for (const each of this.waiting) each.number = this.listed + 1;
-    const reply = await this.watched();
+    let reply = await this.watched();
     if (this.isClosed || this.turn !== turn) return;
+    if (!reply.error && this.polled) {
+      // What this process saw after that scan would go and come again.
+      this.endPolling();
+      reply = await this.haste.scan(() => this.scanned());
+      if (this.isClosed || this.turn !== turn) return;
+    }
     if (!reply.error) {
       this.isBegun = true;
       this.looksUntilNext = LOOKS;
-      this.endPolling();
       this.subscribe();
     } else if (reply.error.startsWith('E11') && !fs.existsSync(this.root)) {
       this.leave();
