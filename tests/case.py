@@ -76,3 +76,22 @@ class Case(unittest.TestCase):
 
 class Beside(Case):
     """Tests that wait most of their time. Each runs in a process of its own, beside others."""
+
+
+class Timed(Case):
+    """Tests that measure times. A machine that does other things can make one late, so such a test runs up to so many
+    times, until all of it holds. Each run that failed is told."""
+
+    TRIES = 3
+
+    def run(self, result: Any = None) -> Any:
+        if result is None or not hasattr(result, "again"):
+            return super().run(result)
+        for left in reversed(range(self.TRIES)):
+            tried = result.again()
+            super().run(tried)
+            if not tried.failed or not left:
+                break
+            result.tell_again(self, tried)
+        result.take(tried)
+        return result

@@ -63,6 +63,27 @@ class Result(unittest.TextTestResult):
         super().addSkip(test, reason)
         self.stream.write(f"left out: {test.id()}: {reason}\n")
 
+    def again(self) -> "Result":
+        """An empty one, for one run of a test that may run again."""
+        made = Result(self.stream, self.descriptions, 0)
+        made.failfast = self.failfast
+        return made
+
+    def tell_again(self, test: unittest.TestCase, tried: "Result") -> None:
+        """Says what failed in a run of a test that runs again."""
+        for failed, trace in (*tried.failures, *tried.errors):
+            self.stream.write(f"once more: {failed.id()}: {trace.strip().splitlines()[-1]}\n")
+
+    def take(self, tried: "Result") -> None:
+        """Counts the last run of a test that may run again."""
+        self.failures += tried.failures
+        self.errors += tried.errors
+        self.skipped += tried.skipped
+        self.unexpectedSuccesses += tried.unexpectedSuccesses
+        self.passed += tried.passed
+        self.testsRun += tried.testsRun
+        self.shouldStop = self.shouldStop or tried.shouldStop
+
     def add_output(self, name: str, output: str) -> None:
         """Counts what a test counted that ran in a process of its own, and prints what it said."""
         last = LAST_LINES.search(output)

@@ -1,17 +1,13 @@
 """The cost of the bridge: the same request to wqd itself, and through the bridge in JSON and in BSER."""
 
 import json
-import sys
 from pathlib import Path
 from typing import Dict, List, NamedTuple, Tuple
 
-from pairs.measures import Load
-from pairs.peers import TOP, Peer, bridge, wqd
-from pairs.tree import Tree
-
-sys.path[:0] = [str(TOP / "clients")]
-
+import served
 from bridge.encodings import find_codec
+from pairs.measures import Load
+from trees import Tree
 
 ROUNDS = 3
 
@@ -26,15 +22,10 @@ class Cost(NamedTuple):
 
 
 def costs(tree: Tree, room: Path, load: Load, seconds: float) -> List[Cost]:
-    server = wqd(room)
-    through = bridge(room, server, "/usr/bin/python3")
-    try:
+    with served.Wqd(room) as server, served.bridge(room, server) as through:
         with server.client() as client:
             client.ask("watch", str(tree.root))
         return [cost(name, command, server, through, load, seconds) for name, command in commands(tree)]
-    finally:
-        through.end()
-        server.end()
 
 
 def commands(tree: Tree) -> List[Tuple[str, List[object]]]:
@@ -59,7 +50,9 @@ def commands(tree: Tree) -> List[Tuple[str, List[object]]]:
     ]
 
 
-def cost(name: str, command: List[object], server: Peer, through: Peer, load: Load, seconds: float) -> Cost:
+def cost(
+    name: str, command: List[object], server: served.Wqd, through: served.Peer, load: Load, seconds: float
+) -> Cost:
     """The least of some medians, which are taken in turn. The server itself is not asked for a `relative_root`."""
     codec = find_codec()
     line = json.dumps(command).encode() + b"\n"

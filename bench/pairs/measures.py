@@ -12,8 +12,8 @@ from pathlib import Path
 from typing import Callable, Dict, List, NamedTuple, Tuple
 
 from measured import seconds_of
-from pairs.peers import AS_WQ, Peer, watchman, wqd
-from pairs.tree import Tree
+from served import AS_WQ, Peer, Wqd, watchman
+from trees import Tree, append
 
 HERE = Path(__file__).resolve().parent
 WRITES_AT_ONCE, WRITE_PAUSE = 20, 0.01
@@ -79,7 +79,7 @@ class Run:
         self.peers: List[Peer] = []
 
     def run(self) -> None:
-        self.peers = [watchman(self.room), wqd(self.room, AS_WQ)]
+        self.peers = [watchman(self.room), Wqd(self.room, **AS_WQ)]
         try:
             self.each(self.first_answer)
             self.queries()
@@ -93,7 +93,7 @@ class Run:
 
     def end(self) -> None:
         for peer in self.peers:
-            peer.end()
+            peer.kill()
 
     def each(self, part: Callable[[Peer], None]) -> None:
         """Does a part for both in turn, while the other is stopped. Every second run begins with the other one."""
@@ -147,7 +147,7 @@ class Run:
 
     def since(self) -> None:
         clocks = {peer.name: self.clock(peer) for peer in self.peers}
-        self.append_to(self.draw.choice(self.tree.files))
+        append(self.tree.root / self.draw.choice(self.tree.files))
         for peer in self.peers:
             self.clock(peer)
         time.sleep(1)  # the sessions of the clients before end, so that 32 have places
@@ -161,10 +161,6 @@ class Run:
     def clock(self, peer: Peer) -> object:
         with peer.client() as client:
             return client.ask("query", self.root, {"path": [{"path": "", "depth": 0}], "fields": ["name"]})["clock"]
-
-    def append_to(self, name: str) -> None:
-        with open(f"{self.root}/{name}", "ab") as file:
-            file.write(b"y")
 
     def hostile(self, peer: Peer) -> None:
         """A pattern that a search which goes back again and again takes very long for."""
@@ -209,16 +205,11 @@ class Run:
             for _ in range(TOLD):
                 time.sleep(1 + self.draw.random())
                 name = self.draw.choice(self.tree.files)
-                began = time.monotonic()
-                self.append_to(name)
-                while name not in client.next_list()["files"]:
-                    pass
-                told.append((time.monotonic() - began) * 1000)
+                told.append(seconds_of(lambda: client.hears_of_a_write(self.tree.root, name)) * 1000)
                 time.sleep(self.draw.random())
-                began = time.monotonic()
-                self.append_to(name)
-                client.ask("query", self.root, {"since": clock, "fields": ["name"]})
-                answered.append((time.monotonic() - began) * 1000)
+                append(self.tree.root / name)
+                query = {"since": clock, "fields": ["name"]}
+                answered.append(seconds_of(lambda: client.ask("query", self.root, query)) * 1000)
             self.results.add(Measure("write to list", "ms"), peer.name, statistics.median(told))
             self.results.add(Measure("write to answer", "ms"), peer.name, statistics.median(answered))
 
@@ -239,6 +230,5 @@ def write_on(root: str, files: List[str], is_over: Event) -> None:
     draw = random.Random(5)
     while not is_over.is_set():
         for _ in range(WRITES_AT_ONCE):
-            with open(f"{root}/{draw.choice(files)}", "ab") as file:
-                file.write(b"y")
+            append(Path(root, draw.choice(files)))
         time.sleep(WRITE_PAUSE)

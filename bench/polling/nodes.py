@@ -3,8 +3,9 @@
 import shutil
 from pathlib import Path
 
-from polling.pollers import HERE, TOP, Poller, Watch
+from polling.pollers import HERE, Poller, Watch
 from polling.watchdogs import Served
+from served import TOP
 
 PACKAGE = TOP / "clients" / "node"
 SERVED = "`wqd-chokidar` and its server"

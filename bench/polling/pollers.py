@@ -4,18 +4,14 @@ import os
 import select
 import shutil
 import subprocess
-import sys
 import time
 from pathlib import Path
-from typing import Callable, List, NamedTuple, Optional
+from typing import Callable, Dict, List, NamedTuple, Optional
+
+from served import Wqd
+from wq.processes import Facts, facts_of
 
 HERE = Path(__file__).resolve().parent
-TOP = HERE.parent.parent
-sys.path[:0] = [str(TOP / "clients")]
-
-from pairs.peers import MALLOC, Client
-from wq.processes import Facts, facts_of
-from wqclient.sockets import is_listened_on
 
 # A poller that says nothing of a change for so many seconds has missed it.
 PATIENCE = 60.0
@@ -29,17 +25,10 @@ class Missed(Exception):
 class Watch:
     """A poller that runs."""
 
-    def __init__(self, command: List[str]) -> None:
-        environment = {**MALLOC, "NODE_PATH": MODULES, **os.environ}
-        self.process = subprocess.Popen(
-            command, stdin=subprocess.DEVNULL, stdout=subprocess.PIPE, stderr=subprocess.DEVNULL, env=environment
-        )
+    process: "subprocess.Popen[bytes]"
 
     def facts(self) -> Facts:
-        found = facts_of(self.process.pid)
-        if found is None:
-            raise Missed("it has ended")
-        return found
+        return facts(self.process.pid)
 
     def wait_for(self, text: str) -> None:
         """Waits until it says this text, such as the path of a file."""
@@ -50,10 +39,22 @@ class Watch:
         self.process.wait()
 
 
+def facts(process: int) -> Facts:
+    found = facts_of(process)
+    if found is None:
+        raise Missed("it has ended")
+    return found
+
+
 class Printed(Watch):
     """One that prints a line for each file that changed."""
 
-    held = b""
+    def __init__(self, command: List[str]) -> None:
+        environment = {"NODE_PATH": MODULES, **os.environ}
+        self.held = b""
+        self.process = subprocess.Popen(
+            command, stdin=subprocess.DEVNULL, stdout=subprocess.PIPE, stderr=subprocess.DEVNULL, env=environment
+        )
 
     def wait_for(self, text: str) -> None:
         end = time.monotonic() + PATIENCE
@@ -72,22 +73,14 @@ class Printed(Watch):
 class Subscribed(Watch):
     """wqd, with one client that has a subscription."""
 
-    def __init__(self, root: Path, sockname: Path, words: List[str]) -> None:
-        program = os.environ.get("WQD") or str(TOP / "crates" / "wqd" / "out" / "wqd")
-        numbers = ["--start", str(int(time.time())), "--pid", str(os.getpid())]
-        super().__init__([program, "serve", "--sockname", str(sockname), *numbers, *words])
-        while not is_listened_on(str(sockname)):
-            time.sleep(0.01)
-        self.client = Client(str(sockname))
-        self.root = root
+    def __init__(self, root: Path, room: Path, numbers: Dict[str, int]) -> None:
+        server = Wqd(room, **{"interval": None, **numbers})
+        self.process, self.root, self.client = server.process, root, server.client()
         self.client.ask("watch", str(root))
-        self.client.ask("subscribe", str(root), "s", {"fields": ["name"]})
-        self.client.next_list()
+        self.client.subscribe(root)
 
     def wait_for(self, text: str) -> None:
-        name = os.path.relpath(text, self.root)
-        while name not in str(self.client.next_list()["files"]):
-            pass
+        self.client.waits_for(os.path.relpath(text, self.root))
 
     def end(self) -> None:
         self.client.close()
@@ -107,7 +100,7 @@ def pollers() -> List[Poller]:
     return [
         *(chokidar(interval) for interval in (100, 1000)),
         *(fswatch(seconds) for seconds in ("1", "0.1")),
-        *(wqd(words) for words in ("", "--share 10", "--share 10 --interval 100")),
+        *(wqd(numbers) for numbers in ({}, {"share": 10}, {"share": 10, "interval": 100})),
     ]
 
 
@@ -135,8 +128,9 @@ def fswatch(seconds: str) -> Poller:
     return Poller(f"fswatch, `poll_monitor`, {seconds} s", missing, start)
 
 
-def wqd(words: str) -> Poller:
+def wqd(numbers: Dict[str, int]) -> Poller:
     def start(root: Path, room: Path) -> Watch:
-        return Subscribed(root, room / "socket", words.split())
+        return Subscribed(root, room, numbers)
 
-    return Poller(f"`{f'wqd serve {words}'.strip()}`", None, start)
+    words = ["wqd serve", *(f"--{name} {number}" for name, number in numbers.items())]
+    return Poller(f"`{' '.join(words)}`", None, start)

@@ -2,14 +2,12 @@
 
 import os
 import subprocess
-import time
 from pathlib import Path
 from typing import List
 
-from polling.pollers import HERE, TOP, Missed, Poller, Printed, Watch
+from polling.pollers import HERE, Poller, Printed, Watch, facts
+from served import AS_WQ, Wqd
 from wq.processes import Facts
-from wqclient.sockets import is_listened_on
-from wqclient.starting import serve_words
 
 PYTHON = "/usr/bin/python3"
 PACKAGE = "the package python3-watchdog"
@@ -33,30 +31,19 @@ class Served(Ready):
     """A program with an adapter, and the server that it asks: figures are of both together."""
 
     def __init__(self, command: List[str], room: Path) -> None:
-        sockname = str(room / "socket")
-        os.environ.update(WQD_SOCK=sockname, XDG_STATE_HOME=str(room))
-        program = os.environ.get("WQD") or str(TOP / "crates" / "wqd" / "out" / "wqd")
-        self.server = Server([program, *serve_words(sockname)], sockname)
+        self.server = Wqd(room, **AS_WQ)
+        os.environ.update(WQD_SOCK=self.server.sockname, XDG_STATE_HOME=str(room))
         super().__init__(command)
 
     def facts(self) -> Facts:
-        own, served = super().facts(), self.server.facts()
+        own, served = super().facts(), facts(self.server.process.pid)
         return own._replace(
             memory=own.memory + served.memory, processor_seconds=own.processor_seconds + served.processor_seconds
         )
 
     def end(self) -> None:
         super().end()
-        self.server.end()
-
-
-class Server(Watch):
-    def __init__(self, command: List[str], sockname: str) -> None:
-        super().__init__(command)
-        while not is_listened_on(sockname):
-            if self.process.poll() is not None:
-                raise Missed("the server does not start")
-            time.sleep(0.01)
+        self.server.kill()
 
 
 def watchdogs() -> List[Poller]:

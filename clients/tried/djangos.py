@@ -8,11 +8,11 @@ from typing import Callable, List
 
 from tried.packages import PYTHON
 from tried.room import PATIENCE, Outcome, Room, Running, outcome
+from waiting import look_until
 
 ROUNDS = 20
-# How long a page is waited for before it is asked for again, a server before an edit, and an edit before it is made
-# again.
-PAUSE, BEFORE, TOO_LONG = 0.2, 1.0, 8.0
+# How long a server is waited for before an edit, and an edit before it is made again.
+BEFORE, TOO_LONG = 1.0, 8.0
 ATTEMPTS = 4
 SETTINGS = """
 from pathlib import Path
@@ -70,12 +70,7 @@ class Site:
 
     def shows(self, place: int, word: str, seconds: float = PATIENCE) -> List[str]:
         """The page, as soon as it has this word at this place."""
-        end = time.monotonic() + seconds
-        while True:
-            page = self.page()
-            if page[place : place + 1] == [word] or time.monotonic() > end:
-                return page
-            time.sleep(PAUSE)
+        return look_until(self.page, lambda page: page[place : place + 1] == [word], seconds)
 
     def shows_after(self, put: Callable[[int], None], place: int, word: str) -> List[str]:
         """The page after an edit. A server that has just started serves before it looks for edits, so one that is too

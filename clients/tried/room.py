@@ -12,6 +12,8 @@ from pathlib import Path
 from typing import Callable, Dict, Iterator, List, NamedTuple, Optional
 
 from tried.packages import PYTHON, Packages
+from waiting import wait_until
+from wq.processes import state_of
 
 TOP = Path(__file__).resolve().parent.parent.parent
 COMMAND = TOP / "clients" / "watchman"
@@ -43,12 +45,8 @@ class Running:
 
     def waits_for(self, is_right: Callable[[List[str]], object], seconds: float = PATIENCE) -> bool:
         """Whether its lines become right in time."""
-        end = time.monotonic() + seconds
-        while not is_right(self.lines()):
-            if time.monotonic() > end or self.process.poll() is not None and not is_right(self.lines()):
-                return False
-            time.sleep(PAUSE)
-        return True
+        wait_until(lambda: is_right(self.lines()) or self.process.poll() is not None, seconds)
+        return bool(is_right(self.lines()))
 
     def end(self) -> None:
         self.process.terminate()
@@ -153,14 +151,7 @@ class Room:
 def kill(process: int) -> None:
     """Kills a process, and waits until it has ended; it may stay in the system's table after that."""
     os.kill(process, signal.SIGKILL)
-    end = time.monotonic() + PATIENCE
-    while time.monotonic() < end:
-        try:
-            if ") Z " in Path(f"/proc/{process}/stat").read_text():
-                return
-        except OSError:
-            return
-        time.sleep(PAUSE / 10)
+    wait_until(lambda: state_of(process) in ("", "Z"), PATIENCE)
 
 
 @contextlib.contextmanager

@@ -4,7 +4,7 @@
 const fs = require('fs');
 const net = require('net');
 const path = require('path');
-const { HOME, Watched, ask, pause, put, room, same, scene, server, tree } = require('./scene');
+const { HOME, Watched, ask, comes, put, room, same, scene, server, tree } = require('./scene');
 
 /** Seventeen watchers of one process: each is told of its files, also the one for which the server has no root. */
 async function manyWatchers() {
@@ -18,7 +18,7 @@ async function manyWatchers() {
   const { roots } = await ask('watch-list');
   same('their roots', roots.length, 16);
   await Promise.all(all.map((each) => each.watcher.close()));
-  for (let turn = 0; turn < 50 && (await ask('watch-list')).roots.length > 0; turn += 1) await pause(100);
+  await comes(async () => (await ask('watch-list')).roots.length === 0);
   same('they are given back', (await ask('watch-list')).roots, []);
 }
 

@@ -3,7 +3,7 @@
 
 const fs = require('fs');
 const path = require('path');
-const { Watched, chokidar, pause, put, same, scene, tree } = require('./scene');
+const { Watched, chokidar, pause, put, same, scene, tree, tried } = require('./scene');
 
 const FILES = ['a.js', 'b.css', 'node_modules/m/i.js', 'src/c.js', 'src/deep/d.js', '.git/HEAD'];
 const DIRECTORIES = [
@@ -54,15 +54,20 @@ async function depthAndInitial() {
 }
 
 async function atomic() {
-  const root = tree('atomic', ['a.txt', 'b.txt']);
+  const root = tree('atomic', ['b.txt']);
   const watched = new Watched(root, { ignoreInitial: true, atomic: 1500 }, root);
   await watched.ready;
-  fs.unlinkSync(path.join(root, 'a.txt'));
-  await pause(600);
-  put(path.join(root, 'a.txt'), 'again');
-  put(path.join(root, '.b.txt.swp'));
-  put(path.join(root, 'b.txt~'));
-  await watched.sees('a file that goes and comes is a change, and files of editors are none', ['change a.txt']);
+  const goAndCome = async (number) => {
+    put(path.join(root, `a${number}.txt`));
+    await watched.sees(`a file before that, ${number}`, [`add a${number}.txt`]);
+    fs.unlinkSync(path.join(root, `a${number}.txt`));
+    await pause(600);
+    put(path.join(root, `a${number}.txt`), 'again');
+    put(path.join(root, '.b.txt.swp'));
+    put(path.join(root, 'b.txt~'));
+    return (await watched.hears()).map((event) => event.replace(`a${number}`, 'a'));
+  };
+  await tried('a file that goes and comes is a change, and files of editors are none', ['change a.txt'], goAndCome);
   fs.unlinkSync(path.join(root, 'b.txt'));
   await watched.sees('one that goes for longer', ['unlink b.txt']);
   await watched.watcher.close();
@@ -73,20 +78,26 @@ async function awaitWriteFinish() {
   const watched = new Watched(root, { awaitWriteFinish: { stabilityThreshold: 1500, pollInterval: 50 } }, root);
   await watched.ready;
   await watched.sees('the first files at once', ['addDir .', 'add a.txt']);
-  const sizes = [];
+  let sizes = [];
   watched.watcher.on('add', (name, stats) => sizes.push(stats.size));
-  for (const text of ['1', '12', '123', '1234']) {
-    put(path.join(root, 'slow.txt'), text);
+  const grow = async (number) => {
+    sizes = [];
+    for (const text of ['1', '12', '123', '1234']) {
+      put(path.join(root, `slow${number}.txt`), text);
+      await pause(250);
+    }
+    const early = [...watched.events];
+    const heard = (await watched.hears()).map((event) => event.replace(`slow${number}`, 'slow'));
+    return [early, heard, sizes];
+  };
+  await tried('one event of a file that grows, in the end and with its size', [[], ['add slow.txt'], [4]], grow);
+  await tried('no event of a file that went before', [], async (number) => {
+    put(path.join(root, `short${number}.txt`));
     await pause(250);
-  }
-  same('no event of a file that grows', watched.events, []);
-  await watched.sees('one event in the end', ['add slow.txt']);
-  same('with its size', sizes, [4]);
-  put(path.join(root, 'short.txt'));
-  await pause(250);
-  fs.unlinkSync(path.join(root, 'short.txt'));
-  await pause(2000);
-  await watched.sees('a file that went before', []);
+    fs.unlinkSync(path.join(root, `short${number}.txt`));
+    await pause(2000);
+    return watched.events.splice(0);
+  });
   await watched.watcher.close();
 }
 

@@ -5,7 +5,9 @@ const { execFileSync } = require('child_process');
 const fs = require('fs');
 const net = require('net');
 const path = require('path');
-const { HOME, Watched, ask, pause, put, room, same, scene, server, tree } = require('./scene');
+const {
+  HOME, Watched, ask, comes, isWatched, pause, put, room, same, scene, server, tree,
+} = require('./scene');
 const { Source } = require(path.join(HOME, 'lib', 'source'));
 
 const WQ = path.resolve(HOME, '..', '..', 'wq');
@@ -34,21 +36,15 @@ async function manyRoots() {
   await late.sees('changes meanwhile', ['change late/d/e', 'unlink late/b', 'addDir late/new']);
   await ask('watch-del', path.join(room, 'other-0'));
   await ask('watch-del', path.join(room, 'other-1'));
-  for (let turn = 0; turn < 200 && !(await isWatched('late') && await isWatched('later')); turn += 1) await pause(100);
+  for (const name of ['late', 'later']) await comes(() => isWatched(path.join(room, name)));
   put(path.join(room, 'late', 'b'), '');
   await late.sees('a place that is free', ['add late/b']);
   same('nothing else is said', warnings.length, 1);
   await Promise.all([watched, late].map((each) => each.watcher.close()));
-  await pause(300);
-  const { roots } = await ask('watch-list');
-  const left = roots.map((root) => path.basename(root)).filter((name) => !name.startsWith('other'));
-  same('what it had watched is given back', left, []);
-  for (const root of roots) await ask('watch-del', root);
-}
-
-async function isWatched(name) {
-  const { roots } = await ask('watch-list');
-  return roots.includes(path.join(room, name));
+  const left = async () => (await ask('watch-list')).roots.filter((root) => !path.basename(root).startsWith('other'));
+  await comes(async () => (await left()).length === 0);
+  same('what it had watched is given back', await left(), []);
+  for (const root of (await ask('watch-list')).roots) await ask('watch-del', root);
 }
 
 /** What `wq watch --root` made a root serves all that is below it, and `wq unwatch` ends that. */
@@ -81,7 +77,7 @@ async function manyClients() {
   await watched.sees('no place is left', ['addDir full', 'add full/a']);
   same('it is said', warnings.map((text) => text.includes('takes no client')), [true]);
   for (const socket of sockets) socket.destroy();
-  for (let turn = 0; turn < 100 && !(await isWatched('full').catch(() => false)); turn += 1) await pause(100);
+  await comes(() => isWatched(path.join(room, 'full')));
   put(path.join(room, 'full', 'b'), '');
   await watched.sees('a place is free again', ['add full/b']);
   await watched.watcher.close();
@@ -89,7 +85,7 @@ async function manyClients() {
 
 /** A client that the server has taken in: clients of before may take a while to go. */
 async function placed() {
-  for (let turn = 0; turn < 200; turn += 1) {
+  for (let turn = 0; turn < 1200; turn += 1) {
     const socket = net.connect(server.sockname).on('error', () => {});
     const said = await new Promise((resolve) => {
       socket.once('data', resolve);
@@ -117,8 +113,7 @@ async function noServer() {
   fs.mkdirSync(directory, { mode: 0o700 });
   put(path.join(room, 'unserved', 'b'), '');
   await watched.sees('a change', ['add unserved/b']);
-  for (let turn = 0; turn < 100 && !fs.existsSync(process.env.WQD_SOCK); turn += 1) await pause(100);
-  await pause(500);
+  same('a server watches it', await comes(() => isWatched(path.join(room, 'unserved'))), true);
   put(path.join(room, 'unserved', 'c'), '');
   await watched.sees('a server comes', ['add unserved/c']);
   await watched.watcher.close();

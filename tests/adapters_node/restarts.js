@@ -1,10 +1,10 @@
 'use strict';
 // Servers that end, and watches that others end.
 
-const { execFileSync } = require('child_process');
+const { execFileSync, spawn } = require('child_process');
 const fs = require('fs');
 const path = require('path');
-const { HOME, Watched, ask, pause, put, room, same, scene, server, tree } = require('./scene');
+const { HOME, Watched, ask, comes, isWatched, pause, put, room, same, scene, server, tree } = require('./scene');
 
 async function killed() {
   const root = tree('killed', ['a', 'b', 'd/c']);
@@ -45,7 +45,7 @@ async function stopped() {
   await watched.sees('this process looks itself', ['add b']);
   same('no error', watched.errors, []);
   execFileSync(wq, ['start'], { stdio: 'ignore' });
-  await pause(3000);
+  same('the next one watches it', await comes(() => isWatched(root)), true);
   put(path.join(root, 'c'), '');
   await watched.sees('it goes on with the next one', ['add c']);
   await watched.watcher.close();
@@ -56,16 +56,23 @@ async function processes() {
   const root = tree('alive', ['a']);
   const script = `const { watch } = require(${JSON.stringify(HOME)});
 const w = watch(${JSON.stringify(root)}, { persistent: process.argv[1] === 'keeps' });
-w.on('ready', () => console.log('ready')); setTimeout(() => {}, 1500);`;
-  const run = (word, timeout) => {
-    try {
-      return execFileSync(process.execPath, ['-e', script, word], { timeout, encoding: 'utf8' });
-    } catch (fault) {
-      return fault.code || fault.signal;
-    }
+const begins = setInterval(() => {}, 1000);
+w.on('ready', () => { console.log('ready'); clearInterval(begins); });`;
+  const begun = (word) => {
+    const child = spawn(process.execPath, ['-e', script, word], { stdio: ['ignore', 'pipe', 'inherit'] });
+    const run = { child, said: '', isEnded: false };
+    child.stdout.on('data', (data) => { run.said += data; });
+    child.on('close', () => { run.isEnded = true; });
+    return run;
   };
-  same('persistent: false', run('lets', 20_000), 'ready\n');
-  same('persistent', run('keeps', 5000), 'ETIMEDOUT');
+  const [lets, keeps] = ['lets', 'keeps'].map(begun);
+  await comes(() => lets.isEnded);
+  same('persistent: false', [lets.isEnded, lets.said], [true, 'ready\n']);
+  await comes(() => keeps.said !== '');
+  await pause(2000);
+  same('persistent', [keeps.isEnded, keeps.said], [false, 'ready\n']);
+  keeps.child.kill('SIGKILL');
+  await comes(() => keeps.isEnded);
   const notes = fs.readdirSync(path.join(room, 'state', 'wq', 'roots'));
   same('a root of a process that was killed can be given up', notes.length > 0, true);
 }

@@ -10,8 +10,10 @@ const HOME = path.resolve(__dirname, '..', '..', 'clients', 'node');
 const chokidar = require(HOME);
 const { Server } = require(path.join(HOME, 'compared', 'server'));
 
-const PATIENCE = 20_000;
-const LONGEST = 90_000;
+// What should come is waited for so long, and a scene that hangs is ended after so long: neither bounds what is tested.
+const PATIENCE = 60_000;
+const LONGEST = 400_000;
+const TRIES = 5;
 const EVENTS = ['add', 'addDir', 'change', 'unlink', 'unlinkDir'];
 
 const room = process.env.XDG_RUNTIME_DIR;
@@ -36,17 +38,31 @@ function tree(name, files) {
 }
 
 /**
- * Writes a file, or makes a directory if the name ends in a slash. A file that is there is not emptied first: a scan between
- * the two would tell of two changes.
+ * Writes a file, or makes a directory if the name ends in a slash. A scan may come between any two steps, and a file
+ * that is emptied or made first would be two changes. So a file is written in place by one write, or moved in whole
+ * where it is new or was longer.
  */
 function put(file, content = path.basename(file)) {
   fs.mkdirSync(file.endsWith('/') ? file : path.dirname(file), { recursive: true });
   if (file.endsWith('/')) return;
   const bytes = Buffer.from(content);
-  const handle = fs.openSync(file, fs.constants.O_WRONLY | fs.constants.O_CREAT, 0o666);
+  const stats = fs.statSync(file, { throwIfNoEntry: false });
+  if (!stats || stats.size > bytes.length) {
+    const aside = path.join(room, '.aside');
+    fs.writeFileSync(aside, bytes);
+    fs.renameSync(aside, file);
+    return;
+  }
+  const handle = fs.openSync(file, 'r+');
   fs.writeSync(handle, bytes, 0, bytes.length, 0);
-  if (fs.fstatSync(handle).size > bytes.length) fs.ftruncateSync(handle, bytes.length);
   fs.closeSync(handle);
+}
+
+/** Whether this comes to be so before the patience ends. */
+async function comes(isSo) {
+  const end = Date.now() + PATIENCE;
+  while (!(await isSo()) && Date.now() < end) await pause(20);
+  return Boolean(await isSo());
 }
 
 /** A watcher and the events that it emitted, as texts such as `add a.txt`, with names from a directory on. */
@@ -65,6 +81,13 @@ class Watched {
     this.ready = new Promise((resolve) => { this.watcher.once('ready', resolve); });
   }
 
+  /** The events since the last call, when there is one and nothing else comes after it for a while. */
+  async hears() {
+    await comes(() => this.events.length > 0);
+    await pause(1000);
+    return this.events.splice(0);
+  }
+
   /** The events since the last call, when they are these in any order, or the patience ends. */
   async sees(name, expected) {
     const end = Date.now() + PATIENCE;
@@ -77,10 +100,20 @@ class Watched {
   }
 }
 
-/** Asks the server by a stream of its own. */
+/**
+ * What a try finds, which a machine that stands still for a while may spoil: several are made until one finds what
+ * is expected. A try gets its number.
+ */
+async function tried(name, expected, attempt) {
+  let found;
+  for (let turn = 0; turn < TRIES && !isDeepStrictEqual(found, expected); turn += 1) found = await attempt(turn);
+  same(name, found, expected);
+}
+
+/** Asks the server of now by a stream of its own. */
 function ask(...command) {
   return new Promise((resolve, reject) => {
-    const socket = net.connect(server.sockname);
+    const socket = net.connect(process.env.WQD_SOCK);
     let said = '';
     socket.on('error', reject);
     socket.on('data', (data) => {
@@ -91,6 +124,11 @@ function ask(...command) {
     });
     socket.write(`${JSON.stringify(command)}\n`);
   });
+}
+
+/** Whether the server of now watches a root. */
+async function isWatched(root) {
+  return (await ask('watch-list').catch(() => ({ roots: [] }))).roots.includes(root);
 }
 
 /** Runs the parts of a scene, one after the other, and ends the server. */
@@ -114,4 +152,6 @@ async function scene(...parts) {
   process.exit(0);
 }
 
-module.exports = { HOME, Watched, ask, chokidar, pause, put, room, same, scene, server, tree };
+module.exports = {
+  HOME, PATIENCE, Watched, ask, chokidar, comes, isWatched, pause, put, room, same, scene, server, tree, tried,
+};

@@ -14,7 +14,8 @@ from node_version import OLDEST, version
 HERE = Path(__file__).resolve().parent
 COMPARE = built.TOP / "clients" / "node" / "compare"
 HISTORIES = 28
-PATIENCE = 120.0
+# A scene or a comparison that hangs is ended after so many seconds; that bounds nothing that is tested.
+PATIENCE = 500.0
 # Where Debian has packages for Node.
 MODULES = "/usr/share/nodejs"
 

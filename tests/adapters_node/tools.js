@@ -4,9 +4,9 @@
 const { spawn } = require('child_process');
 const fs = require('fs');
 const path = require('path');
-const { HOME, ask, pause, put, same, scene, server, tree } = require('./scene');
+const { HOME, PATIENCE, ask, pause, put, same, scene, server, tree } = require('./scene');
 
-const PATIENCE = 20_000;
+const AGAIN = 1000;
 
 /** A tool that runs, and its lines. */
 class Tool {
@@ -17,9 +17,20 @@ class Tool {
     this.child.stdout.on('data', (data) => this.lines.push(...String(data).split("\n")));
   }
 
-  async says(name, line) {
+  /**
+   * Waits for a line. What causes it is done anew until it comes: when a tool begins to watch is not told.
+   * @param {(turn: number) => void} act
+   */
+  async says(name, line, act = () => {}) {
     const end = Date.now() + PATIENCE;
-    while (!this.lines.includes(line) && Date.now() < end) await pause(20);
+    for (let turn = 0, next = 0; !this.lines.includes(line) && Date.now() < end;) {
+      if (Date.now() >= next) {
+        turn += 1;
+        next = Date.now() + AGAIN;
+        act(turn);
+      }
+      await pause(20);
+    }
     same(name, this.lines.includes(line) ? line : this.lines, line);
     this.lines = [];
   }
@@ -70,12 +81,10 @@ for (const one of ['src/a.js', 'src/d', 'top.js']) {
 }
 setTimeout(() => console.log('begun'), 1500);`);
   await tool.says('a tool with fs.watchFile', 'begun');
-  put(path.join(root, 'src/a.js'), 'longer');
-  await tool.says('a file', 'src/a.js true');
-  put(path.join(root, 'src/d/new.js'));
-  await tool.says('a directory', 'src/d false');
-  put(path.join(root, 'top.js'), 'of another length');
-  await tool.says('a file of no root, by Node itself', 'top.js true');
+  const longer = (name) => (turn) => put(path.join(root, name), 'longer'.repeat(1 + turn));
+  await tool.says('a file', 'src/a.js true', longer('src/a.js'));
+  await tool.says('a directory', 'src/d false', (turn) => put(path.join(root, `src/d/new${turn}.js`)));
+  await tool.says('a file of no root, by Node itself', 'top.js true', longer('top.js'));
   await tool.end();
 }
 
@@ -96,12 +105,11 @@ w.watch({ files: [file], directories: [directory], missing: [no], startTime: Dat
 w.on('aggregated', (changes, removals) => console.log('changed ' + names(changes) + ', gone ' + names(removals)));
 setTimeout(() => console.log('begun'), 2000);`);
   await tool.says('watchpack', 'begun');
-  put(path.join(root, 'src/a.js'), 'longer');
-  await tool.says('a file changes', 'changed src/a.js, gone ');
-  put(path.join(root, 'src/d/e/new.js'));
-  await tool.says('a directory has more', 'changed src/d, gone ');
-  put(path.join(root, 'src/no.js'));
-  await tool.says('a file comes that was missing', 'changed src/no.js, gone ');
+  const longer = (name) => (turn) => put(path.join(root, name), 'longer'.repeat(1 + turn));
+  await tool.says('a file changes', 'changed src/a.js, gone ', longer('src/a.js'));
+  const more = (turn) => put(path.join(root, `src/d/e/new${turn}.js`));
+  await tool.says('a directory has more', 'changed src/d, gone ', more);
+  await tool.says('a file comes that was missing', 'changed src/no.js, gone ', longer('src/no.js'));
   server.kill();
   fs.unlinkSync(path.join(root, 'src/a.js'));
   await tool.says('a file goes while no server runs', 'changed , gone src/a.js');

@@ -32,6 +32,6 @@ class Recorder(FileSystemEventHandler):
         }
 
     def waits_for(self, expected: Set[str]) -> Set[str]:
-        found = look_until(self.said, expected.issubset, PATIENCE / 4)
+        found = look_until(self.said, expected.issubset, PATIENCE)
         self.events.clear()
         return found

@@ -36,6 +36,12 @@ def restarted(room: Path, server: Server, interval: int = 50) -> Server:
     return Server(room, interval=interval, share=50)
 
 
+def write_longer(path: Path) -> None:
+    """Makes a file longer by one write: one that is emptied first changes twice, and a scan may come between."""
+    with path.open("r+b", buffering=0) as file:
+        file.write(b"longer")
+
+
 def made(room: Path) -> Path:
     root = room / "root"
     for name in ("a", "d/b", "d/e/c"):

@@ -10,7 +10,7 @@ from typing import Callable, List, Set, Tuple
 import built
 from case import Case
 from client import Server
-from serving import made, needs_watchdog, served
+from serving import made, needs_watchdog, served, write_longer
 
 needs_watchdog()
 
@@ -26,7 +26,7 @@ SILENCE = 0.5
 
 STEPS: List[Tuple[Callable[[Path], object], Set[str]]] = [
     (lambda root: (root / "new").touch(), {"created new"}),
-    (lambda root: (root / "a").write_text("longer"), {"modified a"}),
+    (lambda root: write_longer(root / "a"), {"modified a"}),
     (lambda root: (root / "d" / "e" / "c").unlink(), {"deleted d/e/c"}),
     (lambda root: (root / "m" / "n").mkdir(parents=True), {"created m/", "created m/n/"}),
     (lambda root: shutil.rmtree(root / "d"), {"deleted d/", "deleted d/b", "deleted d/e/"}),

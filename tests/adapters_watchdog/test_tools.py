@@ -3,12 +3,12 @@
 import os
 import signal
 import subprocess
+import sys
 from pathlib import Path
 from typing import Callable, List, Sequence
 
-from case import Case, needs
+from case import Timed, needs
 from client import PATIENCE, Server
-from judged.served import Served
 from judged.tools import (
     DETECTED,
     MKDOCS,
@@ -27,8 +27,17 @@ from serving import needs_watchdog, served
 needs_watchdog()
 SILENCE = 0.7
 # Of the slow file system: how many files there are, how much longer a call of the server and one of the tool takes in
-# microseconds, and in how many seconds a save is noticed. Their scan by one thread takes longer.
+# microseconds, and in how many seconds a save is noticed. Their scan by one thread takes longer: where other work slows
+# both down, a save is noticed within such a scan.
 SOURCES, OF_SERVER, OF_TOOL, NOTICED = 2_000, 2_000, 300, 3.0
+SAVES = 3
+SCAN = """import os, sys, time
+began = time.monotonic()
+for directory, _, names in os.walk(sys.argv[1]):
+    for name in names:
+        os.stat(os.path.join(directory, name))
+print(time.monotonic() - began)
+"""
 
 
 def saves(path: Path) -> List[Callable[[], object]]:
@@ -60,7 +69,7 @@ WQD, INOTIFY, POLLING = (
 HIDDEN = "import sys; print('a sitecustomize of others', any('children' in each for each in sys.path), flush=True)\n"
 
 
-class Tools(Case):
+class Tools(Timed):
     def test_children(self) -> None:
         """A Python that the tool starts has the observer too, unless it is isolated; and its own sitecustomize."""
         others = self.directory("others")
@@ -134,22 +143,32 @@ class Tools(Case):
         """mkdocs notices a save soon, though each call takes long and a scan by one thread several times as long."""
         source = make_project(self.room / "project", SOURCES)
         os.environ.update(WQD_SOCK=str(self.room / "socket"), XDG_STATE_HOME=str(self.room))
-        server = Served(str(self.room / "socket"), delayed(OF_SERVER))
         try:
-            self.check_slow_saves([*delayed(OF_TOOL), *by_server(MKDOCS), *mkdocs_words()], source)
+            with Server(self.room, interval=100, share=10, through=delayed(OF_SERVER)):
+                self.check_slow_saves([*delayed(OF_TOOL), *by_server(MKDOCS), *mkdocs_words()], source)
         finally:
-            server.kill()
             del os.environ["WQD_SOCK"], os.environ["XDG_STATE_HOME"]
 
     def check_slow_saves(self, command: Sequence[str], source: Path) -> None:
         with Tool(command, source.parents[2]) as tool:
             tool.waits_for(READY)
-            for number in range(1, 4):
+            noticed = []
+            for number in range(1, SAVES + 1):
                 tool.rests(SILENCE)
                 with source.open("a") as file:
                     file.write("pass\n")
-                noticed = tool.waits_for(DETECTED, number)
-                self.check("a save is noticed soon", noticed < NOTICED, [f"{noticed:.2f} s"])
+                noticed.append(tool.waits_for(DETECTED, number))
                 tool.waits_for(REBUILT, number)
             tool.rests(SILENCE)
-            self.same("builds on a slow file system", tool.said.count(REBUILT), 3)
+            self.same("builds on a slow file system", tool.said.count(REBUILT), SAVES)
+        most = max(NOTICED, seconds_of_a_scan(source.parents[1]))
+        soon = [f"{seconds:.2f}" for seconds in noticed]
+        self.check(
+            "saves are noticed soon", sorted(noticed)[SAVES // 2] < most, [f"{soon} s, and {most:.2f} s at most"]
+        )
+
+
+def seconds_of_a_scan(directory: Path) -> float:
+    """How long one thread looks at all files, if each call takes as long as one of the server."""
+    command = [*delayed(OF_SERVER), sys.executable, "-S", "-c", SCAN, str(directory)]
+    return float(subprocess.run(command, stdout=subprocess.PIPE, check=True).stdout)

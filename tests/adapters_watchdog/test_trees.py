@@ -8,7 +8,7 @@ from typing import Dict, List
 
 from case import Case
 from client import PATIENCE
-from serving import made, restarted, served
+from serving import made, restarted, served, write_longer
 from waiting import wait_until
 from wqd_watchdog.connection import GONE
 from wqd_watchdog.rows import Change
@@ -59,7 +59,7 @@ class Trees(Case):
             )
             flat = Tree(server, str(root / "d"), False)
             self.same("what is directly in it", kinds(flat, root), {"d": True, "d/b": False, "d/e": True})
-            (root / "d" / "b").write_text("longer")
+            write_longer(root / "d" / "b")
             (root / "d" / "e" / "new").touch()
             self.same("a file that is written", changes_of(tree, 2), ["~ d/b", "+ d/e/new"])
             self.same("the same to both", changes_of(flat, 1), ["~ b"])
@@ -97,9 +97,9 @@ class Trees(Case):
                 "directory/in/back": True,
             }
             self.same("links", found, {"file": False, "round": True, **linked})
-            (outside / "in" / "g").write_text("longer")
+            write_longer(outside / "in" / "g")
             self.same("a file behind a link", changes_of(tree, 1), ["~ directory/in/g"])
-            (outside / "f").write_text("longer")
+            write_longer(outside / "f")
             (self.room / "none").touch()
             tree.look()
             changes = [each for each in changes_of(tree, 2) if "/" not in each]
@@ -169,7 +169,7 @@ class Trees(Case):
             server = Server()
             server.reach()
             tree = Tree(server, str(root), True)
-            (root / "a").write_text("longer")
+            write_longer(root / "a")
             tree.scan()
             (root / "new").touch()
             tree.scan()

@@ -14,7 +14,7 @@ from unittest.mock import patch
 
 import built
 from bridged import COMMAND, PROGRAM, Bridge, make_files
-from case import Case
+from case import Timed
 from client import PATIENCE, Client
 from waiting import wait_until
 
@@ -27,7 +27,7 @@ GRACE = 1.0
 TRIES = 20
 
 
-class Keeping(Case):
+class Keeping(Timed):
     def test_a_root_that_goes(self) -> None:
         """The place of a directory that went is given back after the grace time, and not before."""
         gone, back, stays = (self.room / name for name in ("gone", "back", "stays"))

@@ -7,7 +7,7 @@ from pathlib import Path
 from typing import Callable, Dict, List
 
 from bridged import Bridge, VERSION, is_silent, make_files, move_in
-from case import Case
+from case import Timed
 from client import Client
 
 # So many files come while lists are held back and let go.
@@ -27,7 +27,7 @@ def subscribed(client: Client, root: Path, name: str, query: Dict[str, object]) 
     return client.reply()
 
 
-class States(Case):
+class States(Timed):
     def test_states(self) -> None:
         """A list that a state holds back comes after it, once, and each subscriber hears of the state."""
         root = self.room / "root"

@@ -7,7 +7,7 @@ import time
 from typing import Dict, List, Tuple
 
 from bridged import Bridge, VERSION, make_files, move_in, set_for, text_of
-from case import Case
+from case import Timed
 
 # So many clients the server takes.
 PLACES = 32
@@ -33,7 +33,7 @@ OLD_FORM = {
 }
 
 
-class Triggered(Case):
+class Triggered(Timed):
     def test_triggers(self) -> None:
         """A command runs in its directory, is given the files below its relative root, and writes to its file."""
         root, out = self.room / "root", self.room / "out"

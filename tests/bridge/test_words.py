@@ -2,12 +2,13 @@
 
 import json
 import os
-from typing import Dict, List, Tuple
+from pathlib import Path
 from unittest.mock import patch
 
 from bridged import VERSION, Bridge, make_files
 from case import Case
 from client import PATIENCE
+from rows import tables
 from wqclient.own_roots import set_own_root
 
 HAS = (
@@ -23,71 +24,6 @@ HAS = (
     "glob_generator",
 )
 HAS_NOT = ("term-pcre", "scm-hg", "scm-since", "cmd-debug-ageout", "nothing")
-
-
-NO_PROGRAM = "a program is asked of names below the root alone, so it has no relative_root and no glob"
-
-# Queries, and the words after the first ones that refuse each.
-ERRORS_OF_QUERIES: List[Tuple[Dict[str, object], str]] = [
-    ({"fields": ["frob"]}, "unknown field name 'frob'"),
-    ({"sync_timeout": "x"}, "sync_timeout must be an integer value >= 0"),
-    ({"settle_period": -1}, "settle_period must be an integer value >= 0"),
-    ({"dedup_results": 7}, "dedup_results must be a boolean"),
-    ({"relative_root": 7}, "'relative_root' must be a string"),
-    ({"since": None}, "invalid value for 'since'"),
-    ({"since": {"scm": {}}}, "wqd has no clocks that follow source control"),
-    ({"path": 7}, "'path' must be an array"),
-    ({"path": [{"path": "d"}]}, "expected object with 'path' and 'depth' properties"),
-    ({"suffix": [7]}, "'suffix' must be a string or an array of strings"),
-    (
-        {"glob": ["*"], "since": "c:1:1", "case_sensitive": False},
-        "glob and since together take case_sensitive and no glob_noescape",
-    ),
-    ({"expression": ["match", "x" * 256]}, "pattern too long (E28)"),
-    ({"program": "p", "relative_root": "d"}, NO_PROGRAM),
-    ({"program": "p", "glob": ["*"]}, NO_PROGRAM),
-    ({"program": "p", "expression": "true"}, "expression and program (E29)"),
-    ({"program": "p"}, "no such program (E34)"),
-]
-
-# Queries, and all the words that refuse each.
-OTHER_ERRORS_OF_QUERIES: List[Tuple[Dict[str, object], str]] = [
-    ({"since": "x"}, "invalid clockspec"),
-    ({"since": {"clock": "n:a"}}, "invalid clockspec"),
-    ({"since": {"clock": 7}}, "invalid clockspec"),
-    ({"since": True}, "invalid clockspec"),
-    ({"expression": ["since", {"clock": "x"}]}, "invalid clockspec"),
-    ({"glob": [7]}, "expected json string object"),
-]
-
-# Expressions, and the words that refuse each: those of Watchman.
-ERRORS_OF_TERMS: List[Tuple[object, str]] = [
-    (7, "expected array or string for an expression"),
-    ([7], "first element of an expression must be a string"),
-    (["not", ["frob"]], "unknown expression term 'frob'"),
-    (["pcre", "x"], "unknown expression term 'pcre'"),
-    (["allof"], 'must use ["allof", expr...]'),
-    ("not", 'must use ["not", expr]'),
-    (["type"], 'must use ["type", "typestr"]'),
-    (["type", "ff"], "invalid type string 'ff'"),
-    ("name", "Expected array for 'name' term"),
-    (["name", 7], "Argument 2 to 'name' must be either a string or an array of string"),
-    (["iname", "a", "x"], "Invalid scope 'x' for iname expression"),
-    (["name", "a", "wholename", 7], "Invalid number of arguments for 'name' term"),
-    (["match", 7], 'Expected ["match", "pattern", "scope"?]'),
-    (["size", "xx", 1], "integer comparator opname `xx' is invalid"),
-    (["size", "eq", "a"], "integer comparator operand must be an integer"),
-    (["size"], "integer comparator must have 3 elements"),
-    (["since", "n:a"], 'named cursors are not allowed in "since" terms'),
-    (["since", None], 'invalid clockspec for "since" term'),
-    (["since", {}, "mtime"], 'field "mtime" requires a timestamp value for comparison in "since" term'),
-    (["since", 1, "foo"], 'invalid field name "foo" for "since" term'),
-    (["since", "c:1:1", "mtime"], 'field "mtime" requires a timestamp value for comparison in "since" term'),
-    (["suffix", [7]], 'must use ["suffix", "suffixstring"]'),
-    (["dirname", 7], "Argument 2 to 'dirname' must be a string"),
-    (["dirname", "d", ["foo", "ge", 1]], "Third parameter to 'dirname' should be a relational depth term"),
-    (["dirname", "d", 7], "Invalid number of arguments for 'dirname' term"),
-]
 
 
 class Words(Case):
@@ -131,15 +67,14 @@ class Words(Case):
         other.mkdir()
         with Bridge(self.room) as bridge, bridge.client(root) as client:
             self.same("not JSON", client_line(client, b"[\n").startswith("invalid json: "), True)
-            for command, words in errors_of_commands(str(root), str(other)):
-                self.same(f"{command}", client.ask(*command), {"error": words, "version": VERSION})
-            for query, words in ERRORS_OF_QUERIES:
-                self.same(f"{query}", client.ask("query", str(root), query)["error"], f"failed to parse query: {words}")
-            for term, words in ERRORS_OF_TERMS:
-                reply = client.ask("query", str(root), {"expression": term})
-                self.same(f"{term}", reply["error"], f"failed to parse query: {words}")
-            for query, words in OTHER_ERRORS_OF_QUERIES:
-                self.same(f"{query}", client.ask("query", str(root), query)["error"], words)
+            rows = tables(Path(__file__).with_name("words.rows"), ROOT=str(root), OTHER=str(other))
+            for row in rows["errors of commands"]:
+                self.same(row.given, client.ask(*row.value()), {"error": row.expected, "version": VERSION})
+            for row in rows["errors of queries"]:
+                self.same(row.given, client.ask("query", str(root), row.value())["error"], row.expected)
+            for row in rows["errors of terms"]:
+                reply = client.ask("query", str(root), {"expression": row.value()})
+                self.same(row.given, reply["error"], f"failed to parse query: {row.expected}")
             query = {"fields": ["name"], "expression": ["name", ["a", *["ü" * 7] * 40_000]]}
             client.send_bytes(json.dumps(["query", str(root), query], ensure_ascii=False).encode() + b"\n")
             self.same("a long line of letters that are not ASCII", client.reply().get("files"), ["a"])
@@ -224,87 +159,6 @@ class Words(Case):
             self.same("the bridge ends", bridge.process.wait(PATIENCE), 0)
             self.same("the server ends", bridge.server.process.wait(PATIENCE), 0)
             self.same("its socket is gone", os.path.exists(bridge.sockname), False)
-
-
-def errors_of_commands(root: str, other: str) -> List[Tuple[List[object], str]]:
-    """Commands, and the words that refuse each."""
-    return [
-        (["frob"], "unknown command frob"),
-        ([], "invalid command (expected an array with some elements!)"),
-        ([7], "invalid command: expected element 0 to be the command name"),
-        (["query", root], "wrong number of arguments for 'query'"),
-        (["query", 7, {}], "invalid value for argument 1, expected a string naming the root dir"),
-        (["watch", "rel"], 'unable to resolve root rel: path "rel" must be absolute'),
-        (["watch", "/"], 'unable to resolve root /: cannot watch "/"'),
-        (["watch"], "wrong number of arguments to 'watch'"),
-        (
-            ["watch", f"{root}/no"],
-            f"unable to resolve root {root}/no: realpath({root}/no) -> No such file or directory",
-        ),
-        (["watch", f"{root}/a"], f"unable to resolve root {root}/a: opendir_nofollow: {root}/a: Not a directory"),
-        (["query", other, {}], f"unable to resolve root {other}: directory {other} is not watched"),
-        (["get-config", other], f"unable to resolve root {other}: directory {other} is not watched"),
-        (["clock", other], f"unable to resolve root {other}: directory {other} is not watched"),
-        (["clock"], "wrong number of arguments to 'clock'"),
-        (["clock", root, 7], "malformated argument list for 'clock'"),
-        (["find"], "not enough arguments for 'find'"),
-        (["find", root, "*", 7], "failed to parse query: rule @ position 3 is not a string value"),
-        (["since", root, 7], "expected argument 2 to be a valid clockspec"),
-        (
-            ["watch-project", f"{root}/no"],
-            f"resolve_projpath: path `{root}/no`: open: {root}/no: No such file or directory",
-        ),
-        (["watch-project", 7], "second argument must be a string"),
-        (["unsubscribe", root], "expected 2nd parameter to be subscription name"),
-        (["subscribe", root, "s"], "wrong number of arguments for subscribe"),
-        (["subscribe", root, "s", {"defer": 7}], "defer field must be an array of strings"),
-        (["log-level", "x"], "invalid log level for 'log-level'"),
-        (["log", "debug"], "wrong number of arguments to 'log'"),
-        *errors_of_triggers(root),
-        *errors_of_states(root),
-    ]
-
-
-def errors_of_triggers(root: str) -> List[Tuple[List[object], str]]:
-    named: Dict[str, object] = {"name": "t", "command": ["x"]}
-    return [
-        (["trigger"], "wrong number of arguments"),
-        (["trigger", root], "not enough arguments"),
-        (
-            ["trigger", f"{root}/no"],
-            f"unable to resolve root {root}/no: realpath({root}/no) -> No such file or directory",
-        ),
-        (["trigger", root, "t", "*.c"], "no command was specified"),
-        (["trigger", root, "t", "--", 123], "failed to parse query: rule @ position 4 is not a string value"),
-        (["trigger", root, {}], "invalid or missing name"),
-        (["trigger", root, {"name": "t"}], "invalid command array"),
-        (["trigger", root, dict(named, stdin=7)], "invalid value for stdin"),
-        (["trigger", root, dict(named, stdin="foo")], "invalid stdin value foo"),
-        (["trigger", root, dict(named, stdout="foo")], "stdout: must be prefixed with either > or >>, got foo"),
-        (["trigger", root, dict(named, max_files_stdin=-1)], "max_files_stdin must be >= 0"),
-        (["trigger", root, dict(named, expression=["frob"])], "failed to parse query: unknown expression term 'frob'"),
-        (["trigger-del", root], "wrong number of arguments"),
-        (["trigger-del", root, 7], "expected 2nd parameter to be trigger name"),
-    ]
-
-
-def errors_of_states(root: str) -> List[Tuple[List[object], str]]:
-    return [
-        (["state-enter", root], "invalid number of arguments, expected 3, got 2"),
-        (["state-enter", root, {}], "key 'name' is not present in this json object"),
-        (["state-enter", root, {"name": "b", "sync_timeout": -1}], "sync_timeout must be >= 0"),
-        (["state-leave", root, "b"], "state b is not asserted"),
-        (["flush-subscriptions", root], "wrong number of arguments to 'flush-subscriptions'"),
-        (["flush-subscriptions", root, {}], "key 'sync_timeout' is not present in this json object"),
-        (
-            ["flush-subscriptions", root, {"sync_timeout": 1, "subscriptions": 7}],
-            "expected 'subscriptions' to be an array of subscription names",
-        ),
-        (
-            ["flush-subscriptions", root, {"sync_timeout": 1, "subscriptions": ["x"]}],
-            "this client does not have a subscription named 'x'",
-        ),
-    ]
 
 
 def client_line(client, line: bytes) -> str:

@@ -9,16 +9,10 @@ A file is of version 1, unless the program has sets, or version 2 is asked for.
 """
 
 import json
-import re
 from typing import Any, List, NamedTuple, Sequence
 
+from rows import expand
 from wqprogram.instructions import BY_NAME, RELATIONS
-
-REPEATED = re.compile(r"\{\{(.*?)\*([0-9]+)\}\}", re.DOTALL)
-
-
-def expand(text: str) -> str:
-    return REPEATED.sub(lambda found: found.group(1) * int(found.group(2)), text)
 
 
 def values(text: str) -> List[Any]:

@@ -6,7 +6,7 @@ import time
 from pathlib import Path
 from typing import Dict, List
 
-from case import Case
+from case import Timed
 from client import ENDED, Client, Server
 from house import House, large_tree, line_of
 from wqprogram.instructions import BY_NAME
@@ -61,7 +61,7 @@ def asked(client: Client, root: Path, kind: str) -> None:
     raise ValueError(f"a query that takes minutes was answered: {found!r}")
 
 
-class Endless(Case):
+class Endless(Timed):
     def test_endless(self) -> None:
         root = large_tree()
         for kind in KINDS:

@@ -2,7 +2,7 @@
 
 from typing import List
 
-from case import Case
+from case import Timed
 from client import ENDED, VERSION, Client
 from house import House, dear_query, large_tree, line_of
 from waiting import look_until
@@ -16,7 +16,7 @@ PROGRAMS = 150
 PROGRAM = "V1FQRgEAAAAAAAAAAAACAQEAACMAAAA="
 
 
-class Leaving(Case):
+class Leaving(Timed):
     def test_leaving(self) -> None:
         root = large_tree()
         with House(self.room, root) as house:

@@ -5,6 +5,7 @@ from pathlib import Path
 from typing import Any, Dict, List, Optional, Set
 
 from client import PATIENCE, VERSION, Client, Server
+from pictures import Picture
 
 READING = {**VERSION, "error": "E11: root cannot be read"}
 FIELDS = ["name", "exists"]
@@ -27,27 +28,29 @@ def watched(server: Server, root: Path, client: Optional[Client] = None) -> bool
     return (client or server.client()).ask("watch-list").get("roots") == [str(root)]
 
 
-class Picture:
+class Judged(Picture):
     """The files that a client knows of, and what was wrong in what it was told. A file of which a walk may have seen
     nothing can go and come back between two lists. So it may be told although the client knows it."""
 
     def __init__(self, lost: Set[str]) -> None:
+        super().__init__()
         self.lost = lost
-        self.known: Set[str] = set()
         self.wrong: List[str] = []
 
-    def take(self, files: List[dict], truth: Set[str]) -> None:
+    def judge(self, files: List[dict], truth: Set[str]) -> None:
         """A list tells of no file what the client knows already, and of none that is there but was not made."""
         for file in files:
-            name, exists = file["name"], file["exists"]
-            if exists == (name in self.known) and name not in self.lost:
+            if file["exists"] == (file["name"] in self.known) and file["name"] not in self.lost:
                 self.wrong.append(f"told twice: {file}")
-            self.known.add(name) if exists else self.known.discard(name)
-        if not self.known <= truth:
+            self.take([file])
+        if not self.names() <= truth:
             self.wrong.append(f"told of what is not there: {sorted(self.known)}")
 
+    def lacks(self, truth: Set[str]) -> None:
+        self.wrong.append(f"it knows {sorted(self.known)} of {sorted(truth)}")
 
-class Follower(Picture):
+
+class Follower(Judged):
     """A client that asks in one session what changed by a cursor."""
 
     def __init__(self, server: Server, root: Path, lost: Set[str]) -> None:
@@ -64,13 +67,13 @@ class Follower(Picture):
             if reply.get("is_fresh_instance") is not self.is_first:
                 self.wrong.append(f"fresh or not: {reply}")
             self.is_first = False
-            self.take(reply["files"], truth)
-            if self.known == truth:
+            self.judge(reply["files"], truth)
+            if self.names() == truth:
                 return
-        self.wrong.append(f"it knows {sorted(self.known)} of {sorted(truth)}")
+        self.lacks(truth)
 
 
-class Caller(Picture):
+class Caller(Judged):
     """A client whose sessions end, and that asks in each what changed since the last clock that it read. A cursor is no
     help: one whose reply was cut has moved."""
 
@@ -86,9 +89,9 @@ class Caller(Picture):
             crawling: List[dict] = [{}] * CRAWLS
             for lines in (crawling, [{"sync_timeout": 0}]):
                 self.take_last(self.replies(lines), truth)
-                if self.known == truth:
+                if self.names() == truth:
                     return
-        self.wrong.append(f"it knows {sorted(self.known)} of {sorted(truth)}")
+        self.lacks(truth)
 
     def replies(self, lines: List[dict]) -> List[dict]:
         """What comes of a session to which these queries are sent at once."""
@@ -118,10 +121,10 @@ class Caller(Picture):
                 self.wrong.append(f"fresh or not: {reply}")
         if lists:
             self.clock = lists[-1]["clock"]
-            self.take(lists[-1]["files"], truth)
+            self.judge(lists[-1]["files"], truth)
 
 
-class Subscriber(Picture):
+class Subscriber(Judged):
     """A client that subscribes, and that subscribes anew from the last clock that it read if its session ended."""
 
     def __init__(self, server: Server, root: Path, lost: Set[str]) -> None:
@@ -138,10 +141,10 @@ class Subscriber(Picture):
     def hear(self, truth: Set[str]) -> None:
         """Hears lists until it knows all. Lists of walks from before may come first: what it knows may still be
         there."""
-        end, lawful = time.monotonic() + PATIENCE, truth | self.known
-        while self.known != truth:
+        end, lawful = time.monotonic() + PATIENCE, truth | self.names()
+        while self.names() != truth:
             if time.monotonic() > end:
-                self.wrong.append(f"it knows {sorted(self.known)} of {sorted(truth)}")
+                self.lacks(truth)
                 return
             self.hear_line(lawful)
 
@@ -156,6 +159,6 @@ class Subscriber(Picture):
             return
         if "files" in line:
             self.clock = line["clock"]
-            self.take(line["files"], lawful)
+            self.judge(line["files"], lawful)
         elif "subscribe" not in line:
             self.wrong.append(f"another line: {line}")

@@ -45,7 +45,7 @@ SIBLINGS = {
         {
             **MADE,
             "clients/bridge/queries.py": "a key of Watchman, which says true or false",
-            "clients/tried/words.py": "the same",
+            "clients/tried/words.rows": "the same",
             "clients/wq/questions.py": "a value that is wrong, of any key",
             "tests/bridge/*": "samples of queries",
             "tests/refused_memory/query.rattle": "the key takes no memory",

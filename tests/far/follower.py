@@ -1,13 +1,13 @@
 """A client that follows a tree, and what it knows beside a plain walk."""
 
 from pathlib import Path
-from typing import Dict, List, Tuple
+from typing import List
 
 from case import Case
 from client import Client, Server, walked
+from pictures import Picture
 
 FIELDS = ["name", "exists", "type", "size", "mtime_ms"]
-Known = Dict[str, Tuple[str, int, int]]
 
 
 class Follower:
@@ -17,7 +17,7 @@ class Follower:
         self.case = case
         self.client: Client = server.client()
         self.root = root
-        self.known: Known = {}
+        self.picture = Picture()
         self.client.ask("watch", str(root))
 
     def __enter__(self) -> "Follower":
@@ -29,12 +29,8 @@ class Follower:
     def takes(self, name: str) -> List[str]:
         """Takes the changes since the last answer. What is known then is the tree. Gives the names that changed."""
         reply = self.client.ask("query", str(self.root), {"since": "n:follower", "fields": FIELDS})
-        for file in reply.get("files", []):
-            if file["exists"]:
-                self.known[file["name"]] = (file["type"], file["size"], file["mtime_ms"])
-            else:
-                self.known.pop(file["name"], None)
-        self.case.same(name, self.known, {row[0]: row[1:] for row in walked(self.root)})
+        self.picture.take(reply.get("files", []))
+        self.case.same(name, self.picture.known, {row[0]: row[1:] for row in walked(self.root)})
         return sorted(file["name"] for file in reply.get("files", []))
 
     def hears_of(self, name: str) -> List[str]:

@@ -6,7 +6,7 @@ import time
 from pathlib import Path
 from typing import List
 
-from case import Case
+from case import Timed
 from client import A_HOUR, Client, Server, walked
 from follower import Follower, make_tree
 
@@ -25,7 +25,7 @@ def delayed(microseconds: int = DELAY) -> List[str]:
     return ["strace", "-f", "-D", "-qq", "--seccomp-bpf", "-o", "/dev/null", *calls]
 
 
-class Delayed(Case):
+class Delayed(Timed):
     def test_delayed_answers(self) -> None:
         """Each answer is right, by one thread and by several."""
         self.check_installed("strace")

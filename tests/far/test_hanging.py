@@ -8,7 +8,7 @@ import time
 from pathlib import Path
 from typing import Any, Dict, List
 
-from case import Case
+from case import Timed
 from client import VERSION, Client, Server, walked
 from follower import make_tree
 from waiting import look_until
@@ -30,7 +30,7 @@ def hanging(directory: Path) -> List[str]:
     return ["strace", "-f", "-D", "-qq", "-o", "/dev/null", "-P", str(directory), *calls]
 
 
-class Hanging(Case):
+class Hanging(Timed):
     def test_a_tree_that_hangs(self) -> None:
         """The tree hangs when it is watched first, or later, when nobody asks for it."""
         self.check_installed("strace")

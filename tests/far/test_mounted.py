@@ -6,7 +6,7 @@ import time
 from pathlib import Path
 from typing import List
 
-from case import Case
+from case import Timed
 from client import A_HOUR, PATIENCE, Server, query_of_names
 from follower import Follower, make_tree
 from mounts import Passing, compiled, in_namespace, made, mounted
@@ -16,7 +16,7 @@ CACHED = 1.0
 
 
 @in_namespace
-class Mounted(Case):
+class Mounted(Timed):
     def test_a_bind_mount(self) -> None:
         """A root that is another place of a directory: what changes behind it is seen."""
         source, place = made(self.room, "source", "place")

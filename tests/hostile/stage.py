@@ -22,14 +22,12 @@ from followers import Session
 from servers import Server as PlainServer
 from views import Row, Sight, pass_of
 from wqprogram.json_values import compact_text
+from waiting import PATIENCE, look_until
 from wqprogram.limits import MAX_LINE
 
 # How many seconds two other clients wait at most for their answers, one after the other. On a machine that has other
-# work too they may wait for that, so one of several times counts.
+# work too they may wait for that, so they ask until one time is as it should be.
 SOON = 1.0
-TRIES = 3
-# How long the threads of sessions that are over may take to end, in seconds.
-A_WHILE = 10.0
 # How much memory the server may have at most, and how much more than at first once it is idle, in bytes.
 MOST_MEMORY = 150_000_000
 MORE_MEMORY = 16_000_000
@@ -162,8 +160,8 @@ class StageCase(Case):
 
     def is_well(self, name: str) -> None:
         """The other client and a new one are answered soon, memory is bounded, and no thread is left."""
-        times = [self.seconds_of_others(name) for _ in range(TRIES)]
-        self.check(f"they are answered soon, {name}", min(times) <= SOON, [f"{times} seconds"])
+        took = look_until(lambda: self.seconds_of_others(name), lambda took: took <= SOON)
+        self.check(f"they are answered soon, {name}", took <= SOON, [f"{took} seconds"])
         most = self.stage.server.most_memory()
         self.check(f"the most memory, {name}", most <= MOST_MEMORY, [f"{most} bytes"])
         is_small = self.stage.server.has_memory_below(self.stage.memory + MORE_MEMORY)
@@ -172,7 +170,7 @@ class StageCase(Case):
             is_small,
             [f"{self.stage.server.memory()} bytes, before {self.stage.memory}"],
         )
-        is_same = self.stage.server.has_threads(self.stage.threads, A_WHILE)
+        is_same = self.stage.server.has_threads(self.stage.threads, PATIENCE)
         self.check(
             f"the threads after it, {name}", is_same, [f"{self.stage.server.threads()}, before {self.stage.threads}"]
         )

@@ -1,11 +1,13 @@
 """Groups of hostile bytes, each of which the server answers as the plain program does."""
 
+from pathlib import Path
 from typing import Iterator, List
 
 import built
 from draws import Draws, array, json_object
 from generate_terms import World
 from lines import drawn_bytes, drawn_line
+from rows import tables
 from stage import NAMES, SEED, StageCase
 from wqprogram.json_values import compact_text
 
@@ -15,127 +17,12 @@ CLIENTS_OF_BYTES = 60
 
 LONGEST_LINE = 1_048_576
 MAX = 2**62
-NUMBERS = [
-    "0",
-    "1",
-    "-1",
-    "-0",
-    "-0.0",
-    "0.0",
-    "1.5",
-    "01",
-    "+1",
-    "1e0",
-    "1E+2",
-    "5e-324",
-    "1e-400",
-    "1.7976931348623157e308",
-    "1.7976931348623159e308",
-    "-1e309",
-    "1e400",
-    "0e99999999",
-    "1e-99999999",
-    "0." + "0" * 1000 + "1",
-    "9" * 400,
-    "-" + "9" * 400,
-    "1" + "0" * 308,
-    "1" + "0" * 309,
-    "1e",
-    "1e+",
-    ".5",
-    "5.",
-    "-",
-    "--1",
-    "0x10",
-    "1_0",
-    "NaN",
-    "-Infinity",
-    "\uff11",
-]
+ROWS = tables(Path(__file__).with_name("groups.rows"))
 POWERS = (2**31, 2**32, 2**53, MAX, 2**63, 2**64)
+NUMBERS = [row.text() for row in ROWS["numbers"]]
 NUMBERS += [str(sign * (power + more)) for power in POWERS for more in (-1, 0, 1) for sign in (1, -1)]
 
-# A session on a root: lines that are wrong, lines that keep something, one that ends it, and one that nobody may see.
-SESSION = [
-    b"[",
-    b"7",
-    b'["frob"]',
-    b'["query",ROOT,{"expression":["pcre","x"]}]',
-    b"",
-    b'["version"]',
-    b'["query",ROOT,{"fields":["name"],"since":"n:pieces"}]',
-    b'["query",ROOT,{"fields":["name"],"since":"n:pieces"}]',
-    b'["watch-del",ROOT]',
-    b'["clock",ROOT]',
-    b'["watch","r"]',
-    b'["watch",ROOT]',
-    b'["watch-list"]',
-    b" ",
-    b'["get-sockname"]',
-    b"\0\1",
-    b'["version"]',
-]
-
-# Bytes between two quotation marks: escapes of half surrogates, forms of UTF-8 that are too long or cut, and the
-# longest characters that there are.
-TEXTS = [
-    b"\\ud800",
-    b"\\udbff",
-    b"\\udc00",
-    b"\\udfff",
-    b"\\udc00\\ud800",
-    b"\\ud800\\ud800",
-    b"\\ud800\\u0041",
-    b"\\ud800x",
-    b"\\ud800\\",
-    b"\\ud800\\n",
-    b"\\ud83d\\ude00",
-    b"\\uD83D\\uDE00",
-    b"\\udbff\\udfff",
-    b"\\uffff",
-    b"\\u0000",
-    b"\\u000",
-    b"\\u00g0",
-    b"\\U0041",
-    b"\\x41",
-    b"\\",
-    b"\\'",
-    b"\\/",
-    b"a\\u0000b",
-    b"\x80",
-    b"\xbf",
-    b"\xc0\x80",
-    b"\xc1\xbf",
-    b"\xc2",
-    b"\xc2\x41",
-    b"\xe0\x80\x80",
-    b"\xe0\x9f\xbf",
-    b"\xe0\xa0\x80",
-    b"\xe2\x82",
-    b"\xed\x9f\xbf",
-    b"\xed\xa0\x80",
-    b"\xed\xbf\xbf",
-    b"\xee\x80\x80",
-    b"\xef\xbb\xbf",
-    b"\xef\xbf\xbf",
-    b"\xf0\x80\x80\x80",
-    b"\xf0\x8f\xbf\xbf",
-    b"\xf0\x90\x80\x80",
-    b"\xf0\x9f\x98",
-    b"\xf4\x8f\xbf\xbf",
-    b"\xf4\x90\x80\x80",
-    b"\xf5\x80\x80\x80",
-    b"\xf8\x88\x80\x80\x80",
-    b"\xfc\x84\x80\x80\x80\x80",
-    b"\xfe",
-    b"\xff",
-    b"\x00",
-    b"\x01",
-    b"\x1f",
-    b"\x7f",
-    b"\t",
-    b"\r",
-]
+SESSION, TEXTS = ([row.data() for row in ROWS[name]] for name in ("session", "texts"))
 
 
 class Groups(StageCase):

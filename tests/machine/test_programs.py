@@ -10,6 +10,7 @@ from typing import Any, Dict, Iterator, List, NamedTuple
 from case import Case
 from drawn import drawn_of
 from notation import file_of
+from rows import tables
 from unproved import answers
 from wqprogram.machine import run as plain_run
 from wqprogram.program_file import VERSIONS, read
@@ -65,80 +66,8 @@ WORKED = [
     Worked("basename; anymatch 0; ret", "67 32779", "n19 n19 y59 n35 n43 y35"),
 ]
 
-# One program or more for each instruction.
-EACH = [
-    "flag 0; ret",
-    "flag 1; not; ret",
-    "num 0; num 1; cmp ge; ret",
-    "text 0; text 1; eq; ret",
-    "wholename; text 2; eq fold; ret",
-    "wholename; text 2; eq; ret",
-    "basename; text 1; eq; ret",
-    "suffix; oneof 0; ret",
-    "suffix; oneof 0 fold; ret",
-    "wholename; oneof 1; ret",
-    "size; num 0; cmp eq; ret",
-    "size; num 0; cmp ne; ret",
-    "size; num 0; cmp lt; ret",
-    "size; num 0; cmp le; ret",
-    "mtime; num 1; cmp eq; ret",
-    "oclock; cclock; cmp gt; ret",
-    "osec; num 2; cmp gt; ret",
-    "csec; num 2; cmp eq; ret",
-    "kind; num 2; cmp eq; ret",
-    "kind; num 2; cmp gt; ret",
-    "exists; not; ret",
-    "wholename; text 0; depth; num 1; cmp gt; ret",
-    "wholename; text 2; depth fold; num 1; cmp eq; ret",
-    "text 2; text 0; depth fold; num 1; cmp gt; ret",
-    "text 2; text 0; depth; num 1; cmp gt; ret",
-    "wholename; match 1; ret",
-    "basename; match 2; ret",
-    "suffix; match 0; ret",
-    "text 0; match 2; ret",
-    "wholename; anymatch 0; ret",
-    "wholename; anymatch 1; ret",
-    "wholename; anymatch 2; ret",
-    "suffix; anymatch 2; ret",
-    "text 2; anymatch 2; ret",
-    "basename; anymatch 0; not; basename; anymatch 2; or; ret",
-    "exists; size; num 0; cmp gt; and; ret",
-    "exists; not; size; num 0; cmp gt; or; ret",
-    "basename; drop; exists; ret",
-    "exists; jf 3; jump 4; not; ret",
-    "exists; jf 3; not; ret",
-    "exists; jt 3; not; ret",
-    "exists; jt 4; drop; flag 1; ret",
-    "exists; jf 8; drop; kind; num 2; cmp gt; jt 8; not; ret",
-    "; ".join(["exists"] * 16 + ["and"] * 15 + ["ret"]),
-]
-
-# Of these every program of up to four instructions is tried.
-SMALL = [
-    "flag 0",
-    "exists",
-    "num 0",
-    "size",
-    "text 1",
-    "basename",
-    "suffix",
-    "cmp lt",
-    "eq",
-    "eq fold",
-    "match 0",
-    "oneof 0",
-    "anymatch 0",
-    "not",
-    "and",
-    "or",
-    "drop",
-    "jump 2",
-    "jump 3",
-    "jf 2",
-    "jf 3",
-    "jt 3",
-    "ret",
-]
+ROWS = tables(Path(__file__).with_name("machine.rows"))
+EACH, SMALL = ([row.given for row in ROWS[name]] for name in ("each", "small"))
 
 FEWEST_SMALL = 140
 

@@ -14,51 +14,26 @@ from case import Case
 from client import PATIENCE, PLAIN, Client, Server
 from clones import bare, tools
 from installing import call, present
+from rows import tables
 
-GOOD = {"sockname": "/nothing/here", "start": "0", "pid": str(2**62), "interval": "10", "share": "1", "workers": "16"}
-WRONG: List[Tuple[List[str], str]] = [
-    ([], "there is no command; wqd --help says which there are"),
-    (["frob"], "there is no command frob; wqd --help says which there are"),
-    (["--help", "me"], "there is no command --help; wqd --help says which there are"),
-    (["help"], "there is no command help; wqd --help says which there are"),
-    ([""], "there is no command; wqd --help says which there are"),
-    (["replay", "now"], "replay takes no further words, and reads its script from standard input"),
-    (["check"], "check takes one file"),
-    (["check", "a", "b"], "check takes one file"),
-    (["serve", "fr\\nob"], "serve takes no further words: fr\\nob"),
-    (["serve", "--frob", "1"], "serve has no option --frob"),
-    (["serve", "--sockname"], "--sockname needs a value"),
-]
+GOOD = {
+    "sockname": "/nothing/here",
+    "start": "0",
+    "pid": str(2**62),
+    "interval": "10",
+    "share": "1",
+    "quiet-after": "86400",
+    "workers": "16",
+}
+ROWS = tables(Path(__file__).with_name("command.rows"))
 NUMBERS = {
     "start": "0 to 2^62",
     "pid": "0 to 2^62",
     "interval": "10 to 3600000",
     "share": "1 to 100",
+    "quiet-after": "0 to 86400",
     "workers": "1 to 16, or auto",
 }
-WRONG_NUMBERS = [
-    ("start", "-1"),
-    ("start", "01"),
-    ("start", str(2**62 + 1)),
-    ("start", "5" * 19),
-    ("start", "1" * 20),
-    ("start", str(2**64)),
-    ("pid", "x"),
-    ("pid", ""),
-    ("pid", " 1"),
-    ("pid", "1 "),
-    ("pid", "+1"),
-    ("interval", "9"),
-    ("interval", "3600001"),
-    ("share", "0"),
-    ("share", "101"),
-    ("share", "x"),
-    ("workers", "0"),
-    ("workers", "17"),
-    ("workers", "1.5"),
-    ("workers", "0x1"),
-    ("workers", "*"),
-]
 
 
 def serve(**values: str) -> List[str]:
@@ -69,9 +44,9 @@ class Command(Case):
     def test_help(self) -> None:
         text = call(self.room, "wqd", "--help")
         self.same("help", (text.status, text.errors), (0, b""))
-        for word in ("serve", "replay", "check", "--version", *(f"--{name}" for name in GOOD)):
+        for word in ("serve", "sockname", "replay", "check", "--version", *(f"--{name}" for name in GOOD)):
             self.same(f"{word} in the help", word.encode() in text.output, True)
-        for words in (["-h"], ["serve", "--help"], ["replay", "--help"], ["check", "--help"]):
+        for words in (["-h"], *([word, "--help"] for word in ("serve", "sockname", "replay", "check"))):
             self.same(f"help by {words}", call(self.room, "wqd", *words), text)
         changes = (built.TOP / "CHANGELOG.md").read_text()
         version = next(line.split()[1].rstrip(",") for line in changes.splitlines() if line.startswith("## "))
@@ -79,13 +54,16 @@ class Command(Case):
 
     def test_wrong_words(self) -> None:
         """Each line is refused by the program, which says no more than that; then the command says which word it is."""
-        cases = list(WRONG)
-        for name, value in WRONG_NUMBERS:
+        cases = [(row.value(), row.expected) for row in ROWS["wrong words"]]
+        for name, value in (row.value() for row in ROWS["wrong numbers"]):
             cases.append((serve(**{name: value}), f"--{name} takes a number from {NUMBERS[name]}"))
         cases.append((serve() + ["--pid", "1"], "--pid is given twice"))
         for words, reason in cases:
             refused = f"wqd: wrong command line\nwqd: {reason}\n".encode()
             self.same(f"the words {words}", call(self.room, "wqd", *words), built.Ended(b"", refused, 2))
+            if words[:1] == ["serve"]:
+                asked = call(self.room, "wqd", "sockname", *words[1:])
+                self.same(f"sockname with {words}", asked, built.Ended(b"", refused, 2))
 
     def test_no_program(self) -> None:
         """The variable WQD names no program: that is what is wrong, whatever the words are."""

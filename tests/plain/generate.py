@@ -9,10 +9,11 @@ import sys
 from pathlib import Path
 from typing import Callable, Dict, List, Tuple
 
-sys.path.insert(0, str(Path(__file__).resolve().parents[2] / "clients"))
+TESTS = Path(__file__).resolve().parents[1]
+sys.path[:0] = [str(TESTS), str(TESTS.parent / "clients")]
 
 from draws import Draws, array, json_object
-from generate_terms import MAX, WRONG_NUMBERS, World, clock_spec, expression, globs, paths, suffixes
+from generate_terms import GENERATED, MAX, WRONG_NUMBERS, World, clock_spec, expression, globs, paths, suffixes
 from generate_triggers import rounds, trigger_command
 from malformed import BAD_LINES, BAD_ROWS, BAD_SCRIPT_LINES, FAULTY_ROWS, LONG_LINES
 from programs import FAULTS, PROGRAMS
@@ -22,82 +23,7 @@ from wqclient.names import FIELDS
 # The text of a value of a key.
 Value = Callable[[Draws, World], str]
 
-NAMES = [
-    "a",
-    "a.c",
-    "A.C",
-    ".a.c",
-    "b.txt",
-    "src",
-    "src/a.c",
-    "src/A.c",
-    "Src/a.c",
-    "src/b/c.TXT",
-    "src/.y/a.c",
-    ".x/a.c",
-    "x/y/z/a.c",
-    "x/y",
-    "x",
-    "ü",
-    "Ü.c",
-    "日本/語.c",
-    "a b",
-    "a\\b",
-    'a"b',
-    "[a]",
-    "a*b",
-    "-",
-    "]",
-    "!",
-    "b.",
-    "..a",
-    "...",
-    "a..c",
-    ".php",
-    "php",
-    "a.PHP",
-    "x\ty",
-    "x\x01y",
-    "x\x7fy",
-    "😀.txt",
-    "é/É",
-    "a-b_c",
-    "foo/bar",
-    "foo/bar/x",
-    "foo/bar/y/x",
-    "foo/barx/z",
-    "k=1",
-    "x\ry",
-    "Z",
-    "z",
-    "7",
-    "_",
-    "~",
-    "[",
-    "^",
-    "\t",
-    "\x7f",
-    "\x0b",
-    "\x1f",
-    " ",
-    ":]",
-    "[]",
-    "x:",
-    "a]",
-    "g",
-    "F",
-    "G",
-    "x/.c",
-    "x/[a]/7",
-    "x/y/.z/a.c",
-    "*",
-    "?",
-    "@",
-    "`",
-    "{",
-    "/".join("abcdefgh"),
-    "a" * 40,
-]
+NAMES = GENERATED["names"]
 LETTERS = "fffffffddddlbcpsD?"
 WRONG_FIELDS = [
     '"name"',

@@ -1,10 +1,14 @@
 """Generated expressions and clock specs, as JSON texts."""
 
+from pathlib import Path
 from typing import Callable, Dict, List, NamedTuple
 
 from cases import MANY
 from draws import Draws, array, json_object, json_text
+from rows import tables
 
+ROWS = tables(Path(__file__).with_name("generated.rows"))
+GENERATED = {name: [row.text() for row in rows] for name, rows in ROWS.items()}
 MAX = 2**62
 NOT_TERMS = ["7", "null", "{}", "[]", '[["name"]]', "[7]", "true", "1.5", '[null,"exists"]']
 SUFFIXES = ["c", "C", "txt", "TXT", "php", "", "ü", "Ü", ".c", "c.c"]
@@ -12,62 +16,7 @@ UNKNOWN_TERMS = ['"frob"', '["frob",7,null]', '"True"', '""', '["pcre","x"]', '[
 WRONG_TEXTS = ["7", "null", "{}", "true", "[7]", '["a",null]', '[["a"]]']
 WRONG_NUMBERS = ["1.5", "0.0", "-0", "1e3", '"1"', "null", str(MAX + 1), str(-MAX - 1), str(2**64), "[1]"]
 RELATIONS = ["eq", "ne", "gt", "ge", "lt", "le"]
-CLASSES = [
-    "[a-c]",
-    "[!a-c]",
-    "[^A-Z]",
-    "[[:alpha:]]",
-    "[![:digit:]]",
-    "[[:upper:].]",
-    "[]a]",
-    "[a-]",
-    "[.]",
-    "[/a]",
-    "[z-a]",
-    "[[:punct:]]",
-    "[[:foo:]]",
-    "[[::]]",
-    "[a-[:digit:]]",
-    "[\\]a]",
-    "[\\a-\\c]",
-    "[[:]x]",
-    "[a",
-    "[",
-    "[!]a]",
-    "[ü]",
-    "[[:xdigit:][:space:]]",
-    "[[:graph:]]",
-    "[[:cntrl:]]",
-    "[[:print:]]",
-    "[[:blank:]x]",
-    "[[:alnum:]_]",
-    "[--b]",
-    "[[:lower:]-z]",
-    "[a-c-e]",
-    "[a-c--e]",
-    "[[:a]b:]",
-    "[]-a]",
-    "[!-a]",
-    "[\\",
-    "[a\\]",
-    "[[:lower:]]",
-    "[[:space:]]",
-    "[^[:space:]]",
-    "[[:blank:]]",
-    "[[:xdigit:]]",
-    "[![:print:]]",
-    "[^[:graph:][:cntrl:]]",
-    "[![:foo:]]",
-    "[[:UPPER:]]",
-    "[[:alpha]",
-    "[^]]",
-    "[]]",
-    "[[]",
-    "[a-\\]]",
-    "[\\[-\\]]",
-    "[[:upper:]-]",
-    "[[:punct:][:alnum:]]",
-]
+CLASSES = GENERATED["classes"]
 STARTS = ["**/", "**/", "**/**/", "**/*/", "*/", "***/", "**", "**\\/"]
 PIECES = ["*", "**", "?", "/", "**/", "a", "A", ".", "\\", "x", "[", "]", "!", "-", *CLASSES]
 

@@ -1,10 +1,11 @@
 """Texts, explanations and runs that were worked out by hand."""
 
-from typing import List, NamedTuple, Tuple
+from pathlib import Path
+from typing import NamedTuple, Tuple
 
-from bad_texts import BAD_TEXTS
 from case import Case
 from notation import file_of
+from rows import tables
 from wqprogram.assembler import assembled
 from wqprogram.command import LONGEST_FILE, LONGEST_TEXT
 from wqprogram.disassembler import disassembled
@@ -15,6 +16,9 @@ from wqprogram.records import Clocks, record_of_row
 from wqprogram.source import TextFault
 from wqprogram.tracer import traced
 from wqprogram.verifier import looked_at, said
+
+
+ROWS = tables(Path(__file__).with_name("programs.rows"))
 
 
 class Worked(NamedTuple):
@@ -190,102 +194,6 @@ place  instruction  cost  goes on at  stack before it, top last
 refused Y4 at 1
 """
 
-# Programs that may not run, and what is said of each.
-SENTENCES: List[Tuple[str, str]] = [
-    ("", 'Y1: the program has no instruction; write at least one that puts a flag, and then "ret"'),
-    ("not; ret", 'Y2: "not" takes a flag, and the stack has no cell; put a flag on it before'),
-    (
-        "size; cmp eq; ret",
-        'Y2: "cmp" takes a number and a number, and the stack has a number; put a number on it before',
-    ),
-    (
-        "wholename; basename; cmp eq; ret",
-        'Y3: "cmp" takes a number and a number, and the top of the stack is a text and a text; '
-        'two texts are compared by "eq"',
-    ),
-    (
-        "oclock; cclock; eq; ret",
-        'Y3: "eq" takes a text and a text, and the top of the stack is a number and a number; two '
-        'numbers are compared by "cmp eq"',
-    ),
-    ("wholename; not; ret", 'Y3: "not" takes a flag, and the top of the stack is a text; put a flag there'),
-    ("num 0; ret", 'Y4: "num 0" names row 0 of "nums", which has 0; add a row'),
-    ("text 7; ret", 'Y4: "text 7" names row 7 of "texts", which has 2; take a number from 0 to 1, or add rows'),
-    ("flag 0; jf 0; ret", "Y5: it goes to place 0, and jumps lead to later places of the code alone; take place 2"),
-    (
-        "flag 0; jf 9; drop; flag 1; ret",
-        "Y5: it goes to place 9, and jumps lead to later places of the code alone; take a place from 2 to 4",
-    ),
-    ("jump 5", "Y5: it goes to place 5, and jumps lead to later places of the code alone; put instructions after it"),
-    (
-        "exists; jf 3; exists; ret",
-        "Y6: place 3 was reached from place 1 with a flag on the stack, and from here it would be "
-        "with a flag and a flag; let both ways leave the same kinds of cells",
-    ),
-    ("{{exists; *17}}ret", "Y7: it leaves 17 cells, and at most 16 may be on the stack; take some away before"),
-    ("flag 1; ret; ret", "Y8: no earlier instruction leads here; take it out, or let a jump lead here"),
-    ("flag 1; not", 'Y9: the code ends here, and the next place can follow; put "ret" after it'),
-    ("ret", 'Y10: "ret" ends with one flag alone, and the stack has no cell; put a flag before'),
-    ("size; ret", 'Y10: "ret" ends with one flag alone, and the stack has a number; make a flag of it before'),
-    (
-        "{{size; *4}}ret",
-        'Y10: "ret" ends with one flag alone, and the stack has 4 cells (number, number, number, '
-        "number); make "
-        "one flag of them before",
-    ),
-    (
-        "size; exists; ret",
-        'Y10: "ret" ends with one flag alone, and the stack has a number and a flag; take the others away '
-        'before by "and", "or" or "drop"',
-    ),
-]
-
-# The same in a program with sets.
-SENTENCES_OF_SETS: List[Tuple[str, str]] = [
-    ("size; anymatch 0; ret", 'Y3: "anymatch" takes a text, and the top of the stack is a number; put a text there'),
-    ("basename; anymatch 1; ret", 'Y4: "anymatch 1" names row 1 of "sets", which has 1; take number 0, or add rows'),
-]
-
-FILE_FAULTS: List[Tuple[str, str]] = [
-    ("", "F3 at byte 0"),
-    ("575150", "F3 at byte 3"),
-    ("57515047", "F1 at byte 3"),
-    ("5751504603", "F2 at byte 4"),
-    ("5751504601 0000 1001", "F7 at byte 7"),
-    ("5751504601 0000 0000 0000 0000 0001 1f", "F5 at byte 15"),
-    ("5751504601 0000 0000 0000 0000 0001 0102", "F6 at byte 16"),
-    ("5751504601 0000 0001 0000 0000 0000 1001", "F7 at byte 15"),
-    ("5751504601 0000 0000 0000 0001 0000 10", "F6 at byte 15"),
-    ("5751504601 0000 0001 0000 0000 0000 0002 61", "F3 at byte 17"),
-    ("5751504601 0000 0000 0000 0000 0001 23000000 00", "F4 at byte 19"),
-    ("5751504601 0000 0000 0000 0000 0001 19000000", "F5 at byte 15"),
-    ("5751504602 00010001", "F7 at byte 5"),
-    ("5751504602 00000000 00000000 00000000 00000000 00000001 00000000 00010001", "F7 at byte 29"),
-    ("5751504602 00000000 00000000 00000000 00000000 00000001 00000000 00000001 10", "F6 at byte 33"),
-    ("5751504602 00000000 00000000 00000000 00000000 00000000 00000001 010000000001", "F6 at byte 31"),
-]
-
-# What is said of a fault goes by the version of the file.
-FILE_SENTENCES: List[Tuple[str, str]] = [
-    ("636f6465", "F1 at byte 0: a program file begins with WQPF: this is another file; of a text assemble makes one"),
-    ("5751504603", 'F2 at byte 4: no version of program files has this number: "1" or "2" may be there'),
-    (
-        "5751504601 0000 0000 0000 0000 0001 19000000",
-        "F5 at byte 15: no instruction of version 1 has this byte: take one of the table of instructions that it has",
-    ),
-    (
-        "5751504601 1001",
-        "F7 at byte 5: this is over the limit of version 1: a table has at most 4,096 rows, a row "
-        "65,535 "
-        "entries, and a text 4,096 bytes",
-    ),
-    (
-        "5751504602 00010001",
-        "F7 at byte 5: this is over the limit of version 2: a table has at most 65,536 rows, a row "
-        "65,536 entries, and a text 4,096 bytes",
-    ),
-]
-
 # A program of which many instructions try one long set, and what it costs on names of 4,096 bytes: each of them one
 # step, two for each byte and the end and pattern, and two for the instructions beside it.
 TRIES, PATTERNS = 5_000, 20_000
@@ -301,13 +209,19 @@ LONG_SETS_RUN = f"yes at a cost of {TRIES * (3 + 2 * PATTERNS * 2) + 2}, of at m
 
 class WorkedPrograms(Case):
     def test_bad_texts(self) -> None:
-        for bad in BAD_TEXTS:
+        many = "nums\n" + "".join(f"n{place}: 1\n" for place in range(4_000)) + "code\nnum zzz\n"
+        labels = 'as "n0", "n1", "n2", "n3", "n4", "n5", "n6", "n7" or one of 3,992 others'
+        rows = [(row.value(), row.expected) for row in ROWS["bad texts"]]
+        for text, expected in [
+            *rows,
+            (many, f'4003:5: no such label: found "zzz", expected a label of "nums", {labels}'),
+        ]:
             try:
-                assembled(bad.text.encode("utf-8", "surrogateescape"))
+                assembled(text.encode("utf-8", "surrogateescape"))
                 error = "none"
             except TextFault as fault:
                 error = str(fault)
-            self.same(f"bad text {bad.text[:80]!r}", error, bad.error)
+            self.same(f"bad text {text[:80]!r}", error, expected)
 
     def test_worked(self) -> None:
         for worked in [*WORKED, WRITTEN, WRITTEN_SETS]:
@@ -343,8 +257,8 @@ class WorkedPrograms(Case):
         """Each fault of a program and of a file is named, with its place and what to change."""
         seen = set()
         files = [
-            *((code, file_of(code, texts='"a", "b"'), sentence) for code, sentence in SENTENCES),
-            *((code, file_of(code, sets='[[0,"a"]]'), sentence) for code, sentence in SENTENCES_OF_SETS),
+            *((code, file_of(code, texts='"a", "b"'), sentence) for code, sentence in ROWS["sentences"]),
+            *((code, file_of(code, sets='[[0,"a"]]'), sentence) for code, sentence in ROWS["sentences of sets"]),
         ]
         for code, file, sentence in files:
             program = read(file)
@@ -358,9 +272,9 @@ class WorkedPrograms(Case):
             self.same(f"the line of {code!r}", lines[-1], said(file))
             seen.add(looked.fault or 0)
         self.same("the faults of programs", sorted(seen), list(range(1, 11)))
-        for digits, line in FILE_FAULTS:
+        for digits, line in ROWS["faults of files"]:
             self.same(f"the file {digits}", file_sentence(digits).split(":")[0], line)
-        for digits, sentence in FILE_SENTENCES:
+        for digits, sentence in ROWS["sentences of files"]:
             self.same(f"the sentence of the file {digits}", file_sentence(digits), sentence)
 
 

@@ -7,12 +7,13 @@ import signal
 import subprocess
 import sys
 from pathlib import Path
-from typing import List, Sequence, Tuple
+from typing import List, Tuple
 
 import built
 from case import Case
 from client import PATIENCE, Server
 from notation import file_of
+from rows import tables
 from scripted import FIRST_ROOT, clock_id
 from wqprogram.command import main
 
@@ -23,46 +24,7 @@ FIRST, FILE = (
 )
 NO_RUN = file_of("wholename; not; ret", version=2)
 SENTENCE = 'Y3: "not" takes a flag, and the top of the stack is a text; put a flag there'
-HELP = "; wqasm --help says which words there are\n"
-
-# Words that are wrong, and what is said of them.
-WRONG_WORDS: List[Tuple[Sequence[str], str]] = [
-    ([], f"the following arguments are required: command{HELP}"),
-    (["assemble"], f"the following arguments are required: TEXT{HELP}"),
-    (["explain", "file", "file"], f"unrecognized arguments: file{HELP}"),
-    (["explain", "file", "--record", "f 1 1 a"], f"unrecognized arguments: --record f 1 1 a{HELP}"),
-    (["run", "file"], f"the following arguments are required: --record{HELP}"),
-    (["add", "name"], f"the following arguments are required: FILE{HELP}"),
-    (["add", "", "name", "file"], "the socket has no name; does WQD_SOCK name it?\n"),
-    (["assemble", "file", "--version", "3"], 'unknown version: found "3", expected "1" or "2"\n'),
-    (["assemble", "file", "--version", "one"], 'unknown version: found "one", expected "1" or "2"\n'),
-    (["compile", '"exists"', "--clock", "c:1"], "'c:1' is no clock id, as c:START:PID:ROOT:TICK\n"),
-    (
-        ["compile", '["since","c:1:2:3:4"]'],
-        "the expression has a clock id; say with --clock a clock id of the server and root that it is for\n",
-    ),
-]
-# Records that are wrong, with other words.
-WRONG_RECORDS: List[Tuple[Sequence[str], str]] = [
-    (["f 12 1000"], "a record is a letter, a size, a time and a name, as 'f 12 1000 src/a.c'"),
-    (["x 12 1000 a"], "the letter of a kind is one of f d l b c p s D ?"),
-    (["f 012 1000 a"], "the size is no whole number"),
-    (["f 12 1.5 a"], "the time is no whole number"),
-    (["f -1 0 a"], "a size is a number from 0 to 2^62, and a time one from -2^62 to 2^62"),
-    ([f"f {2**62 + 1} 0 a"], "a size is a number from 0 to 2^62, and a time one from -2^62 to 2^62"),
-    (["f 1 0 /a"], "a name is a path below the root: UTF-8, of 1 to 4,096 bytes, without empty parts, . and .."),
-    (["f 1 0 a/../b"], "a name is a path below the root: UTF-8, of 1 to 4,096 bytes, without empty parts, . and .."),
-    (["f 1 0 a", "--cclock", "x"], "--cclock takes a number from 0 to 2^62"),
-    (["f 1 0 a", "--osec", str(2**62 + 1)], "--osec takes a number from 0 to 2^62"),
-    (
-        ["f 1 0 a", "--cclock", "2", "--oclock", "1"],
-        "the last change is not before the file came, and that of a file that is gone is after it",
-    ),
-    (
-        ["f 1 0 a", "--deleted", "--oclock", "1"],
-        "the last change is not before the file came, and that of a file that is gone is after it",
-    ),
-]
+ROWS = tables(Path(__file__).with_name("programs.rows"))
 
 
 def tool(room: Path, *words: str, entered: bytes = b"") -> built.Ended:
@@ -87,8 +49,9 @@ def called(*words: str) -> built.Ended:
 
 class CommandLine(Case):
     def test_command_line(self) -> None:
-        for words, message in WRONG_WORDS:
-            self.same(f"words {words}", called(*words), built.Ended(b"", f"wqasm: {message}".encode(), 2))
+        for row in ROWS["wrong words"]:
+            refused = built.Ended(b"", f"wqasm: {row.expected}\n".encode(), 2)
+            self.same(f"words {row.given}", called(*row.value()), refused)
         unknown = tool(self.room, "frob")
         found = (unknown.output, b"invalid choice: 'frob'" in unknown.errors, unknown.status)
         self.same("an unknown command", found, (b"", True, 2))
@@ -222,9 +185,9 @@ class CommandLine(Case):
     def test_record(self) -> None:
         file = self.room / "file"
         file.write_bytes(file_of("cclock; oclock; cmp eq; csec; osec; cmp lt; or; ret"))
-        for words, message in WRONG_RECORDS:
-            ended = called("run", str(file), "--record", *words)
-            self.same(f"record {words}", ended, built.Ended(b"", f"wqasm: {message}\n".encode(), 2))
+        for row in ROWS["wrong records"]:
+            ended = called("run", str(file), "--record", *row.value())
+            self.same(f"record {row.given}", ended, built.Ended(b"", f"wqasm: {row.expected}\n".encode(), 2))
         rows: List[Tuple[List[str], str]] = [
             ([], "yes"),
             (["--deleted"], "no"),

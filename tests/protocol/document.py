@@ -1,9 +1,4 @@
-"""The blocks and tables of a page in Markdown, each with the mark that says how it is run.
-
-A mark is an HTML comment, which a reader of the page does not see. It stands before a block or a table:
-
-    <!-- run: KIND -->          the block or table is run so
-    <!-- not run: REASON -->    it has no example that can be run
+"""The blocks and tables of a page, each with the mark that says how it is run, as tests/pages.py reads them.
 
 A comment `<!-- script NAME: .. -->` gives a script a name and is not shown. In a cell of a table stand:
 
@@ -13,24 +8,60 @@ A comment `<!-- script NAME: .. -->` gives a script a name and is not shown. In 
 In marks `{{TEXT*N}}` is the text, N times.
 """
 
+import os
 import re
+import sys
+import tempfile
+from contextlib import ExitStack
+from pathlib import Path
 from typing import Dict, Iterator, List, NamedTuple, Optional
 
-from sessions import Room
+import built
+from client import Server
+from pages import COMMENT, Element, elements_of
+from rows import expand
+from shell import Shell
 
-COMMENT = re.compile(r"<!--(.*?)-->", re.DOTALL)
+SCRIPT = re.compile(r"script ([a-z-]+):\n")
+TOOL = built.TOP / "clients" / "wqasm"
 CODE = re.compile(r"`([^`]+)`")
 ERROR = re.compile(r"`(E[0-9]+): ([^`]+)`")
-REPEATED = re.compile(r"\{\{(.*?)\*([0-9]+)\}\}", re.DOTALL)
 
 
-class Element(NamedTuple):
-    """A block of code, with its lines, or a table, with its header and its rows."""
+class Room:
+    """A directory for the commands of a page. In it `wqasm` and `wqd` are commands, `examples` is that of the
+    repository, and `WQD_SOCK` names the socket of a server. It is made when the page has its first command or file."""
 
-    number: int
-    kind: str
-    mark: str
-    lines: List[str]
+    def __init__(self) -> None:
+        self.stack = ExitStack()
+        self.made: Optional[Shell] = None
+        self.server: Optional[Server] = None
+
+    def __enter__(self) -> "Room":
+        return self
+
+    def __exit__(self, *_: object) -> None:
+        self.stack.close()
+
+    @property
+    def shell(self) -> Shell:
+        if self.made is None:
+            self.top = Path(self.stack.enter_context(tempfile.TemporaryDirectory()))
+            files = self.top / "files"
+            files.mkdir()
+            (files / "examples").symlink_to(built.TOP / "examples")
+            commands = {"wqasm": [sys.executable, "-B", str(TOOL)], "wqd": [str(built.program_path())]}
+            self.made = Shell(self.top, files, {**os.environ}, **commands)
+        return self.made
+
+    def run(self, line: str) -> str:
+        """The output of a command. A server is started for the first one that needs it."""
+        shell = self.shell
+        if "$WQD_SOCK" not in line:
+            return shell.do(line)
+        if self.server is None:
+            self.server = self.stack.enter_context(Server(self.top))
+        return shell.do(line, WQD_SOCK=self.server.sockname)
 
 
 class Page(NamedTuple):
@@ -43,26 +74,15 @@ class Page(NamedTuple):
     room: Room
 
 
-def expand(text: str) -> str:
-    return REPEATED.sub(lambda found: found.group(1) * int(found.group(2)), text)
-
-
 def read_page(text: str) -> Page:
-    """Reads a page from top to bottom. A mark holds for the element that follows it, and for no other."""
+    """Reads a page from top to bottom. A comment that names a script is no mark."""
     page = Page([], {}, errors_in(text), Room())
-    lines = text.split("\n")
-    mark = ""
-    place = 0
-    while place < len(lines):
-        end = end_of_element(lines, place)
-        kind = kind_of(lines, place)
-        if kind == "comment":
-            mark = comment_in(lines[place:end], page) or mark
-        elif kind in ("block", "table"):
-            page.elements.append(Element(place + 1, kind, mark, element_lines(lines[place:end], kind)))
-        if kind in ("block", "table", "text"):
-            mark = ""
-        place = end
+    for element in elements_of(text):
+        named = SCRIPT.match(element.mark)
+        if element.kind != "comment":
+            page.elements.append(element)
+        elif named is not None:
+            page.scripts[named[1]] = element.mark[named.end() :].split("\n")
     return page
 
 
@@ -74,54 +94,6 @@ def errors_in(text: str) -> Dict[str, str]:
         if errors.setdefault(words, error) != error:
             raise ValueError(f"the page gives two numbers to the error: {words}")
     return errors
-
-
-def kind_of(lines: List[str], place: int) -> str:
-    line = lines[place]
-    if not line.strip():
-        return "blank"
-    if line.startswith("<!--"):
-        return "comment"
-    if line.startswith("|"):
-        return "table"
-    if line.startswith("```") or line.startswith("    "):
-        return "block"
-    return "text"
-
-
-def end_of_element(lines: List[str], place: int) -> int:
-    """The place behind the element that begins here."""
-    kind = kind_of(lines, place)
-    end = place + 1
-    if kind == "comment":
-        while "-->" not in lines[end - 1]:
-            end += 1
-    elif lines[place].startswith("```"):
-        while not lines[end].startswith("```"):
-            end += 1
-        end += 1
-    elif kind in ("block", "table"):
-        while end < len(lines) and kind_of(lines, end) == kind:
-            end += 1
-    return end
-
-
-def comment_in(lines: List[str], page: Page) -> Optional[str]:
-    """The mark that a comment makes, or none where it names a script."""
-    comment = COMMENT.search("\n".join(lines))
-    assert comment is not None
-    said = comment.group(1).strip()
-    named = re.match(r"script ([a-z-]+):\n", said)
-    if named is None:
-        return said
-    page.scripts[named.group(1)] = said[named.end() :].split("\n")
-    return None
-
-
-def element_lines(lines: List[str], kind: str) -> List[str]:
-    if kind == "table":
-        return lines
-    return lines[1:-1] if lines[0].startswith("```") else [line[4:] for line in lines]
 
 
 class Cell:

@@ -4,9 +4,10 @@ import json
 import re
 from typing import Any, Callable, Iterator, List, NamedTuple, Optional, Tuple
 
-from document import Cell, Element, Page, Table
+from document import Cell, Page, Table
+from pages import Element
 from notation import file_of
-from sessions import commands_of
+from shell import commands_of
 from wqprogram.instructions import BY_NAME
 
 
@@ -228,14 +229,15 @@ def clock_spec(text: str, meaning: str, in_key: str, in_term: str, page: Page) -
 
 def keep_file(element: Element, page: Page) -> Examples:
     """`file NAME`: the block is this file in the directory of the commands of the page."""
-    page.room.write(element.mark.rsplit(" ", 1)[1], element.lines)
+    page.room.shell.write(element.mark.rsplit(" ", 1)[1], element.lines)
     return iter(())
 
 
 def session(element: Element, page: Page) -> Examples:
     """`session`: commands, each followed by what it writes."""
     for command in commands_of(element.lines):
-        yield writes(command.line, "", command.output)._replace(written=page.room.run(command.line))
+        output = "".join(f"{line}\n" for line in command.output)
+        yield writes(command.line, "", output)._replace(written=page.room.run(command.line))
 
 
 # Tables of program files.

@@ -3,8 +3,9 @@ document.py says which marks there are. A block or table without one fails."""
 
 import built
 from case import Case
-from document import Element, Page, errors_in, read_page
+from document import Page, errors_in, read_page
 from examples import RULES, Example
+from pages import Element
 
 # A page may use the words of an error whose number another page gives.
 PAGES = ["PROTOCOL.md", "REFERENCE.md", "SCRIPTS.md", "PROGRAMS.md", "WQASM.md", "SECURITY.md"]

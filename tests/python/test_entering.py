@@ -3,6 +3,7 @@
 import os
 import re
 import shutil
+import sys
 from typing import Dict, List
 
 import built
@@ -10,6 +11,22 @@ from case import Case
 
 README = (built.TOP / "tests" / "README.md").read_text(encoding="utf-8")
 HELP, WRONG = 0, 2
+# Tests of which one holds at its third run, and the other never.
+TIMED = """
+from case import Timed
+
+class Late(Timed):
+    runs = 0
+    def test_late(self) -> None:
+        Late.runs += 1
+        self.same("first", 1, 1)
+        self.same("third", Late.runs, 3)
+
+class Wrong(Timed):
+    def test_wrong(self) -> None:
+        self.same("right", 1, 1)
+        self.same("wrong", 1, 2)
+"""
 
 
 def gate(*words: str, **variables: str) -> built.Ended:
@@ -71,6 +88,18 @@ class Shown(Case):
             ended = built.call(["sh", "-c", command], cwd=self.room, env=environment)
             lines = (ended.output + ended.errors).decode().splitlines()
             self.same(command, [line for line in lines if line in expected], expected)
+
+    def test_timed(self) -> None:
+        """A test of times runs again until all of it holds, up to three times, and says so. Its last run counts."""
+        part = self.room / "tests" / "timed"
+        part.mkdir(parents=True)
+        (part / "test_mine.py").write_text(TIMED)
+        for name, status, count, told in (("Late", 0, "2 passed, 0 failed", 2), ("Wrong", 1, "1 passed, 1 failed", 2)):
+            runner = [sys.executable, "-B", str(built.TOP / "tests" / "runner.py")]
+            ended = built.call([*runner, str(part / "run"), f"test_mine.{name}"], cwd=self.room)
+            lines = ended.output.decode().splitlines()
+            self.same(f"{name} counts", (ended.status, lines[-1]), (status, count))
+            self.same(f"{name} is told", sum("once more: test_mine." in line for line in lines), told)
 
 
 def commands_in(page: str) -> Dict[str, List[str]]:

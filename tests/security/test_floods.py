@@ -11,7 +11,7 @@ from bridged import Bridge, BserClient, codec, make_files
 from case import Beside
 from client import Client
 from users import memory_of
-from waiting import wait_until
+from waiting import PATIENCE, wait_until
 
 from bridge.held import MOST_CLIENTS
 from bridge.shape import MOST_VALUES, NoValue, TooMany, Walk
@@ -23,7 +23,7 @@ MOST = 300
 
 def connected(sockname: str) -> socket.socket:
     stream = socket.socket(socket.AF_UNIX)
-    stream.settimeout(20)
+    stream.settimeout(PATIENCE)
     stream.connect(sockname)
     return stream
 
@@ -91,7 +91,7 @@ class Floods(Beside):
                 [f"{memory_of(bridge.process.pid)} MiB"],
             )
             self.same("the other client goes on", client.ask("version").get("version"), "4.9.0")
-            deaf.socket.settimeout(20)
+            deaf.socket.settimeout(PATIENCE)
             self.same(
                 "the one that did not read", last_error(deaf), "the client did not read what other clients had it told"
             )

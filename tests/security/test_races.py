@@ -81,7 +81,7 @@ class Races(Beside):
         words = ["node", "-e", NODE, str(built.TOP / "clients/node/lib/connection.js"), str(TRIES)]
 
         def run(environment: Dict[str, str]) -> List[str]:
-            return built.call(words, env=environment, timeout=PATIENCE).output.decode().splitlines()
+            return built.call(words, env=environment, timeout=5 * PATIENCE).output.decode().splitlines()
 
         found = self.raced(run)
         self.same("runs", len(found), TRIES)

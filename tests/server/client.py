@@ -9,13 +9,14 @@ import sys
 import tempfile
 import time
 from pathlib import Path
-from typing import Any, Callable, Dict, List, Optional, Sequence, Tuple
+from typing import Any, Callable, Dict, List, Optional, Sequence, Tuple, TypeVar
 
 import built
 
 sys.path[:0] = [str(built.TOP / "clients")]
 
 from waiting import PATIENCE, look_until, wait_until
+from wq.processes import own_processor_seconds
 from wqclient.lines import Ended, Lines
 
 A_HOUR = 3_600_000
@@ -30,6 +31,7 @@ MALLOC = {
 }
 ENVIRONMENT = {**MALLOC, **os.environ}
 Row = Tuple[str, str, int, int]
+One = TypeVar("One", bound="Running")
 PLAIN = Path(__file__).resolve().parent / "plain.py"
 # How often the memory of a server is looked at for its least, over half a second.
 LOOKS = 10
@@ -121,9 +123,84 @@ def client_of(sockname: str, watched: Optional[Path]) -> Client:
     return client
 
 
-class Server:
+class Running:
+    """A program that runs until it is left, and what the system tells of its process."""
+
+    def __init__(self, command: Sequence[str], **variables: str) -> None:
+        self.said = tempfile.TemporaryFile()
+        # A command of a trigger writes where the server does, and may outlive it.
+        environment = {**ENVIRONMENT, **variables}
+        self.process = subprocess.Popen(command, stdout=self.said, stderr=self.said, env=environment)
+
+    def __enter__(self: One) -> One:
+        return self
+
+    def __exit__(self, *_: object) -> None:
+        self.kill()
+        self.said.close()
+
+    def errors(self) -> bytes:
+        return os.pread(self.said.fileno(), 1_000_000, 0)
+
+    def says(self, line: bytes) -> bool:
+        """Whether the program says this before it ends, or the patience does."""
+        wait_until(lambda: line in self.errors() or self.process.poll() is not None)
+        return line in self.errors()
+
+    @staticmethod
+    def least(figure: Callable[[], int]) -> int:
+        """The least of what a figure is in half a second."""
+        found = []
+        for _ in range(LOOKS):
+            found.append(figure())
+            time.sleep(0.5 / LOOKS)
+        return min(found)
+
+    def most_memory(self) -> int:
+        """The most memory that the program had so far, in bytes."""
+        return self.status("VmHWM") * 1024
+
+    def least_memory(self) -> int:
+        """The least memory that the program has in half a second, in bytes: while it crawls it has more."""
+        return self.least(self.memory)
+
+    def has_memory_below(self, most: int) -> bool:
+        """Whether the program comes to have less memory than so many bytes before the patience ends."""
+        return wait_until(lambda: self.memory() < most)
+
+    def memory(self) -> int:
+        """The memory that the program has, in bytes."""
+        return self.status("VmRSS") * 1024
+
+    def threads(self) -> int:
+        return self.status("Threads")
+
+    def least_threads(self) -> int:
+        """The fewest threads that the program has in half a second: while a client waits for a walk it has more."""
+        return self.least(self.threads)
+
+    def has_threads(self, count: int, seconds: float) -> bool:
+        """Whether the program comes to have so many threads within so many seconds."""
+        return wait_until(lambda: self.threads() == count, seconds)
+
+    def processor_seconds(self) -> float:
+        """The processor time that the program took so far."""
+        return own_processor_seconds(self.process.pid)
+
+    def status(self, name: str) -> int:
+        """A number that the system tells of the process."""
+        lines = Path(f"/proc/{self.process.pid}/status").read_text().splitlines()
+        return next(int(line.split()[1]) for line in lines if line.startswith(f"{name}:"))
+
+    def kill(self) -> None:
+        self.process.kill()
+        self.process.wait()
+
+
+class Server(Running):
     """A server whose socket is in a directory. One that is plain reads no more than any user, though root starts it.
-    With no interval, or no number of workers, the server takes its own. Other words may begin the command."""
+    With no interval, or no number of workers, the server takes its own. Other words may begin the command. The numbers
+    are those of its run: its start and its process."""
 
     def __init__(
         self,
@@ -133,31 +210,19 @@ class Server:
         through: Sequence[str] = (),
         workers: Optional[int] = None,
         share: Optional[int] = None,
+        numbers: Tuple[int, int] = (7, 9),
+        quiet_after: Optional[int] = None,
     ) -> None:
         self.sockname = str(room / "socket")
-        self.said = tempfile.TemporaryFile()
-        words = ["serve", "--sockname", self.sockname, "--start", "7", "--pid", "9"]
-        if interval is not None:
-            words += ["--interval", str(interval)]
-        if workers is not None:
-            words += ["--workers", str(workers)]
-        if share is not None:
-            words += ["--share", str(share)]
+        given = {"start": numbers[0], "pid": numbers[1], "interval": interval, "workers": workers, "share": share}
+        given["quiet-after"] = quiet_after
+        words = [word for name, value in given.items() if value is not None for word in (f"--{name}", str(value))]
         if is_plain:
             through = [sys.executable, str(PLAIN)]
-        command = [*through, str(built.program_path()), *words]
-        # A command of a trigger writes where the server does, and may outlive it.
-        self.process = subprocess.Popen(command, stdout=self.said, stderr=self.said, env=ENVIRONMENT)
+        super().__init__([*through, str(built.program_path()), "serve", "--sockname", self.sockname, *words])
         if not self.says(f"listening on {self.sockname}\n".encode()):
             self.kill()
             raise ValueError(f"the server does not listen: {self.errors()!r}")
-
-    def __enter__(self) -> "Server":
-        return self
-
-    def __exit__(self, *_: object) -> None:
-        self.kill()
-        self.said.close()
 
     def client(self, watched: Optional[Path] = None) -> Client:
         """A client, which has the server watch a directory if one is named."""
@@ -173,70 +238,12 @@ class Server:
             client.close()
             time.sleep(0.01)
 
-    def errors(self) -> bytes:
-        return os.pread(self.said.fileno(), 1_000_000, 0)
-
-    def says(self, line: bytes) -> bool:
-        """Whether the server says this on standard error before it ends, or the patience does."""
-        wait_until(lambda: line in self.errors() or self.process.poll() is not None)
-        return line in self.errors()
-
-    @staticmethod
-    def least(figure: Callable[[], int]) -> int:
-        """The least of what a figure is in half a second."""
-        found = []
-        for _ in range(LOOKS):
-            found.append(figure())
-            time.sleep(0.5 / LOOKS)
-        return min(found)
-
-    def most_memory(self) -> int:
-        """The most memory that the server had so far, in bytes."""
-        return self.status("VmHWM") * 1024
-
-    def least_memory(self) -> int:
-        """The least memory that the server has in half a second, in bytes: while it crawls it has more."""
-        return self.least(self.memory)
-
-    def has_memory_below(self, most: int) -> bool:
-        """Whether the server comes to have less memory than so many bytes before the patience ends."""
-        return wait_until(lambda: self.memory() < most)
-
-    def memory(self) -> int:
-        """The memory that the server has, in bytes."""
-        return self.status("VmRSS") * 1024
-
-    def threads(self) -> int:
-        return self.status("Threads")
-
-    def least_threads(self) -> int:
-        """The fewest threads that the server has in half a second: while a client waits for a walk it has more."""
-        return self.least(self.threads)
-
-    def has_threads(self, count: int, seconds: float) -> bool:
-        """Whether the server comes to have so many threads within so many seconds."""
-        return wait_until(lambda: self.threads() == count, seconds)
-
-    def processor_seconds(self) -> float:
-        """The processor time that the server took so far."""
-        words = Path(f"/proc/{self.process.pid}/stat").read_text().rsplit(")", 1)[1].split()
-        return (int(words[11]) + int(words[12])) / os.sysconf("SC_CLK_TCK")
-
-    def status(self, name: str) -> int:
-        """A number that the system tells of the server's process."""
-        lines = Path(f"/proc/{self.process.pid}/status").read_text().splitlines()
-        return next(int(line.split()[1]) for line in lines if line.startswith(f"{name}:"))
-
     def shut_down(self, client: Client) -> object:
         """Has a client end the server, and gives the exit status."""
         reply = client.ask("shutdown-server")
         if reply != {"shutdown-server": True, "version": "wq-1"}:
             return reply
         return self.process.wait(PATIENCE)
-
-    def kill(self) -> None:
-        self.process.kill()
-        self.process.wait()
 
 
 def walked(root: Path) -> List[Row]:

@@ -3,7 +3,7 @@
 import time
 
 import built
-from case import Beside
+from case import Beside, Timed
 from client import A_HOUR, Server
 from shared import ask_much
 from trees import fill_directory
@@ -13,7 +13,7 @@ LEAST_WAIT = 55
 MOST_WAIT = 150
 
 
-class Deaf(Beside):
+class Deaf(Timed, Beside):
     def test_a_write_that_waits(self) -> None:
         root = self.room / "tree"
         fill_directory(root, 10_000)

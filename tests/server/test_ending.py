@@ -4,7 +4,7 @@ import time
 from pathlib import Path
 from typing import List, NamedTuple
 
-from case import Case
+from case import Timed
 from client import Client, Server
 from trees import fill_directory
 
@@ -24,7 +24,7 @@ class Times(NamedTuple):
         return self.end < self.whole / 2
 
 
-class Ending(Case):
+class Ending(Timed):
     def test_an_end_within_a_round(self) -> None:
         """A server that is told to end when the first of sixteen roots was crawled ends before it would have crawled
         half of them: walks that have not begun are not waited for. It is tried anew where something else held it up."""

@@ -8,6 +8,7 @@ from case import Case
 from client import A_HOUR, ENDED, VERSION, Client, Server, query_of_names
 from shared import UNREADABLE, told, told_of
 from trees import fill_directory
+from waiting import wait_until
 
 NOT_WATCHED = {"error": "E14: root is not watched", **VERSION}
 
@@ -21,7 +22,7 @@ class Gone(Case):
         (root / "a").touch()
         with Server(self.room, interval=20) as server, server.client(root) as client:
             shutil.move(root, away)
-            line, back = told_of(root), told(root, "the root is crawled again")
+            line, back = told_of(root), told_back(root)
             said = f"listening on {server.sockname}\n".encode() + line
             self.check("it is told of", server.says(said))
             shutil.move(away, root)
@@ -68,14 +69,15 @@ class Gone(Case):
         with Server(self.room, interval=20) as server, server.client(root) as client:
             first = client.ask("clock", str(root))["clock"]
             seconds = seconds_of_a_crawl(client, root)
-            for _ in range(5):
+            for turn in range(5):
                 shutil.move(root, away)
-                time.sleep(max(1, 10 * seconds))
+                self.check(f"a walk found it gone, turn {turn}", is_told(server, told_of(root), turn + 1))
                 shutil.move(away, root)
-                time.sleep(max(0.1, 2 * seconds))
+                self.check(f"a walk found it again, turn {turn}", is_told(server, told_back(root), turn + 1))
+                # Then it goes at another moment of a walk.
+                time.sleep((1 + turn / 5) * max(0.1, seconds))
             reply = client.ask("query", str(root), {"since": first, **query_of_names()})
             self.same("a root that went during walks", (reply["files"], reply["clock"]), ([], first))
-            self.check("walks found it gone", server.says(told_of(root)))
 
     def test_a_root_that_is_deleted_during_walks(self) -> None:
         """A root that is moved away while it is walked, and deleted there at once: no file of it is listed as gone.
@@ -87,15 +89,15 @@ class Gone(Case):
         with Server(self.room, interval=20) as server, server.client(root) as client:
             first = client.ask("clock", str(root))["clock"]
             seconds = seconds_of_a_crawl(client, root)
-            for copy in copies:
+            for turn, copy in enumerate(copies):
                 root.rename(away)
                 shutil.rmtree(away)
-                time.sleep(max(1, 10 * seconds))
+                self.check(f"a walk found it deleted, turn {turn}", is_told(server, told_of(root), turn + 1))
                 Path(copy).rename(root)
-                time.sleep(max(0.1, 2 * seconds))
+                self.check(f"a walk found the next one, turn {turn}", is_told(server, told_back(root), turn + 1))
+                time.sleep((1 + turn / 3) * max(0.1, seconds))
             reply = client.ask("query", str(root), {"since": first, **query_of_names()})
             self.same("a root that was deleted during walks", (reply["files"], reply["clock"]), ([], first))
-            self.check("walks found it deleted", server.says(told_of(root)))
 
     def check_its_end(self, client: Client, root: Path) -> None:
         """A root that is gone can be deleted, and then not be watched."""
@@ -103,6 +105,15 @@ class Gone(Case):
         self.same("the end of a root that went", reply, {"root": str(root), "watch-del": True, **VERSION})
         self.same("a watch of what is not there", client.ask("watch", str(root)), UNREADABLE)
         self.same("a query of what is not watched", client.ask("query", str(root), {"sync_timeout": 0}), NOT_WATCHED)
+
+
+def told_back(root: Path) -> bytes:
+    return told(root, "the root is crawled again")
+
+
+def is_told(server: Server, line: bytes, count: int) -> bool:
+    """Whether the operator comes to be told a line so many times."""
+    return wait_until(lambda: server.errors().count(line) == count)
 
 
 def seconds_of_a_crawl(client: Client, root: Path) -> float:

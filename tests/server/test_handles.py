@@ -7,7 +7,7 @@ import time
 from pathlib import Path
 
 from case import Case
-from client import A_HOUR, ENDED, LOOKS, Client, Server, query_of_names
+from client import A_HOUR, ENDED, Client, Server, query_of_names
 from trees import fill_directory
 from shared import UNREADABLE, told
 from waiting import wait_until
@@ -15,6 +15,8 @@ from waiting import wait_until
 DIRECTORIES = 100
 FILES = 40
 ROUNDS = 60
+# How often the handles are looked at, since a walk may hold some for longer where others work too.
+LOOKS = 50
 OTHERS = 5
 
 
@@ -57,9 +59,11 @@ class Handles(Case):
             first = client.ask("clock", str(root))["clock"]
             with Scarcity(server.process.pid):
                 replies = [crawl(client, root, first) for _ in range(ROUNDS)]
+                # On a busy machine each of them may fall into a time with handles.
+                wait_until(lambda: UNREADABLE in replies or replies.append(crawl(client, root, first)))
             refused = replies.count(UNREADABLE)
             told = [reply["files"] for reply in replies if reply != UNREADABLE]
-            self.check(f"a crawl that wants for handles is refused, of {ROUNDS}: {refused}", refused > 0)
+            self.check(f"a crawl that wants for handles is refused, of {len(replies)}: {refused}", refused > 0)
             self.same("files told as changed for want of handles", told, [[]] * len(told))
             reply = crawl(client, root, first)
             self.same("a crawl with handles again", (reply["files"], reply["clock"]), ([], first))
@@ -98,7 +102,8 @@ class Handles(Case):
         root = self.directory("tree")
         (root / "a").touch()
         with Server(self.room, interval=A_HOUR) as server, server.client(root) as client:
-            before = handles(server)
+            # Its first round may have the root open.
+            before = server.least(lambda: handles(server))
             others = [server.client() for _ in range(OTHERS)]
             self.same("clients beside it", [other.has_session() for other in others], [True] * OTHERS)
             for other in others:
@@ -125,7 +130,7 @@ def least_handle(process: int) -> int:
     looks = []
     for _ in range(LOOKS):
         looks.append(next_handle(process))
-        time.sleep(0.003)
+        time.sleep(0.01)
     return min(looks)
 
 

@@ -1,5 +1,6 @@
 """With a share each root has a pace of its own, and a server that nobody needs rests."""
 
+import itertools
 import random
 import statistics
 import threading
@@ -7,11 +8,11 @@ import time
 from pathlib import Path
 from typing import List
 
-from case import Beside, Case
+from case import Beside, Timed
 from client import Client, Server, query_of_names
 from trees import fill
 from shared import STRACE
-from waiting import wait_until
+from waiting import PATIENCE, look_until, wait_until
 
 # How long a root rests at least between two walks, in seconds, and how much of a processor rounds may take.
 INTERVAL = 0.5
@@ -33,9 +34,11 @@ LATE_BESIDE_CLIENTS = 6.0
 SLOW = ((1, 0.9), (2, 1.5))
 LONGER = 1.4
 LISTS = 9
+# Other work of the machine may hold up one try. A server that does not keep its pace fails all of so many seconds.
+TRIES = 2 * PATIENCE
 
 
-class Pacing(Case):
+class Pacing(Timed):
     def test_a_pace_for_each_root(self) -> None:
         """A small root is walked at each interval, though a large one beside it has to rest for longer."""
         large, small = self.room / "large", self.room / "small"
@@ -46,18 +49,15 @@ class Pacing(Case):
                 client.ask("watch", str(root))
             client.ask("subscribe", str(small), "changes", query_of_names())
             client.reply()
-            took = [seconds_until_a_list(client, small, f"file{number}") for number in range(WRITES)]
-            before = server.processor_seconds()
-            time.sleep(SPAN)
-            share = (server.processor_seconds() - before) / SPAN
+            took = soonest_lists(client, small, WRITES, 1.5 * INTERVAL + LATE)
+            most = 2 * PERCENT / 100
+            share = look_until(lambda: seconds_in(server) / SPAN, lambda share: share < most, 4 * SPAN)
             is_seen = sees_without_a_crawl(client, large)
         lines = [f"{statistics.median(took):.3f} seconds at the median, {max(took):.3f} at most"]
         # On a busy machine a walk of the large root may take longer than an interval, so the longest wait is no
         # measure.
         self.check("a list of a small root beside a large one", statistics.median(took) < 1.5 * INTERVAL + LATE, lines)
-        self.check(
-            "both roots keep to the share", share < 2 * PERCENT / 100, [f"{100 * share:.1f} percent of a processor"]
-        )
+        self.check("both roots keep to the share", share < most, [f"{100 * share:.1f} percent of a processor"])
         self.check("the large root has its turn", is_seen)
 
     def test_a_pace_beside_clients(self) -> None:
@@ -73,7 +73,7 @@ class Pacing(Case):
             busy = [threading.Thread(target=crawl_until, args=(server, large, ended)) for _ in range(BUSY)]
             for thread in busy:
                 thread.start()
-            took = [seconds_until_a_list(client, small, f"file{number}") for number in range(WRITES // 2)]
+            took = soonest_lists(client, small, WRITES // 2, LATE_BESIDE_CLIENTS)
             ended.set()
             for thread in busy:
                 thread.join()
@@ -105,25 +105,50 @@ class Pacing(Case):
 
     def check_that_it_rests(self, server: Server, name: str) -> None:
         time.sleep(A_SECOND)
-        before = server.processor_seconds()
-        time.sleep(SPAN)
-        took = server.processor_seconds() - before
+        took = look_until(lambda: seconds_in(server), lambda took: took < A_TICK, 4 * SPAN)
         self.check(f"it rests {name}", took < A_TICK, [f"{took:.2f} seconds of {SPAN}"])
 
 
-class ASlowDisk(Beside):
+class ASlowDisk(Timed, Beside):
     def test_a_pace_beside_a_slow_disk(self) -> None:
         """A walk that waits for a disk is long, though it takes little processor time. The interval begins before it,
         and a small root is walked between two of them."""
         self.check_installed("strace")
         for count, delay in SLOW:
-            name, below = f"{count} on a slow disk", self.room / str(count)
-            below.mkdir()
-            gap = statistics.median(gaps_beside(below, [below / f"slow{number}" for number in range(count)], delay))
-            walks = (below / "log").read_bytes().count(b"(DELAYED)")
-            self.check(f"walks of {name} are slow", walks > count, [f"{walks} walks"])
-            is_right = 0.9 * A_SECOND < gap < LONGER * max(A_SECOND, delay)
-            self.check(f"a small root beside {name}", is_right, [f"{gap:.3f} seconds between two lists at the median"])
+            name = f"{count} on a slow disk"
+            places = (self.directory(f"{count}-{turn}") for turn in itertools.count())
+            most = LONGER * max(A_SECOND, delay)
+
+            def is_right(gap: float) -> bool:
+                return 0.9 * A_SECOND < gap < most
+
+            gap = look_until(lambda: self.gap_beside(next(places), count, delay, name), is_right, TRIES)
+            lines = [f"{gap:.3f} seconds between two lists at the median"]
+            self.check(f"a small root beside {name}", is_right(gap), lines)
+
+    def gap_beside(self, below: Path, count: int, delay: float, name: str) -> float:
+        """The seconds between two lists of a small root at the median, beside so many slow ones."""
+        gap = statistics.median(gaps_beside(below, [below / f"slow{number}" for number in range(count)], delay))
+        walks = (below / "log").read_bytes().count(b"(DELAYED)")
+        self.check(f"walks of {name} are slow", walks > count, [f"{walks} walks"])
+        return gap
+
+
+def soonest_lists(client: Client, root: Path, count: int, most: float) -> List[float]:
+    """The seconds until each of so many lists: of the first that are at most so late at the median, or of the last."""
+    numbers = itertools.count()
+    return look_until(
+        lambda: [seconds_until_a_list(client, root, f"file{next(numbers)}") for _ in range(count)],
+        lambda took: statistics.median(took) < most,
+        TRIES,
+    )
+
+
+def seconds_in(server: Server) -> float:
+    """The processor time that a server takes in the span, in seconds."""
+    before = server.processor_seconds()
+    time.sleep(SPAN)
+    return server.processor_seconds() - before
 
 
 def seconds_until_a_list(client: Client, root: Path, name: str) -> float:

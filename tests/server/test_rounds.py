@@ -1,11 +1,15 @@
 """Rounds of crawls that nobody asks for."""
 
+import itertools
 import shutil
 import time
+from pathlib import Path
+from typing import Iterator
 
-from case import Case
-from client import Server
+from case import Timed
+from client import Client, Server
 from shared import told_of
+from waiting import look_until
 
 # How long the server pauses between two rounds by itself, in seconds, and how long a round of a small tree takes at
 # most.
@@ -14,7 +18,7 @@ LATE = 1.0
 SIGHTS = 5
 
 
-class Rounds(Case):
+class Rounds(Timed):
     def test_rounds(self) -> None:
         """Of three roots the first cannot be read any more. What changes in the others is seen by queries that do not
         crawl."""
@@ -38,12 +42,23 @@ class Rounds(Case):
         """A server that is told no interval pauses for a second between two rounds."""
         root = self.directory("tree")
         with Server(self.room, interval=None) as server, server.client(root) as client:
-            moments = []
-            for number in range(SIGHTS):
-                (root / f"file{number}").touch()
-                client.names_without_a_crawl(root, number + 1)
-                moments.append(time.monotonic())
-        # A sight comes some time after its round, so one gap may be short, and another may be long.
-        gap = (moments[-1] - moments[0]) / (SIGHTS - 1)
-        is_right = PAUSE - 0.1 < gap < PAUSE + LATE
-        self.check("the interval by default", is_right, [f"{gap:.3f} seconds from a round to the next"])
+            counts = itertools.count(1)
+            # Other work of the machine may make rounds later, in one try.
+            gap = look_until(lambda: gap_of_sights(client, root, counts), is_right)
+        self.check("the interval by default", is_right(gap), [f"{gap:.3f} seconds from a round to the next"])
+
+
+def is_right(gap: float) -> bool:
+    return PAUSE - 0.1 < gap < PAUSE + LATE
+
+
+def gap_of_sights(client: Client, root: Path, counts: Iterator[int]) -> float:
+    """The seconds from the sight of one file to that of the next, which are made one after the other."""
+    moments = []
+    for _ in range(SIGHTS):
+        count = next(counts)
+        (root / f"file{count}").touch()
+        client.names_without_a_crawl(root, count)
+        moments.append(time.monotonic())
+    # A sight comes some time after its round, so one gap may be short, and another may be long.
+    return (moments[-1] - moments[0]) / (SIGHTS - 1)

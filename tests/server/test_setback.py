@@ -31,20 +31,21 @@ class Setback(Case):
             (root / "second").touch()
             last = second()
             clock = client.ask("query", str(root), {})["clock"]
+            latest = second()
             back.write_text(str(SECONDS_BACK))
-            until_second(last + 3)
+            until_second(latest + 3)
             (root / "third").touch()
             reply = client.ask("query", str(root), {"since": clock, "fields": ["name"]})
             self.same("what changed since a clock, when it was set back", reply["files"], ["third"])
             self.same("the clock goes on when it was set back", reply["clock"], "c:7:9:1:3")
             found = [names_since(client, root, since) for since in (seen + 1, last)]
             self.same("what changed since a second, when it was set back", found, [["second", "third"]] * 2)
-            self.same("the last second is told again", names_since(client, root, last + 2), [])
+            self.same("the last second is told again", names_since(client, root, latest + 2), [])
             back.write_text("0")
             (root / "fourth").touch()
             client.ask("query", str(root), {})
             self.same(
-                "since a second after it, when it is right again", names_since(client, root, last + 2), ["fourth"]
+                "since a second after it, when it is right again", names_since(client, root, latest + 2), ["fourth"]
             )
             self.same("the server goes on", client.ask("version"), VERSION)
             self.same("the end of a server whose clock was set back", server.shut_down(client), 0)

@@ -6,9 +6,9 @@ import re
 import time
 from collections import Counter
 from pathlib import Path
-from typing import Callable, List, Tuple
+from typing import Any, Callable, Dict, List, Tuple
 
-from case import Case
+from case import Timed
 from client import Server, query_of_names
 from shared import FEW, STRACE, listed, make_recent
 from trees import FILES, fill, in_memory
@@ -17,33 +17,37 @@ from trees import FILES, fill, in_memory
 COUNTED = 10.0
 # The first round after `watch` scans the whole root. It has ended after so many seconds.
 FIRST = 3.0
+# A scan of the whole root may come in one try of some.
+TRIES = 5
 # How many directories the large root has, of which one is recent.
 DIRECTORIES = 600
 
 
-class Sweeping(Case):
+class Sweeping(Timed):
     def test_names_that_change_anywhere(self) -> None:
         """Names change in directories in which nothing changed lately, and no scan of the whole root comes meanwhile: a
-        file that is written in place elsewhere is not listed yet."""
+        file that is written in place elsewhere is not listed yet. If one does, another change is tried."""
         with in_memory(self.room) as shelf, Server(
             self.room, interval=50, share=FEW
         ) as server, server.client() as client:
             root = Path(shelf) / "large"
             fill(root)
+            for turn in range(TRIES):
+                gone_before(root, turn).touch()
             client.ask("watch", str(root))
             make_recent(client, root / "directory7", root)
             time.sleep(FIRST)
-            (root / "directory400" / "file1").write_text("written in place")
-            for what, act, name, expected in changes(root):
-                act()
-                self.same(what, listed(client, root, name, len(expected)), expected)
-            written = {
-                **query_of_names(),
-                "expression": ["allof", ["name", "file1"], ["size", "gt", 0]],
-                "sync_timeout": 0,
-            }
-            found = client.ask("query", str(root), written)["files"]
-            self.same("a file that is written in place elsewhere", found, [])
+            for kind in range(len(changes(root, 0))):
+                for turn in range(TRIES):
+                    elsewhere = f"directory{400 + kind}/file{turn}"
+                    (root / elsewhere).write_text("written in place")
+                    what, act, name, expected = changes(root, turn)[kind]
+                    act()
+                    self.same(what, listed(client, root, name, len(expected)), expected)
+                    found = client.ask("query", str(root), is_written(elsewhere))["files"]
+                    if not found:
+                        break
+                self.same(f"a file that is written in place elsewhere, beside {what}", found, [])
 
     def test_what_rounds_ask(self) -> None:
         """Of the directories in which nothing changed lately, rounds ask for the rows again and again. They read none
@@ -71,32 +75,36 @@ class Sweeping(Case):
         self.check("each directory is asked for its row", min(rows) > cold, [f"{min(rows)} to {max(rows)} times"])
 
 
-def changes(root: Path) -> List[Tuple[str, Callable[[], object], str, List[str]]]:
-    """Each of these: what it is, what does it, the last part of a name, and the files of that name afterwards."""
-    near, far, third = root / "directory11", root / "directory222", root / "directory333"
+def is_written(name: str) -> Dict[str, Any]:
+    """A query for a file that has something in it, of what the server saw so far."""
+    expression = ["allof", ["name", name, "wholename"], ["size", "gt", 0]]
+    return {**query_of_names(), "expression": expression, "sync_timeout": 0}
+
+
+def changes(root: Path, turn: int) -> List[Tuple[str, Callable[[], object], str, List[str]]]:
+    """Each of these: what it is, what does it, the last part of a name, and the files of that name afterwards. Each
+    turn has names of its own."""
+    near, far, third = (root / f"directory{number + turn}" for number in (11, 222, 333))
+    new, renamed, moved, deep, saved = (f"z{what}{turn}" for what in ("new", "renamed", "moved", "deep", "saved"))
+    other, deepest = root / f"directory{555 + turn}", root / f"directory{444 + turn}" / "zin"
     return [
-        ("a new file", (near / "zfirst").touch, "zfirst", ["directory11/zfirst"]),
-        (
-            "a file that is renamed",
-            lambda: (far / "file2").rename(far / "zsecond"),
-            "zsecond",
-            ["directory222/zsecond"],
-        ),
-        ("a file that is moved", lambda: (far / "zsecond").rename(third / "zthird"), "zthird", ["directory333/zthird"]),
-        ("a file that went", (third / "zthird").unlink, "zthird", []),
-        ("a new directory", lambda: deep_file(root / "directory444"), "zdeep", ["directory444/zin/zbelow/zdeep"]),
-        (
-            "a file that an editor saves by a rename",
-            lambda: save(root / "directory555" / "zsaved"),
-            "zsaved",
-            ["directory555/zsaved"],
-        ),
+        ("a new file", (near / new).touch, new, [f"{near.name}/{new}"]),
+        ("a file that is renamed", lambda: (far / "file2").rename(far / renamed), renamed, [f"{far.name}/{renamed}"]),
+        ("a file that is moved", lambda: (far / "file3").rename(third / moved), moved, [f"{third.name}/{moved}"]),
+        ("a file that went", gone_before(root, turn).unlink, gone_before(root, turn).name, []),
+        ("a new directory", lambda: deep_file(deepest, deep), deep, [f"{deepest.parent.name}/zin/zbelow/{deep}"]),
+        ("a file that an editor saves by a rename", lambda: save(other / saved), saved, [f"{other.name}/{saved}"]),
     ]
 
 
-def deep_file(directory: Path) -> None:
-    (directory / "zin" / "zbelow").mkdir(parents=True)
-    (directory / "zin" / "zbelow" / "zdeep").touch()
+def gone_before(root: Path, turn: int) -> Path:
+    """A file that is there from the beginning, with a name of its own."""
+    return root / f"directory{340 + turn}" / f"zgone{turn}"
+
+
+def deep_file(directory: Path, name: str) -> None:
+    (directory / "zbelow").mkdir(parents=True)
+    (directory / "zbelow" / name).touch()
 
 
 def save(path: Path) -> None:

@@ -7,15 +7,15 @@ import signal
 import time
 from pathlib import Path
 
-from case import Beside, Case
-from client import A_HOUR, ENDED, Server, query_of_names
+from case import Beside, Case, Timed
+from client import A_HOUR, ENDED, Client, Server, query_of_names
 from trees import fill_directory, lock
+from waiting import wait_until
 
 NAMES = (b"\xff", b"b\xfe", b"directory/\xfd")
 FILES = 60_000
-# A walk of so many files goes on after this time, in seconds.
-WITHIN = 0.02
 MINUTE = 61.0
+TRIES = 20
 
 
 class Telling(Case):
@@ -47,20 +47,50 @@ class Telling(Case):
             self.same("the last line", server.errors().endswith(ENDED), True)
 
 
-class AWalkOfAMinute(Beside):
+class AWalkOfAMinute(Timed, Beside):
     def test_a_walk_of_a_minute(self) -> None:
         """A walk that takes over a minute, since the server is stopped meanwhile, is told with its seconds."""
         root = self.room / "tree"
         fill_directory(root, FILES)
         with Server(self.room, interval=A_HOUR) as server, server.client(root) as client:
-            client.send("query", str(root), {**query_of_names(), "expression": ["name", "none"]})
-            time.sleep(WITHIN)
-            server.process.send_signal(signal.SIGSTOP)
+            self.check("the server is stopped while it walks", is_stopped_in_a_walk(server, client, root))
             time.sleep(MINUTE)
             server.process.send_signal(signal.SIGCONT)
             self.same("a reply after a minute", client.reply()["files"], [])
             line = re.compile(re.escape(json.dumps(str(root)).encode()) + rb": a walk took 6[0-9] seconds\n")
             self.check("a walk of a minute is told", len(line.findall(server.errors())) == 1, [repr(server.errors())])
+
+
+def is_stopped_in_a_walk(server: Server, client: Client, root: Path) -> bool:
+    """Stops the server while it walks a root for a query, whose reply comes later. If the walk was over before that,
+    another one is tried."""
+    for _ in range(TRIES):
+        # The first round may walk it too.
+        wait_until(lambda: not walks(server, root))
+        client.send("query", str(root), {**query_of_names(), "expression": ["name", "none"]})
+        wait_until(lambda: walks(server, root), 0.5)
+        server.process.send_signal(signal.SIGSTOP)
+        wait_until(lambda: state_of(server) == "T")
+        if walks(server, root):
+            return True
+        server.process.send_signal(signal.SIGCONT)
+        client.reply()
+    return False
+
+
+def state_of(server: Server) -> str:
+    return Path(f"/proc/{server.process.pid}/stat").read_text().rsplit(")", 1)[1].split()[0]
+
+
+def walks(server: Server, root: Path) -> bool:
+    """Whether the server has a directory of a root open."""
+    for handle in Path(f"/proc/{server.process.pid}/fd").iterdir():
+        try:
+            if os.readlink(handle) == str(root):
+                return True
+        except OSError:
+            pass  # it was closed meanwhile
+    return False
 
 
 def told_after_both(server: Server, root: Path, said: bytes) -> bytes:

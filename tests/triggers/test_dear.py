@@ -4,7 +4,7 @@ import threading
 import time
 from typing import Callable, List
 
-from case import Case
+from case import Timed
 from client import Client
 from triggered import Scene
 from waiting import wait_until
@@ -18,7 +18,7 @@ EXPRESSION = ["anyof", ["name", "last"], *[["match", PATTERN, "wholename"]] * PA
 LEAST = 0.2
 
 
-class Dear(Case):
+class Dear(Timed):
     def test_a_trigger_that_takes_long(self) -> None:
         """No reply waits for half of the time that the trigger's program takes on all files."""
         with Scene(self.room) as scene, scene.server.client() as other:

@@ -5,7 +5,7 @@ import os
 import signal
 import time
 
-from case import Case
+from case import Timed
 from triggered import QUIET, Scene
 from waiting import wait_until
 
@@ -16,7 +16,7 @@ SOON = 1.5
 NAMES = 3_000
 
 
-class Ends(Case):
+class Ends(Timed):
     def test_a_command_that_ends_by_a_signal(self) -> None:
         """A command that kills itself has ended as any other, and is started again."""
         with Scene(self.room) as scene:
@@ -48,6 +48,7 @@ class Ends(Case):
             scene.trigger("t", f"{scene.log('$$')}; kill -STOP $$; {scene.log('over')}", append_files=True)
             self.check("it is stopped", wait_until(lambda: scene.children() == ["T"]))
             scene.make("b")
+            scene.see()
             time.sleep(QUIET)
             number = scene.lines()[0].split()[0]
             self.same("no start while it is stopped", scene.lines(), [f"{number} a"])

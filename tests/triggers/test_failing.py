@@ -72,6 +72,7 @@ class Failing(Case):
             scene.register("t", [str(script)], append_files=True)
             self.is_told_once(scene, "t")
             scene.make("b")
+            scene.see()
             time.sleep(QUIET)
             self.same("no start before it may be run", scene.lines(), [])
             script.chmod(0o755)

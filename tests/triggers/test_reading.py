@@ -6,7 +6,7 @@ import time
 from pathlib import Path
 from typing import List
 
-from case import Case
+from case import Timed
 from client import Client, query_of_names
 from triggered import Scene
 from waiting import wait_until
@@ -22,7 +22,7 @@ WRITTEN = 10_000_000
 MORE_MEMORY = 6_000_000
 
 
-class Reading(Case):
+class Reading(Timed):
     def test_a_command_that_never_reads(self) -> None:
         """The names of 200,000 files are the input of a command that sleeps. Meanwhile another client is answered at
         once."""

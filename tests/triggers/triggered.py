@@ -52,13 +52,17 @@ class Scene:
         for name in names:
             (self.root / name).touch()
 
+    def see(self) -> None:
+        """Has the server see the root as it is now."""
+        self.client.ask("clock", str(self.root), {"sync_timeout": 1})
+
     def trigger(self, name: str, script: str, **more: object) -> dict:
         """Registers a trigger whose command is a script of sh. What is appended are its arguments."""
         return self.register(name, ["sh", "-c", script, "sh"], **more)
 
     def register(self, name: str, command: List[str], **more: object) -> dict:
         """Registers a trigger at a view that shows all files, so that its first start has all of them."""
-        self.client.ask("clock", str(self.root), {"sync_timeout": 1})
+        self.see()
         told: Dict[str, object] = {"name": name, "command": command, **more}
         return self.client.ask("trigger", str(self.root), told)
 

@@ -1,4 +1,13 @@
-"""A terminal for the commands of a page: a directory, an environment, and commands that go on beside others."""
+"""A terminal for the commands of a page: a directory, an environment, and commands that go on beside others. The marks
+of its blocks are these:
+
+    <!-- run: session -->          commands after `$ `, each with what it writes
+    <!-- run: waits for -->        the same, each again and again until it writes that
+    <!-- run: begins NAME -->      a command that goes on, and the first that it writes
+    <!-- run: then NAME -->        what it writes next
+    <!-- run: interrupts NAME -->  it gets Ctrl-C here; this mark has no block
+    <!-- run: file NAME -->        the block is this file
+"""
 
 import json
 import os
@@ -12,10 +21,10 @@ from pathlib import Path
 from typing import Callable, Dict, Iterator, List, NamedTuple
 
 import built
-from reading import Block, Command, commands_of, is_as_shown
-from waiting import look_until, wait_until
+from pages import Element
+from shell import Command, Shell, commands_of, is_as_shown
+from waiting import PATIENCE, look_until, wait_until
 
-PATIENCE = 60.0
 PAUSE = 0.05
 # So long a client gets to ask for what it wants to hear of, before others change something.
 BEGINNING = 1.0
@@ -35,7 +44,7 @@ class Done(NamedTuple):
 class Begun:
     """A command that goes on, and what it wrote."""
 
-    def __init__(self, line: str, directory: str, environment: Dict[str, str], log: Path) -> None:
+    def __init__(self, line: str, directory: Path, environment: Dict[str, str], log: Path) -> None:
         self.log = log
         self.seen = 0
         with open(log, "wb") as file:
@@ -52,7 +61,7 @@ class Begun:
     def next_output(self, expected: List[str]) -> str:
         """What was written since the last look, when it is what is expected, or after a long time."""
         text = look_until(
-            lambda: self.log.read_text(encoding="utf-8")[self.seen :], lambda text: is_as_shown(text, expected)
+            lambda: self.log.read_text(encoding="utf-8")[self.seen :], lambda text: is_as_shown(once(text), expected)
         )
         self.seen += len(text)
         return text
@@ -62,18 +71,18 @@ class Begun:
         return self.process.wait(PATIENCE)
 
 
-class Terminal:
+class Terminal(Shell):
     """Runs the blocks of a page, one after the other."""
 
     def __init__(self) -> None:
         self.room = Path(tempfile.mkdtemp(prefix="wq-")).resolve()
         self.begun: Dict[str, Begun] = {}
-        for name in ("home", "run", "bin"):
-            (self.room / name).mkdir(mode=0o700)
-        self.directory = str(self.room / "home")
-        self.environment = {
-            "PATH": f"{self.room / 'bin'}:{os.environ['PATH']}",
-            "HOME": self.directory,
+        home = self.room / "home"
+        for directory in (home, self.room / "run"):
+            directory.mkdir(mode=0o700)
+        environment = {
+            "PATH": os.environ["PATH"],
+            "HOME": str(home),
             "LC_ALL": "C.UTF-8",
             "XDG_RUNTIME_DIR": str(self.room / "run"),
             "WQD": str(built.program_path()),
@@ -83,18 +92,13 @@ class Terminal:
             "PYTHONDONTWRITEBYTECODE": "1",
             "NODE_PATH": str(self.room / "modules"),
         }
+        python = [sys.executable, "-B"]
+        wq, wqasm = [*python, str(built.TOP / "wq")], [*python, str(built.TOP / "clients" / "wqasm")]
+        super().__init__(self.room, home, environment, wq=wq, wqasm=wqasm, wqd=[str(built.TOP / "wqd")])
         node, package = built.TOP / "clients" / "node", self.room / "modules" / "wqd-client"
         package.mkdir(parents=True)
         for path in (node / "client" / "package.json", node / "client.js"):
             (package / path.name).symlink_to(path)
-        for name, words in (
-            ("wq", [sys.executable, "-B", str(built.TOP / "wq")]),
-            ("wqasm", [sys.executable, "-B", str(built.TOP / "clients" / "wqasm")]),
-            ("wqd", [str(built.TOP / "wqd")]),
-        ):
-            command = self.room / "bin" / name
-            command.write_text("#!/bin/sh\nexec " + " ".join(f"'{word}'" for word in words) + ' "$@"\n')
-            command.chmod(0o755)
 
     def __enter__(self) -> "Terminal":
         return self
@@ -106,8 +110,8 @@ class Terminal:
         self.do("wq stop")
         shutil.rmtree(self.room)
 
-    def run(self, block: Block) -> Iterator[Done]:
-        kind, _, word = block.mark.partition(": ")[2].partition(" ")
+    def run(self, element: Element) -> Iterator[Done]:
+        kind, _, word = element.mark.partition(": ")[2].partition(" ")
         rules: Dict[str, Callable[[str, List[str]], Iterator[Done]]] = {
             "session": self.session,
             "waits": self.waits_for,
@@ -116,11 +120,11 @@ class Terminal:
             "interrupts": self.interrupts,
             "file": self.file,
         }
-        if block.mark.startswith("not run: "):
+        if element.mark.startswith("not run: "):
             return iter(())
-        if not block.mark.startswith("run: ") or kind not in rules:
-            return iter([Done("a block without a mark", False, [], block.mark)])
-        return rules[kind](word, block.lines)
+        if not element.mark.startswith("run: ") or kind not in rules:
+            return iter([Done("a block without a mark", False, [], element.mark)])
+        return rules[kind](word, element.lines)
 
     def session(self, _: str, lines: List[str]) -> Iterator[Done]:
         for command in commands_of(lines):
@@ -148,31 +152,22 @@ class Terminal:
 
     def then(self, name: str, lines: List[str]) -> Iterator[Done]:
         written = self.begun[name].next_output(lines)
-        yield Done(f"{name} goes on", is_as_shown(written, lines), lines, written)
+        yield Done(f"{name} goes on", is_as_shown(once(written), lines), lines, written)
 
     def interrupts(self, name: str, _: List[str]) -> Iterator[Done]:
         status = self.begun[name].interrupt()
         yield Done(f"{name} is interrupted", status in INTERRUPTED, ["130"], str(status))
 
     def file(self, name: str, lines: List[str]) -> Iterator[Done]:
-        (Path(self.directory) / name).write_text("".join(f"{line}\n" for line in lines), encoding="utf-8")
+        self.write(name, lines)
         return iter(())
 
-    def do(self, line: str) -> str:
-        """The output of a command, standard output and standard error. A `cd` in it holds for the commands after it."""
-        note = self.room / "directory"
-        words = ["sh", "-c", f'{line}\nstatus=$?\npwd > "$0"\nexit $status', str(note)]
-        ended = subprocess.run(
-            words,
-            cwd=self.directory,
-            env=self.environment,
-            stdin=subprocess.DEVNULL,
-            stdout=subprocess.PIPE,
-            stderr=subprocess.STDOUT,
-            timeout=PATIENCE,
-        )
-        self.directory = note.read_text().rstrip("\n") if note.exists() else self.directory
-        return ended.stdout.decode("utf-8", "backslashreplace")
+
+def once(written: str) -> str:
+    """What was written, with one of equal lines that follow one another: a shell empties a file before it writes it,
+    and a scan may come between."""
+    lines = written.splitlines(keepends=True)
+    return "".join(line for line, before in zip(lines, ["", *lines]) if line != before)
 
 
 def done(command: Command, written: str) -> Done:

@@ -1,13 +1,16 @@
 """The commands of docs/TUTORIAL.md, TROUBLESHOOTING.md, EMBEDDING.md and PLACES.md and of README's picture, which write
-what the pages show. Each block has a mark, a comment that a reader does not see; reading.py says which there are."""
+what the pages show. Each block has a mark, a comment that a reader does not see; terminal.py says which there are."""
 
 import shutil
 import subprocess
 
 import built
 from case import Case
-from reading import blocks_of
+from pages import elements_of
 from terminal import Terminal
+
+# This mark has no block.
+INTERRUPTS = "run: interrupts "
 
 
 class Pages(Case):
@@ -34,7 +37,8 @@ class Pages(Case):
         if until:
             text = text.partition(until)[0]
         with Terminal() as terminal:
-            for block in blocks_of(text):
-                for done in terminal.run(block):
-                    where = f"docs/{name}, line {block.number}: {done.name}"
+            for element in elements_of(text):
+                is_run = element.mark.startswith(INTERRUPTS) if element.kind == "comment" else element.kind == "block"
+                for done in terminal.run(element) if is_run else ():
+                    where = f"docs/{name}, line {element.number}: {done.name}"
                     self.check(where, done.is_right, [f"expected: {done.expected!r}", f"written:  {done.written!r}"])

@@ -8,6 +8,7 @@ import os
 import pty
 import re
 import select
+import shlex
 import signal
 import struct
 import subprocess
@@ -19,6 +20,7 @@ from typing import Any, Callable, Dict, List, NamedTuple, Optional, Sequence, Tu
 import built
 from case import Case
 from client import PATIENCE, Client
+from rows import Row, tables
 from waiting import wait_until
 
 COMMAND = str(built.TOP / "wq")
@@ -82,9 +84,17 @@ class Scene:
         return Client(self.sockname)
 
     def write(self, name: str, text: str = "x") -> None:
-        path = self.tree / name
+        """Writes a file in one step. A scan may come between two, and would see a file that is new, or emptied first,
+        change twice. So it is written in place by one write, or moved in whole where it is new or was longer."""
+        path, data = self.tree / name, text.encode()
         path.parent.mkdir(parents=True, exist_ok=True)
-        path.write_text(text)
+        if path.is_file() and path.stat().st_size <= len(data):
+            with open(path, "r+b", buffering=0) as file:
+                file.write(data)
+            return
+        aside = self.room / "aside of the tree"
+        aside.write_bytes(data)
+        aside.replace(path)
 
     def call(self, words: Sequence[Word], enters: bytes = b"", **environment: str) -> built.Ended:
         """A call in the tree, with a standard input."""
@@ -115,6 +125,24 @@ class Scene:
         """The tick of a root: how often its files changed."""
         with self.client() as client:
             return int(client.ask("clock", str(root or self.tree), {"sync_timeout": 1})["clock"].rsplit(":", 1)[1])
+
+
+def check_names(case: Case, scene: Scene, table: str) -> None:
+    """Calls of calls.rows print these names, and say nothing else."""
+    for row in calls(scene, table):
+        expected = "".join(f"{name}\n" for name in shlex.split(row.expected))
+        ended = built.Ended(expected.encode(), b"", 0 if expected else 1)
+        case.same(f"wq {row.given}", scene.wq(*row.words()), ended)
+
+
+def check_wrong(case: Case, scene: Scene, table: str) -> None:
+    """Calls of calls.rows are refused with these words."""
+    for row in calls(scene, table):
+        wrong(case, scene, row.words(), row.expected)
+
+
+def calls(scene: Scene, table: str) -> List[Row]:
+    return tables(Path(__file__).with_name("calls.rows"), TREE=str(scene.tree))[table]
 
 
 def without_delays(errors: bytes) -> bytes:

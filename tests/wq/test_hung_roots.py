@@ -7,7 +7,7 @@ import time
 from typing import Any, Dict
 
 import built
-from case import Beside
+from case import Beside, Timed
 from client import PATIENCE
 from scene import COMMAND, Scene
 from stand_ins import answering, stand_in
@@ -49,7 +49,7 @@ tail -n 1 told
 NAMESPACES = (["unshare", "--mount"], ["unshare", "--mount", "--map-root-user"])
 
 
-class HungRoots(Beside):
+class HungRoots(Timed, Beside):
     def test_unmounted(self) -> None:
         """A root that is not mounted any more is named, as one that is gone is."""
         with Scene(self.room, starts=False) as scene:
@@ -90,9 +90,10 @@ class HungRoots(Beside):
             found = hearing_of(mount.kind)
             self.same(f"the mount of {path}", (mount.kind, found and found.silent_about), (kind, silent))
         for kind, part in (
-            ("9p", "`-o cache=none` sooner"),
-            ("virtiofs", "`virtiofsd --cache never` sooner"),
-            ("cifs", "up to 1 s late, also to a query that scans first; with `-o actimeo=0` sooner"),
+            ("9p", "differs, also to a query that scans first; with `-o cache=none` at once"),
+            ("virtiofs", "up to 1 s late, also to a query that scans first; with `virtiofsd --cache never` at once"),
+            ("cifs", "up to 1 s late, also to a query that scans first; with `-o actimeo=0` at once"),
+            ("hostfs", "it shows such a change at once"),
             ("nfs4", "3 to 60 s late, also to a query that scans first; with `-o actimeo=1` up to 1 s"),
             ("fuse.sshfs", "dcache_stat_timeout=1"),
             ("fuse.rclone", "`--dir-cache-time 1s --attr-timeout 1s`"),

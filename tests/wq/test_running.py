@@ -7,14 +7,14 @@ import time
 from pathlib import Path
 
 import built
-from case import Beside
+from case import Beside, Timed
 from client import PATIENCE
 from runs import Log, change_until, command, has_runs
 from scene import COMMAND, Scene, following, said, touch_until, write_until, wrong
 from waiting import wait_until
 
 
-class Running(Beside):
+class Running(Timed, Beside):
     def test_run(self) -> None:
         with Scene(self.room) as scene:
             log = Log(scene)
@@ -122,7 +122,7 @@ class Running(Beside):
         the next run, and not after the end. A daemon does."""
         leaves = (
             'sh -c \'trap "" HUP INT TERM; echo $$ >> "$LOG.left"; while :; do sleep 0.05; done\' & '
-            'rm -f "$LOG.daemon"; setsid sh -c \'echo $$ > "$LOG.daemon"; exec sleep 30\' & '
+            'rm -f "$LOG.daemon"; setsid sh -c \'echo $$ > "$LOG.daemon"; exec sleep 1000\' & '
             'while [ ! -s "$LOG.left" ] || [ ! -s "$LOG.daemon" ]; do sleep 0.01; done; echo run >> "$LOG"; wait'
         )
         with Scene(self.room) as scene:
@@ -205,7 +205,7 @@ class Running(Beside):
 
 def is_gone(process: int) -> bool:
     """Whether a process that nobody waits for has ended."""
-    return wait_until(lambda: state_of(process) in ("Z", ""), 5)
+    return wait_until(lambda: state_of(process) in ("Z", ""))
 
 
 def state_of(process: int) -> str:

@@ -8,12 +8,13 @@ import signal
 import subprocess
 import sys
 import time
+from pathlib import Path
 from typing import Iterator, List
 
 import built
-from case import Beside
+from case import Beside, Timed
 from client import PATIENCE
-from scene import Going, Scene, facts, said
+from scene import Going, Scene, facts, said, without_delays
 from stand_ins import Holding
 from waiting import wait_until
 
@@ -31,15 +32,17 @@ DEAF = f"{SILENT}time.sleep(1000)"
 BUSY = f"{SILENT}while True: sum(range(100_000)); time.sleep(0.001)"
 
 
-# So long, in seconds, a command that says nothing needs to begin.
+# So long, in seconds, a command that says nothing needs to begin once its root is watched.
 BEGUN = 2.0
+# The state of a stream in the kernel's list of sockets.
+CONNECTED = "03"
 ENDED = "the server has ended before it answered, and another one is asked"
 
 
-class Staying(Beside):
+class Staying(Timed, Beside):
     def is_said(self, name: str, errors: bytes, *patterns: str) -> None:
         """The lines of standard error, as patterns that say no more than they must."""
-        lines = errors.decode().splitlines()
+        lines = without_delays(errors).decode().splitlines()
         is_right = len(lines) == len(patterns) and all(map(re.fullmatch, (f"wq: {one}" for one in patterns), lines))
         self.check(name, is_right, [f"expected: {patterns}", f"found:    {lines}"])
 
@@ -186,14 +189,15 @@ class Staying(Beside):
             process = facts(scene)["process"]
             os.kill(process, signal.SIGSTOP)
             with scene.begin("find", "*.h") as going:
-                time.sleep(0.5)
+                self.check("it is asked", wait_until(lambda: is_connected(going.process.pid)))
                 os.kill(process, signal.SIGKILL)
                 self.same("the answer of another one", (going.ends(), going.output), (0, b"src/deep/c.h\n"))
-                self.same("what is said", going.errors, said(ENDED, f"started a server at {scene.sockname}"))
+                lines = said(ENDED, f"started a server at {scene.sockname}")
+                self.same("what is said", without_delays(going.errors), lines)
             process = facts(scene)["process"]
             os.kill(process, signal.SIGSTOP)
             with scene.begin("since", "*.h") as going:
-                time.sleep(0.5)
+                self.check("it is asked too", wait_until(lambda: is_connected(going.process.pid)))
                 scene.wq("stop")
                 self.same("a server that is stopped", going.ends(), 3)
                 last = said("the server was stopped before it answered; `wq start` starts another one")
@@ -220,6 +224,7 @@ class Staying(Beside):
         """Kills the server of a command that waits. If names are given, these files are written when it is stopped, and
         another one is gone."""
         process = facts(scene)["process"]
+        going.waits_for(lambda _: bool(scene.roots()))
         going.read(BEGUN)
         os.kill(process, signal.SIGSTOP)
         for name in names:
@@ -275,7 +280,7 @@ class Staying(Beside):
                 with scene.begin(*words, WQD_SOCK=held.sockname) as going:
                     self.check(f"{words} waits for {word!r}", held.is_reached.wait(PATIENCE))
                     ended = going.ends(number)
-                    wait_until(lambda: not scene.roots(), PATIENCE / 12)
+                    wait_until(lambda: not scene.roots())
                     self.same(f"{words} at {word!r}", (ended, scene.roots()), (status, []))
 
     def check_stays(self, scene: Scene, words: List[str], is_before: bool) -> None:
@@ -331,6 +336,15 @@ class Staying(Beside):
         scene.wq("watch", *(name for name in scene.names("roots") if name != names[1]))
         least = said(f"{names[1]} was asked about least lately, and is watched no longer: 16 roots may be")
         self.same("watch drops what since keeps", scene.wq("watch", names[5]).errors, least)
+
+
+def is_connected(process: int) -> bool:
+    """Whether a process has a stream that somebody listens to."""
+    with contextlib.suppress(OSError):
+        links = {os.readlink(handle) for handle in Path(f"/proc/{process}/fd").iterdir()}
+        rows = [line.split() for line in Path("/proc/net/unix").read_text().splitlines()[1:]]
+        return any(row[5] == CONNECTED and f"socket:[{row[6]}]" in links for row in rows)
+    return False
 
 
 @contextlib.contextmanager

@@ -1,5 +1,6 @@
 """`wq run`: what a command is handed, what a change does while it runs, its own changes, and keys at a terminal."""
 
+import itertools
 import os
 import pty
 import signal
@@ -10,17 +11,17 @@ import time
 from typing import Dict, List, Tuple
 
 import built
-from case import Beside
+from case import Beside, Timed
 from client import PATIENCE
 from runs import Log, change_until, command, has_runs
-from scene import COMMAND, AtTerminal, Scene, called_at_terminal, following, said, without_delays, wrong
+from scene import COMMAND, AtTerminal, Going, Scene, called_at_terminal, following, said, without_delays, wrong
 from waiting import wait_until
 
 SHOWS = 'printf "%s %s [%s]\\n" "$WQ_ROOT" "$WQ_CHANGED_COUNT" "$WQ_CHANGED"'
 ENDED = "sh ended with status 0"
 
 
-class WaysOfRuns(Beside):
+class WaysOfRuns(Timed, Beside):
     def test_handed(self) -> None:
         """Variables and names, as many as the system takes."""
         with Scene(self.room) as scene:
@@ -51,9 +52,19 @@ class WaysOfRuns(Beside):
         script = 'printf "%s %s" "$WQ_CHANGED_COUNT" "$WQ_CHANGED" | wc -c'
         with scene.begin("run", "many", "--", "sh", "-c", script) as going:
             self.check("a first run", going.prints("2\n"))
-            for number in range(900):
-                (many / f"{number:04}{'x' * 200}.long").write_text("changed")
-            self.check("names of 64 KiB", going.waits_for(lambda one: 60_000 < int(one.output.split()[-1]) < 65_542))
+            texts = itertools.count(1)
+
+            def has_all(one: Going) -> bool:
+                # A scan may come while they are written, and part them.
+                if 60_000 < int(one.output.split()[-1]) < 65_542:
+                    return True
+                text = "changed" * next(texts)
+                for number in range(900):
+                    (many / f"{number:04}{'x' * 200}.long").write_text(text)
+                one.read(1)
+                return False
+
+            self.check("names of 64 KiB", going.waits_for(has_all))
         # A small stack has the system take fewer bytes of arguments.
         script = "echo \\$#; exit \\$(( \\$# > 400 ))"
         ended = run_by_shell(scene, f'ulimit -s 256; exec "$0" run many --once -- sh -c "{script}" sh {{}}')
@@ -152,6 +163,7 @@ class WaysOfRuns(Beside):
             "    def signal(self, number, to_all=True): pass\n"
             "run = Unending(Command(['sleep', '30'], False, False, True, False), [['sleep', '30']], [], {}, set())\n"
             "run.begin()\n"
+            "while open(f'/proc/{run.process.pid}/stat').read().split()[1:3] != ['(sleep)', 'S']: pass\n"
             "run.end_at_once(signal.SIGTERM, 0.2)\n"
             "run.process.kill()\n"
         )

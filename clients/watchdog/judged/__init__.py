@@ -1,2 +1,2 @@
 """Drawn histories of a tree, which several observers of watchdog follow, and real tools: for clients/watchdog/compare,
-clients/watchdog/delayed and tests/adapters_watchdog."""
+bench/delayed and tests/adapters_watchdog."""

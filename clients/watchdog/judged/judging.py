@@ -67,7 +67,7 @@ class History:
             with self.served.lock:
                 self.served.kill()
                 self.steps.append(f"without a server: {self.burst()}")
-                self.served.process = self.served.started()
+                self.served.start()
         else:
             self.steps.append(self.burst() if chance < RESTARTS + BURSTS else self.drawn.step())
         after = picture_of(self.root)

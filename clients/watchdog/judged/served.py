@@ -1,42 +1,28 @@
 """A server wqd that is killed and started again."""
 
 import os
-import subprocess
+import sys
 import threading
-import time
 from pathlib import Path
-from typing import Sequence
 
-from wqd_watchdog.wqclient.sockets import is_listened_on
+TESTS = Path(__file__).resolve().parents[3] / "tests"
+sys.path[:0] = [str(TESTS), str(TESTS / "server")]
 
-TOP = Path(__file__).resolve().parents[3]
+from client import Server
 
 
 class Served:
-    """The server at a socket. The variable WQD names another program than the one of the clone."""
+    """The servers at the socket in a directory, one after the other."""
 
-    def __init__(self, sockname: str, through: Sequence[str] = ()) -> None:
-        self.sockname = sockname
-        # Words before the command.
-        self.through = through
+    def __init__(self, room: Path) -> None:
+        self.room = room
         self.count = 0
         self.lock = threading.Lock()
-        self.process = self.started()
+        self.start()
 
-    def started(self) -> "subprocess.Popen[bytes]":
+    def start(self) -> None:
         self.count += 1
-        words = ["--start", str(self.count), "--pid", str(os.getpid()), "--share", "10", "--interval", "100"]
-        command = [*self.through, self.program(), "serve", "--sockname", self.sockname, *words]
-        process = subprocess.Popen(command, stdin=subprocess.DEVNULL, stderr=subprocess.DEVNULL)
-        while not is_listened_on(self.sockname):
-            if process.poll() is not None:
-                raise OSError("the server does not start; is wqd built, or named by the variable WQD?")
-            time.sleep(0.01)
-        return process
-
-    def program(self) -> str:
-        return os.environ.get("WQD") or str(TOP / "crates" / "wqd" / "out" / "wqd")
+        self.server = Server(self.room, interval=100, share=10, numbers=(self.count, os.getpid()))
 
     def kill(self) -> None:
-        self.process.kill()
-        self.process.wait()
+        self.server.kill()

@@ -3,7 +3,8 @@
 use Rattle.std.specs.Prelude.{◌≡◌, ◌⊎◌, ℕ, suc, Bool, true, false, List, [], ◌∷◌, ◌++◌, Option, Some, None}
 use mathlib.Core.List.{IsPrefix}
 use Rattle.wq_stream.specs.declared.event.Event.{Event}
-use Rattle.wq_stream.specs.declared.event.Event.TheVariants.{End, Fault, Idle}
+use Rattle.wq_stream.specs.declared.event.Event.TheVariants.{End, Fault}
+use Rattle.wq_stream.specs.Inbox.{of_client}
 use Rattle.wq_stream.specs.Stream.{Adds, events_of, kept_of}
 use Rattle.wq_inbox.specs.declared.coming.Coming.{Coming}
 use Rattle.wq_inbox.specs.declared.coming.Turn.{Turn}
@@ -34,20 +35,13 @@ AreRead events = (stream : List ℕ)
 abbrev pub ReadsAll : List Event → List Event → Type 0
 ReadsAll before after = (events : List Event) × AreRead events × (after ≡ before ++ events)
 
--- an event as a list, if it is of the client: a moment comes from the server, and the end of a
--- session may
-abbrev pub of_client : Event → List Event
-of_client (Idle root) = []
-of_client End = []
-of_client event = event ∷ []
-
 -- a session took an event: the next one of those that were put. Or it has a moment, or its end, and
 -- took none
 abbrev pub TakesEvent : List Event → Event → List Event → Type 0
 TakesEvent before event after =
     (after ≡ before ++ event ∷ []) ⊎ ((after ≡ before) × (of_client event ≡ []))
 
--- whose turn it is: that of a moment that is due, or of an event of the client that waits; or the
+-- the next turn is that of a moment that is due, or of an event of the client that waits; or the
 -- queue is closed. It is nobody's only if there is neither
 abbrev pub TakesNext : Coming → Option Turn → Coming → Type 0
 TakesNext before (Some (Moment number)) after =

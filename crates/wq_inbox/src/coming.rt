@@ -1,4 +1,4 @@
-//! What comes to a session: events of its client, which wait elsewhere, and idle moments.
+//! Events of a client, which wait elsewhere, and idle moments come to its session in turn.
 ghost use Rattle.std.specs.Prelude.{◌≡◌, ◌++◌, All, List, OnOk, false, ℕ};
 ghost use Rattle.std.specs.List.{Contains};
 ghost use Rattle.wq_inbox.specs.Queue.{TakesNext};
@@ -7,8 +7,8 @@ use std::alloc::{AllocError, Global};
 use std::collections::VecDeque;
 use wq_stream::MAX_WAITING;
 
-/// What comes to a session. A client's events and idle moments come in turn, as long as there are both. So neither holds
-/// up the other.
+/// The events and the moments that a session has to take. They come in turn, as long as there are both. So neither
+/// holds up the other.
 #[derive(Drop)]
 pub(crate) struct Coming {
     /// How many events of the client wait.
@@ -21,7 +21,7 @@ pub(crate) struct Coming {
     is_closed: bool,
 }
 
-/// What comes next.
+/// The turn that comes next.
 #[derive(Drop)]
 pub(crate) enum Turn {
     /// An idle moment of the root of this number.

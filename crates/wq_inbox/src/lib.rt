@@ -1,5 +1,5 @@
-//! What brings the events of a client to its session: the reader of its stream, the queue that threads share, and the
-//! turnstile before long lines.
+//! A reader brings the events of a client's stream to its session: through a queue that threads share, and a turnstile
+//! before long lines.
 //!
 //! A link to a client has its queue. Other crates run the threads, and write the replies.
 #![tactic(auto)]

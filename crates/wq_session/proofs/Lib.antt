@@ -24,5 +24,6 @@ mod Listing
 mod NoFloat
 pub mod Reaching
 mod Staying
+mod Handing
 mod Going
 pub mod Lines

@@ -29,3 +29,4 @@ pub mod Desk
 pub mod Idling
 pub mod Serving
 pub mod Stays
+pub mod Handing

@@ -19,16 +19,16 @@ use Rattle.wq_session.specs.Desk.{StandData}
 use Rattle.wq_crawl.specs.Views.{ReadyData}
 use Rattle.wq_session.specs.Desk.{Replies}
 use Rattle.wq_session.specs.Idling.{IsIdled}
-use Rattle.wq_stream.specs.Inbox.{Hands}
+use Rattle.wq_stream.specs.Inbox.{Hands, InboxData}
 use Rattle.wq_session.specs.Limit.{max_events}
 use Rattle.wq_crawl.specs.Ready.{KnownData, Readies, known}
 use Rattle.wq_crawl.specs.Crawl.{CrawlerData}
 use Rattle.wq_crawl.specs.Basis.{Basis}
 
--- the state of the ends of a session: the events that are left, the knowledge of the roots, and the
+-- the state of the ends of a session: what its inbox shows, the knowledge of the roots, and the
 -- shelf; and the subscriptions of the session
 pub record PlaceData : Type 0 where
-  pub left : Option (List Event)
+  pub inbox : InboxData
   pub known : KnownData
   pub shelf : Option ShelfNow
   pub follows : List SubscriptionData
@@ -54,7 +54,7 @@ Does basis event before stand out after left =
 -- the session takes an event: this is the output for it, and the ends are then in this state
 abbrev pub Serves : Basis → PlaceData → Event → OutData → PlaceData → Type 0
 Serves basis before event out after =
-    Hands before.left event after.left
+    Hands before.inbox event after.inbox
     × Does basis event before.known (stand_at before) out after.known (stand_at after)
 
 -- the line of a reply, if there is one: its text and a newline
@@ -80,10 +80,10 @@ GoesOn basis before (event ∷ later) written after =
     × GoesOn basis next later rest after
 
 -- the ends, from their parts
-abbrev pub place : Option (List Event) → Option CrawlerData → List RootEvent → Option ShelfNow
+abbrev pub place : InboxData → Option CrawlerData → List RootEvent → Option ShelfNow
     → List SubscriptionData → PlaceData
-place left roots seen shelf follows = record {
-  left = left;
+place inbox roots seen shelf follows = record {
+  inbox = inbox;
   known = known roots seen;
   shelf = shelf;
   follows = follows;

@@ -2,6 +2,7 @@
 ghost use Rattle.wq_clock.specs.declared.run.Run.{Run};
 ghost use Rattle.wq_crawl.specs.Basis.{basis_of};
 ghost use Rattle.wq_session.specs.Accepted.{AddedAreAsked, AnswersAreCalls};
+ghost use Rattle.wq_session.specs.Handing.{TakesAllHanded};
 ghost use Rattle.wq_session.specs.Law.{WatchingAgainChangesNothing};
 ghost use Rattle.wq_session.specs.Round.{FailedStartsAreCounted, RoundsAreCalls};
 ghost use Rattle.wq_session.specs.Stays.{AcceptedStays};
@@ -47,3 +48,9 @@ pub fn accepted_stays<N: Named>()
 {
     answers_are_calls();
 }
+
+/// If an inbox shows the events of its client that it has handed out, a session adds those that it took, in order, the
+/// last one too: it leaves out none, and takes none twice.
+pub fn takes_all_handed<N: Named>()
+    ensures { (run : Run) → TakesAllHanded (basis_of run (N.published N.book) (N.refused N.book)) }
+{}

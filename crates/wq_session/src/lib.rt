@@ -41,7 +41,7 @@ pub use followed::MAX_SUBSCRIPTIONS;
 pub use kept::Kept;
 pub use law::{
     accepted_stays, added_are_asked, answers_are_calls, failed_starts_are_counted,
-    rounds_are_calls, watching_again_changes_nothing,
+    rounds_are_calls, takes_all_handed, watching_again_changes_nothing,
 };
 pub use line::Line;
 pub use lock_desk::LockDesk;

@@ -66,9 +66,9 @@ pub fn serve<T: Threads, A: Asker, N: Named, I: Inbox, W: Write, R: Roots<N> + D
 ) -> Ended<N, R>
     ensures { (follows : List SubscriptionData) × IsServed
         (basis_of views.run (N.published N.book) (N.refused N.book))
-        (place (I.left inbox.old) (R.crawler views.roots) views.seat (D.shelf desk.old) [])
+        (place (I.shown inbox.old) (R.crawler views.roots) views.seat (D.shelf desk.old) [])
         (W.contents writer.old) (W.contents writer.new)
-        (place (I.left inbox.new) (R.crawler result.views.roots) result.views.seat
+        (place (I.shown inbox.new) (R.crawler result.views.roots) result.views.seat
         (D.shelf desk.new) follows)
         (record { shut = result.shut; fault = result.fault }) }
 {
@@ -117,9 +117,9 @@ fn take_event<T: Threads, A: Asker, N: Named, I: Inbox, R: Roots<N> + Drop, D: D
 ) -> (SeatViews<N, R>, Out)
     ensures serves { (event : Event) × Serves
         (basis_of views.run (N.published N.book) (N.refused N.book))
-        (place (I.left inbox.old) (R.crawler views.roots) views.seat (D.shelf desk.old)
+        (place (I.shown inbox.old) (R.crawler views.roots) views.seat (D.shelf desk.old)
         (follows_of session.old)) event result.1
-        (place (I.left inbox.new) (R.crawler result.0.roots) result.0.seat (D.shelf desk.new)
+        (place (I.shown inbox.new) (R.crawler result.0.roots) result.0.seat (D.shelf desk.new)
         (follows_of session.new)) }
     ensures run { result.0.run ≡ views.run }
 {

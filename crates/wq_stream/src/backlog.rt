@@ -1,6 +1,6 @@
 //! The events that wait for a session, in a queue of limited length. Another crate lets threads wait for it.
-ghost use Rattle.std.specs.Prelude.{◌≡◌, ◌↔◌, IfOk, IsTrue, [], false, length as count_of};
-ghost use Rattle.wq_stream.specs.Queue.{Puts, TakesFirst, closed, most_waiting};
+ghost use Rattle.std.specs.Prelude.{◌≡◌, IfOk, [], false};
+ghost use Rattle.wq_stream.specs.Queue.{Puts, TakesFirst, closed};
 
 use crate::event::Event;
 use std::alloc::{AllocError, Global};
@@ -39,21 +39,6 @@ impl Backlog {
             events: VecDeque::with_capacity(alloc, MAX_WAITING)?,
             is_closed: false,
         })
-    }
-
-    /// Whether a thread that puts an event has to wait.
-    pub fn is_full(&self) -> bool
-        ensures { IsTrue result ↔ ((self.now.is_closed ≡ false)
-            × (count_of self.now.events ≡ most_waiting)) }
-    {
-        !self.is_closed && self.events.len() == MAX_WAITING
-    }
-
-    /// Whether a thread that takes an event has to wait.
-    pub fn is_idle(&self) -> bool
-        ensures { IsTrue result ↔ ((self.now.is_closed ≡ false) × (self.now.events ≡ [])) }
-    {
-        !self.is_closed && self.events.is_empty()
     }
 
     /// Whether the queue takes in no more events.

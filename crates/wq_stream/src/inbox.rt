@@ -6,18 +6,17 @@ use std::collections::VecDeque;
 
 /// The source of the events of a client.
 ///
-/// It may show the events that are left. After the last event it says that the client has gone.
+/// It may show the events that are left, or those of its client that it has handed out. After the last event it says that
+/// the client has gone.
 pub trait Inbox {
-    ghost use Rattle.std.specs.Prelude.{List, Option};
-    ghost use Rattle.wq_stream.specs.declared.event.Event.{Event};
-    ghost use Rattle.wq_stream.specs.Inbox.{Hands};
+    ghost use Rattle.wq_stream.specs.Inbox.{InboxData, Hands};
 
-    // The events that are left, if they are shown.
-    ghost left: { Self → Option (List Event) };
+    // The events that it shows.
+    ghost shown: { Self → InboxData };
 
     /// The next event. It may wait for one.
     fn next(&mut self) -> Event
-        ensures { Hands (left self.old) result (left self.new) };
+        ensures { Hands (shown self.old) result (shown self.new) };
 }
 
 /// Events that have come already.
@@ -36,9 +35,9 @@ impl MemoryInbox {
 }
 
 impl Inbox for MemoryInbox {
-    ghost use Rattle.std.specs.Prelude.{Some};
+    ghost use Rattle.wq_stream.specs.Inbox.{left};
 
-    ghost left = { λ i. Some i.events.items };
+    ghost shown = { λ i. left i.events.items };
 
     fn next(&mut self) -> Event {
         match self.events.pop_front() {

@@ -43,9 +43,9 @@ struct HeldLines<'a> {
 }
 
 impl Inbox for HeldLines<'_> {
-    ghost use Rattle.std.specs.Prelude.{None};
+    ghost use Rattle.wq_stream.specs.Inbox.{hidden};
 
-    ghost left = { λ _. None };
+    ghost shown = { λ _. hidden };
 
     fn next(&mut self) -> Event {
         if self.taken == 1 && !comes(self.other) {

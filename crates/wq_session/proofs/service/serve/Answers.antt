@@ -12,13 +12,13 @@ returns-then-is_err g c =
     let inv = c.loop.invariant in
     let event = c.take_event-after.ensures.serves.0 in (
       follows_of c.take_event-after.new.session,
-      ends_within (basis_of c.args.views.run (g.N.Witness.published g.N.Named.book) (g.N.Witness.refused g.N.Named.book)) (place (g.I.Inbox.left c.args.inbox.now) (g.R.Roots.crawler c.args.views.roots) c.args.views.seat (g.D.Desk.shelf c.args.desk.now) [])
+      ends_within (basis_of c.args.views.run (g.N.Witness.published g.N.Named.book) (g.N.Witness.refused g.N.Named.book)) (place (g.I.Inbox.shown c.args.inbox.now) (g.R.Roots.crawler c.args.views.roots) c.args.views.seat (g.D.Desk.shelf c.args.desk.now) [])
           (g.W.Write.contents c.args.writer.now) (g.W.Write.contents c.loop.writer) (g.W.Write.contents c.write_out.new.writer) inv.1 inv.2
-          (place (g.I.Inbox.left c.loop.inbox) (g.R.Roots.crawler c.loop.views.roots) c.loop.views.seat (g.D.Desk.shelf c.loop.desk) (follows_of c.loop.session)) event c.take_event-after.result.1
-          (place (g.I.Inbox.left c.take_event-after.new.inbox) (g.R.Roots.crawler c.take_event-after.result.0.roots) c.take_event-after.result.0.seat
+          (place (g.I.Inbox.shown c.loop.inbox) (g.R.Roots.crawler c.loop.views.roots) c.loop.views.seat (g.D.Desk.shelf c.loop.desk) (follows_of c.loop.session)) event c.take_event-after.result.1
+          (place (g.I.Inbox.shown c.take_event-after.new.inbox) (g.R.Roots.crawler c.take_event-after.result.0.roots) c.take_event-after.result.0.seat
           (g.D.Desk.shelf c.take_event-after.new.desk) (follows_of c.take_event-after.new.session)) c.shuts-shut.result (search rules) inv.4
-          (subst (λ r. Serves (basis_of r (g.N.Witness.published g.N.Named.book) (g.N.Witness.refused g.N.Named.book)) (place (g.I.Inbox.left c.loop.inbox) (g.R.Roots.crawler c.loop.views.roots) c.loop.views.seat (g.D.Desk.shelf c.loop.desk) (follows_of c.loop.session)) event
-          c.take_event-after.result.1 (place (g.I.Inbox.left c.take_event-after.new.inbox) (g.R.Roots.crawler c.take_event-after.result.0.roots)
+          (subst (λ r. Serves (basis_of r (g.N.Witness.published g.N.Named.book) (g.N.Witness.refused g.N.Named.book)) (place (g.I.Inbox.shown c.loop.inbox) (g.R.Roots.crawler c.loop.views.roots) c.loop.views.seat (g.D.Desk.shelf c.loop.desk) (follows_of c.loop.session)) event
+          c.take_event-after.result.1 (place (g.I.Inbox.shown c.take_event-after.new.inbox) (g.R.Roots.crawler c.take_event-after.result.0.roots)
           c.take_event-after.result.0.seat (g.D.Desk.shelf c.take_event-after.new.desk) (follows_of c.take_event-after.new.session))) inv.0 c.take_event-after.ensures.serves.1)
           (search rules) inv.5 (search rules),
     )
@@ -28,13 +28,13 @@ returns-then-not-goes_on g c =
     let inv = c.loop.invariant in
     let event = c.take_event-after.ensures.serves.0 in (
       follows_of c.take_event-after.new.session,
-      ends_well (basis_of c.args.views.run (g.N.Witness.published g.N.Named.book) (g.N.Witness.refused g.N.Named.book)) (place (g.I.Inbox.left c.args.inbox.now) (g.R.Roots.crawler c.args.views.roots) c.args.views.seat (g.D.Desk.shelf c.args.desk.now) [])
+      ends_well (basis_of c.args.views.run (g.N.Witness.published g.N.Named.book) (g.N.Witness.refused g.N.Named.book)) (place (g.I.Inbox.shown c.args.inbox.now) (g.R.Roots.crawler c.args.views.roots) c.args.views.seat (g.D.Desk.shelf c.args.desk.now) [])
           (g.W.Write.contents c.args.writer.now) (g.W.Write.contents c.loop.writer) (g.W.Write.contents c.write_out.new.writer) inv.1 inv.2
-          (place (g.I.Inbox.left c.loop.inbox) (g.R.Roots.crawler c.loop.views.roots) c.loop.views.seat (g.D.Desk.shelf c.loop.desk) (follows_of c.loop.session)) event c.take_event-after.result.1
-          (place (g.I.Inbox.left c.take_event-after.new.inbox) (g.R.Roots.crawler c.take_event-after.result.0.roots) c.take_event-after.result.0.seat
+          (place (g.I.Inbox.shown c.loop.inbox) (g.R.Roots.crawler c.loop.views.roots) c.loop.views.seat (g.D.Desk.shelf c.loop.desk) (follows_of c.loop.session)) event c.take_event-after.result.1
+          (place (g.I.Inbox.shown c.take_event-after.new.inbox) (g.R.Roots.crawler c.take_event-after.result.0.roots) c.take_event-after.result.0.seat
           (g.D.Desk.shelf c.take_event-after.new.desk) (follows_of c.take_event-after.new.session)) c.shuts-shut.result (search rules) inv.4
-          (subst (λ r. Serves (basis_of r (g.N.Witness.published g.N.Named.book) (g.N.Witness.refused g.N.Named.book)) (place (g.I.Inbox.left c.loop.inbox) (g.R.Roots.crawler c.loop.views.roots) c.loop.views.seat (g.D.Desk.shelf c.loop.desk) (follows_of c.loop.session)) event
-          c.take_event-after.result.1 (place (g.I.Inbox.left c.take_event-after.new.inbox) (g.R.Roots.crawler c.take_event-after.result.0.roots)
+          (subst (λ r. Serves (basis_of r (g.N.Witness.published g.N.Named.book) (g.N.Witness.refused g.N.Named.book)) (place (g.I.Inbox.shown c.loop.inbox) (g.R.Roots.crawler c.loop.views.roots) c.loop.views.seat (g.D.Desk.shelf c.loop.desk) (follows_of c.loop.session)) event
+          c.take_event-after.result.1 (place (g.I.Inbox.shown c.take_event-after.new.inbox) (g.R.Roots.crawler c.take_event-after.result.0.roots)
           c.take_event-after.result.0.seat (g.D.Desk.shelf c.take_event-after.new.desk) (follows_of c.take_event-after.new.session))) inv.0 c.take_event-after.ensures.serves.1)
           (search rules) (search rules) inv.5 (search rules),
     )
@@ -48,8 +48,8 @@ loop-preserved g c =
       inv.2 ++ written_for c.take_event-after.result.1,
       length-append inv.1 (event ∷ []) ∙ ap (λ n. n + 1) inv.3,
       goes_on_by (basis_of c.args.views.run (g.N.Witness.published g.N.Named.book) (g.N.Witness.refused g.N.Named.book)) _ inv.1 inv.2 _ event c.take_event-after.result.1 _ inv.4
-          (subst (λ r. Serves (basis_of r (g.N.Witness.published g.N.Named.book) (g.N.Witness.refused g.N.Named.book)) (place (g.I.Inbox.left c.loop.inbox) (g.R.Roots.crawler c.loop.views.roots) c.loop.views.seat (g.D.Desk.shelf c.loop.desk) (follows_of c.loop.session)) event
-          c.take_event-after.result.1 (place (g.I.Inbox.left c.take_event-after.new.inbox) (g.R.Roots.crawler c.take_event-after.result.0.roots)
+          (subst (λ r. Serves (basis_of r (g.N.Witness.published g.N.Named.book) (g.N.Witness.refused g.N.Named.book)) (place (g.I.Inbox.shown c.loop.inbox) (g.R.Roots.crawler c.loop.views.roots) c.loop.views.seat (g.D.Desk.shelf c.loop.desk) (follows_of c.loop.session)) event
+          c.take_event-after.result.1 (place (g.I.Inbox.shown c.take_event-after.new.inbox) (g.R.Roots.crawler c.take_event-after.result.0.roots)
           c.take_event-after.result.0.seat (g.D.Desk.shelf c.take_event-after.new.desk) (follows_of c.take_event-after.new.session))) inv.0 c.take_event-after.ensures.serves.1) (search rules),
       appends_then _ _ _ inv.2 (written_for c.take_event-after.result.1) inv.5 (search rules),
     )

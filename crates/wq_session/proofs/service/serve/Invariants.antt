@@ -9,6 +9,6 @@ use Rattle.wq_session.proofs.service.serve.Given as goal
 
 abbrev pub invariant-loop : goal.invariant-loop
 invariant-loop g l = (l.views.run ≡ l.fn.views.run) × (events : List Event) × (lines : List ℕ) × (length events ≡ l.counter)
-    × GoesOn (basis_of l.fn.views.run (g.N.Witness.published g.N.Named.book) (g.N.Witness.refused g.N.Named.book)) (place (g.I.Inbox.left l.fn.inbox) (g.R.Roots.crawler l.fn.views.roots) l.fn.views.seat (g.D.Desk.shelf l.fn.desk) []) events lines
-    (place (g.I.Inbox.left l.inbox) (g.R.Roots.crawler l.views.roots) l.views.seat (g.D.Desk.shelf l.desk) (follows_of l.session))
+    × GoesOn (basis_of l.fn.views.run (g.N.Witness.published g.N.Named.book) (g.N.Witness.refused g.N.Named.book)) (place (g.I.Inbox.shown l.fn.inbox) (g.R.Roots.crawler l.fn.views.roots) l.fn.views.seat (g.D.Desk.shelf l.fn.desk) []) events lines
+    (place (g.I.Inbox.shown l.inbox) (g.R.Roots.crawler l.views.roots) l.views.seat (g.D.Desk.shelf l.desk) (follows_of l.session))
     × Appends (g.W.Write.contents l.fn.writer) (g.W.Write.contents l.writer) lines

@@ -10,7 +10,7 @@ use Rattle.wq_session.proofs.service.take_event.Goals as goal
 
 pub returns-in_default : goal.returns-in_default
 returns-in_default g c =
-    let hands : Hands (g.I.Inbox.left c.args.inbox.now) c.next.result (g.I.Inbox.left c.next.new.self) = search rules in
+    let hands : Hands (g.I.Inbox.shown c.args.inbox.now) c.next.result (g.I.Inbox.shown c.next.new.self) = search rules in
     let it = c.answer.ensures in
     record {
       serves = (

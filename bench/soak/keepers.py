@@ -15,23 +15,11 @@ TESTS = Path(__file__).resolve().parent.parent.parent / "tests"
 sys.path[:0] = [str(TESTS), str(TESTS / "server")]
 
 from client import Client, Server
+from pictures import Picture
 
 FIELDS = ["name", "exists"]
 # A client that subscribes has read all that there is to read if nothing comes for so many seconds.
 QUIET = 1.0
-
-
-class Picture:
-    """The names of the files that exist, as batches of changes leave them."""
-
-    def __init__(self) -> None:
-        self.files: Set[str] = set()
-
-    def take(self, files: List[dict], is_fresh: bool) -> None:
-        if is_fresh:
-            self.files = set()
-        for file in files:
-            (self.files.add if file["exists"] else self.files.discard)(file["name"])
 
 
 class Keeper(threading.Thread):
@@ -156,4 +144,4 @@ class TriggerLog:
         lines = self.batches()
         for since, files in zip(lines[0::2], lines[1::2]):
             picture.take(json.loads(files), since == "fresh")
-        return picture.files
+        return picture.names()
