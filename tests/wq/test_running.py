@@ -153,7 +153,7 @@ class Running(Timed, Beside):
                 self.check("a second run", going.says("wq: sh ended with status 0\n", 2))
                 self.same("SIGTERM", going.ends(signal.SIGTERM), 143)
                 self.check("what is left", all(map(is_gone, map(int, left.read_text().split()))))
-                ends = following(going).splitlines()
+                ends = [line for line in going.errors.splitlines() if b"ended" in line]
                 self.same("each end is told once", ends, [b"wq: sh ended with status 0"] * log.runs())
             left.unlink()
             log.clear()
