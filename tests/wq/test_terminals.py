@@ -275,8 +275,10 @@ class Terminals(Timed, Beside):
             )
             self.check("how long it took, at a terminal", f"\x1b[Kwq: {looks}: that took " in shown, [shown])
             self.check_narrow(scene)
-            kept = scene.wq("watch").errors.decode().splitlines()[:1]
-            self.same("watch is no hint at itself", kept, [f"wq: {looks.partition(';')[0]}"])
+            kept = scene.wq("watch").errors.decode()
+            self.check(
+                "watch is no hint at itself", re.search(r" again, which took [0-9.]+ s before$", kept, re.M), [kept]
+            )
             slow[:] = [PATIENCE]
             with scene.begin("find") as going:
                 self.check("a crawl that goes on", going.says(looks.partition(",")[0]))
