@@ -250,6 +250,12 @@ class ServingTold(Timed, Beside):
             self.same("roots", scene.names("roots"), [str(scene.tree)])
             self.same("roots -0", scene.wq("roots", "-0").output, f"{scene.tree}\0".encode())
             self.same("roots --json", json.loads(scene.wq("roots", "--json").output)["roots"], [str(scene.tree)])
+            (self.room / "empty").mkdir()
+            scene.wq("watch", self.room / "empty")
+            lines = scene.wq("status").output.decode().splitlines()
+            ends = [line.rpartition(", ")[2].partition(" within ")[0] for line in lines if "tick" in line]
+            self.same("the changes of roots", ends, ["last change", "no change yet"])
+            scene.wq("unwatch", self.room / "empty")
             wrong(self, scene, ["watch", "not-there"], "not-there: No such file or directory")
             wrong(self, scene, ["watch", "Makefile"], "Makefile: Not a directory")
             wrong(
