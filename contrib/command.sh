@@ -3,14 +3,16 @@
 
 usage() {
     cat << 'END'
-usage: wqd serve [--sockname PATH] [--interval MS] [--share P] [--workers N]
-                 [--start N] [--pid N]
+usage: wqd serve [--sockname PATH] [--interval MS] [--share P]
+                 [--quiet-after S] [--workers N] [--start N] [--pid N]
+       wqd sockname [the options of serve]
        wqd replay < SCRIPT
        wqd check FILE
        wqd --help | --version
 
   serve    watches directories, and answers clients on a Unix socket until one
            of them ends it
+  sockname prints the path of the socket that serve takes with these options
   replay   reads a script, and writes what each client in it is sent
   check    says whether a program file may run, and what it can cost
 
@@ -23,6 +25,9 @@ usage: wqd serve [--sockname PATH] [--interval MS] [--share P] [--workers N]
   --share P         how much of one processor rounds may take at most, in
                     percent, 1 to 100; no limit if left out. A query that
                     synchronises never waits for the pause that this makes
+  --quiet-after S   with --share: after how many seconds without a change or a
+                    request a root is scanned more seldom, 0 to 86400; 600 if
+                    left out, and never with 0
   --workers N       how many threads a query may use, 1 to 16, or auto: one for
                     each processor, at most 4; 1 if left out
   --start N         the second of the start, and
@@ -41,7 +46,7 @@ say() {
 # Answers the words that ask for help or the version, and ends then.
 answer_help() {
     case "$#:${1-}:${2-}" in
-        1:--help: | 1:-h: | 2:serve:--help | 2:replay:--help | 2:check:--help) usage; exit ;;
+        1:--help: | 1:-h: | 2:serve:--help | 2:sockname:--help | 2:replay:--help | 2:check:--help) usage; exit ;;
         1:--version:) say "wqd $version"; exit ;;
     esac
 }
@@ -52,7 +57,7 @@ word_fault() {
         '') say "there is no command; wqd --help says which there are" ;;
         replay) [ "$#" -eq 1 ] || say "replay takes no further words, and reads its script from standard input" ;;
         check) [ "$#" -eq 2 ] || say "check takes one file" ;;
-        serve) shift; serve_fault "$@" ;;
+        serve | sockname) shift; serve_fault "$@" ;;
         *) say "there is no command $1; wqd --help says which there are" ;;
     esac
 }
@@ -61,8 +66,8 @@ serve_fault() {
     seen=
     while [ "$#" -gt 0 ]; do
         case "$1" in
-            --sockname=* | --start=* | --pid=* | --interval=* | --share=* | --workers=*) name=${1%%=*} value=${1#*=} ;;
-            --sockname | --start | --pid | --interval | --share | --workers)
+            --sockname=* | --start=* | --pid=* | --interval=* | --share=* | --quiet-after=* | --workers=*) name=${1%%=*} value=${1#*=} ;;
+            --sockname | --start | --pid | --interval | --share | --quiet-after | --workers)
                 if [ "$#" -eq 1 ]; then say "$1 needs a value"; return; fi
                 name=$1 value=$2
                 shift ;;
@@ -82,6 +87,7 @@ value_fault() {
         --start | --pid) is_number 0 4611686018427387904 || { say "$name takes a number from 0 to 2^62"; return 1; } ;;
         --interval) is_number 10 3600000 || { say "$name takes a number from 10 to 3600000"; return 1; } ;;
         --share) is_number 1 100 || { say "$name takes a number from 1 to 100"; return 1; } ;;
+        --quiet-after) is_number 0 86400 || { say "$name takes a number from 0 to 86400"; return 1; } ;;
         --workers) [ "$value" = auto ] || is_number 1 16 || { say "$name takes a number from 1 to 16, or auto"; return 1; } ;;
     esac
 }
@@ -199,8 +205,13 @@ raise_handles() {
     fi
 }
 
-# Runs the program in place of this shell, so that it keeps the number of the process. What `serve` needs and was not told is
-# filled in first. If the program will refuse its words or its
+# Whether a command takes the settings of the server.
+takes_settings() {
+    [ "${1-}" = serve ] || [ "${1-}" = sockname ]
+}
+
+# Runs the program in place of this shell, so that it keeps the number of the process. What `serve` and `sockname` need and
+# were not told is filled in first. If the program will refuse its words or its
 # socket, it runs below the shell, which then says the reason.
 # Memory that the program frees goes back to the system or is used again, whichever thread freed it, unless the
 # environment says otherwise.
@@ -213,8 +224,7 @@ run() {
     export GLIBC_TUNABLES="${GLIBC_TUNABLES:-glibc.malloc.tcache_count=0}"
     refused=2
     fault=$(word_fault "$@")
-    if [ -z "$fault" ] && [ "$1" = serve ]; then
-        refused=1
+    if [ -z "$fault" ] && takes_settings "$@"; then
         if ! has_option --sockname "$@"; then
             sockname=$(default_sockname) || exit 1
             set -- "$@" --sockname "$sockname"
@@ -231,6 +241,9 @@ run() {
         done
         has_option --start "$@" || set -- "$@" --start "$(date +%s)"
         has_option --pid "$@" || set -- "$@" --pid $$
+    fi
+    if [ -z "$fault" ] && [ "$1" = serve ]; then
+        refused=1
         raise_handles
         fault=$(socket_fault "$(sockname_of "$@")")
     fi

@@ -34,6 +34,7 @@ VALUES = {
     "--delay": "500 1000",
     "--share": "5 10 25 50 100",
     "--interval": "100 1000 60000 600000",
+    "--quiet-after": "0 600",
     "--workers": "auto 1 2 4",
 }
 

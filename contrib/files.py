@@ -39,8 +39,11 @@ run "$@"
 """
 # The modules of the archives that Python runs.
 WQASM_MAIN = "import sys\n\nfrom wqprogram.command import main\n\nsys.exit(main(sys.argv[1:]))\n"
-WQ_MAIN = """import os
-import sys
+WQ_MAIN = """import sys
+
+sys.excepthook = lambda kind, *rest: None if kind is KeyboardInterrupt else sys.__excepthook__(kind, *rest)
+
+import os
 
 try:
     from wqclient.archive import keep_bytecode
@@ -53,7 +56,7 @@ except KeyboardInterrupt:
     sys.exit(130)
 """
 # The places in an archive count from its own start, so a package may put another first line before it.
-FIRST_LINE = b"#!/usr/bin/env -S python3 -I\n"
+FIRST_LINE = b"#!/usr/bin/env -S python3 -IS\n"
 # The modules that the command watchman and its bridge are made of.
 BRIDGE_PACKAGES = ["bridge", "wqclient"]
 # The manual pages of section 7: their pages in docs/, and what they are.

@@ -10,6 +10,7 @@ gives one for it, such as a directory. A row without `=>` expects nothing.
 
 import json
 import re
+import shlex
 from pathlib import Path
 from typing import Any, Dict, List, NamedTuple
 from urllib.parse import unquote_to_bytes
@@ -28,6 +29,10 @@ class Row(NamedTuple):
 
     def text(self) -> str:
         return self.data().decode()
+
+    def words(self) -> List[str]:
+        """The words of a command line that is given."""
+        return shlex.split(self.given)
 
     def value(self) -> Any:
         """What is given, which is JSON."""

@@ -56,6 +56,7 @@ def main(words: List[str], directory: str) -> int:
         say(f"{error.filename or 'output'}: {error.strerror or error}", "red")
         return FAILED
     finally:
+        drop_errors()
         # From here on Python ends, and to an interrupt it would print where it was.
         if signal.getsignal(signal.SIGINT) is signal.default_int_handler:
             signal.signal(signal.SIGINT, signal.SIG_DFL)
@@ -64,6 +65,15 @@ def main(words: List[str], directory: str) -> int:
 def write_no_more() -> None:
     """The output cannot be written, as when its reader has gone. Nothing is to be written at the end either."""
     os.dup2(os.open(os.devnull, os.O_WRONLY), sys.stdout.fileno())
+
+
+def drop_errors() -> None:
+    """What standard error does not take is dropped: else Python would try again at its end, and end with a status of
+    its own."""
+    try:
+        sys.stderr.flush()
+    except (AttributeError, OSError):
+        os.dup2(os.open(os.devnull, os.O_WRONLY), STANDARD_ERROR)
 
 
 def keep_standard_error() -> None:

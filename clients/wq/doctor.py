@@ -13,7 +13,7 @@ from .file_systems import AT_ONCE, NEVER, Hearing, hearing_of, mount_of
 from .home import Home
 from .pace import seconds_between_scans, seconds_shown
 from .processes import words_of
-from .roots import place_of
+from .roots import place_of, real_path
 from .server import Server, reached, sockname
 from .status import of_size, row
 from .terminal import show
@@ -29,7 +29,7 @@ def doctor(options: argparse.Namespace, home: Home) -> int:
     path = sockname()
     show([row("socket", f"{path}, on which {'a' if is_listened_on(path) else 'no'} server listens")])
     show([row("unit", "systemd has started it" if is_started(path) else "systemd has not started it")])
-    with reached(home) as server:
+    with reached(home, first=lambda: real_path(options.directory)) as server:
         watched = server.roots()
         root = place_of(options.directory, watched).root
         show([row("root", root)])
@@ -48,7 +48,7 @@ def of_file_system(root: str) -> Iterator[str]:
             "choose", "wqd for `wq since`, for many tools that ask one server, and for trees over the inotify limit"
         )
         return
-    yield row("kernel", f"it does not tell of what {deaf.silent_about} change here: only scans see it, as those of wqd")
+    yield row("kernel", f"it does not tell of changes by {deaf.silent_about}: only scans see these, as those of wqd")
     yield row("mount", mount_shown(deaf))
 
 

@@ -2,6 +2,7 @@
 
 import os
 import re
+import shlex
 from typing import Any, Callable, Dict, Iterator, List
 
 from wqprogram.compiler import LONGEST_CODE
@@ -103,7 +104,10 @@ def unreadable(command: Any, look: Look) -> Iterator[str]:
     except OSError as error:
         yield f"{root}: {error.strerror}"
     else:
-        yield f"{root} can be read now; perhaps it went during the walk, or no file handle was left (ulimit -n)"
+        went = "it went during the walk, or no file handle was left (ulimit -n)"
+        if not os.path.ismount(root):
+            went = f"what was mounted there is not any more (then `wq unwatch {shlex.quote(root)}` forgets it), {went}"
+        yield f"{root} can be read now; perhaps {went}"
 
 
 def many_files(command: Any, look: Look) -> Iterator[str]:

@@ -39,14 +39,14 @@ DEAF: Dict[str, Hearing] = {
     "fuse.rclone": Hearing(SERVER, "", "--dir-cache-time 1s --attr-timeout 1s", "1 s"),
     "fuse.bindfs": Hearing(BEHIND, "1 s", "-o attr_timeout=0,entry_timeout=0", AT_ONCE),
     "fuse.mergerfs": Hearing(BEHIND, "1 s", "-o cache.attr=0,cache.entry=0", AT_ONCE),
-    "fuse.fuse-overlayfs": Hearing("changes of its layers", NEVER),
+    "fuse.fuse-overlayfs": Hearing("what changes its layers", NEVER),
     "9p": Hearing(HOST, "", "-o cache=none", AT_ONCE),
     "hostfs": Hearing(HOST, AT_ONCE),
     "virtiofs": Hearing(HOST, "1 s", "virtiofsd --cache never", AT_ONCE),
     "vboxsf": Hearing(HOST),
     "drvfs": Hearing("Windows"),
     "fuse": Hearing(BEHIND, "", "-o attr_timeout=0,entry_timeout=0"),
-    "overlay": Hearing("changes of its lower layers"),
+    "overlay": Hearing("what changes its lower layers"),
 }
 # How the kernel writes spaces and backslashes of a path.
 ESCAPE = re.compile(r"\\([0-7]{3})")

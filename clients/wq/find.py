@@ -7,7 +7,7 @@ from typing import Any, Dict, Iterator, List, Optional
 from wqclient.root_notes import KEPT, MOMENT
 
 from .home import Home
-from .places import Places, directories_and_globs
+from .places import Places, directories_and_globs, require_words
 from .roots import is_pattern
 from .server import Value, reached
 from .server_log import tell_left_out
@@ -22,7 +22,7 @@ ROW_FIELDS = ["name", "type", "size", "mtime_ms"]
 def find(options: argparse.Namespace, home: Home) -> int:
     if options.program is not None:
         require_no_other(options, directories_and_globs(options.words)[1])
-    with reached(home) as server:
+    with reached(home, first=lambda: require_words(options)) as server:
         with Places(server, options.words, options, KEPT if options.keep else MOMENT) as places:
             asked = enumerate(queries(places, options))
             lists = [places.told(number, places.ask(places.places[number], query)) for number, query in asked]

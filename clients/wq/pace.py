@@ -5,7 +5,7 @@ from typing import Dict, List
 INTERVAL, SHARE = "--interval", "--share"
 # The values without these options: milliseconds, and percent of a processor.
 USUAL = {INTERVAL: 1000, SHARE: 100}
-OPTIONS = (INTERVAL, SHARE, "--workers")
+OPTIONS = (INTERVAL, SHARE, "--quiet-after", "--workers")
 
 
 def kept_words(words: List[str]) -> List[str]:

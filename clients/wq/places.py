@@ -212,6 +212,15 @@ class Places:
         return False
 
 
+def require_words(options: argparse.Namespace) -> None:
+    """Refuses directories, globs and options that are wrong whatever a server watches."""
+    directories, words = directories_and_globs(options.words)
+    places = [place_of(directory, []) for directory in directories]
+    require_below(words, places)
+    for place in places:
+        expression_of(place, words, options)
+
+
 def is_hurried(error: Optional[BaseException]) -> bool:
     """Whether a person ends the command, and not an error."""
     return error is not None and not isinstance(error, Exception)

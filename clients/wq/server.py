@@ -4,7 +4,7 @@ name."""
 import contextlib
 import json
 import time
-from typing import Any, Dict, Iterator, List, Optional
+from typing import Any, Callable, Dict, Iterator, List, Optional
 
 from wqclient.client import Client, json_of
 from wqclient.files import is_gone
@@ -49,12 +49,16 @@ def sockname() -> str:
 class Server:
     """A server that listens, and one connection to it."""
 
-    def __init__(self, home: Home, starts: bool = True, tells: bool = True) -> None:
+    def __init__(
+        self, home: Home, starts: bool = True, tells: bool = True, first: Callable[[], object] = lambda: None
+    ) -> None:
         self.sockname = sockname()
         client = self.connected()
         # Whether this call started it.
         self.is_own = False
         if client is None and starts:
+            # It may raise an error: to make a server ready takes up to minutes in a clone.
+            first()
             self.is_own = home.start(self.sockname, tells=tells)
             client = self.connected()
         if client is None:
@@ -224,8 +228,9 @@ class Server:
 
 
 @contextlib.contextmanager
-def reached(home: Home, starts: bool = True) -> Iterator[Server]:
-    server = Server(home, starts)
+def reached(home: Home, starts: bool = True, first: Callable[[], object] = lambda: None) -> Iterator[Server]:
+    """A server that listens. Before one is started, `first` looks at the words of the command."""
+    server = Server(home, starts, first=first)
     try:
         yield server
     finally:

@@ -19,8 +19,10 @@ from .trouble import FOUND, Trouble
 
 def start(options: argparse.Namespace, home: Home) -> int:
     where = sockname()
-    if not home.start(where, serve_words(where, given(options))):
-        say(f"a server listens on {where} already")
+    words = given(options)
+    if not home.start(where, serve_words(where, words)):
+        hint = f"; `wq restart {' '.join(words)}` starts it anew with that" if words else ""
+        say(f"a server listens on {where} already{hint}")
     return FOUND
 
 

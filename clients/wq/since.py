@@ -9,6 +9,7 @@ import json
 import shlex
 import time
 import zlib
+from functools import partial
 from typing import Any, Dict, Iterator, List, NamedTuple, Optional, Set
 
 from wqclient.kept import CLOCKS, keep, kept, path_of, room
@@ -22,7 +23,7 @@ from .globs import note, restrictions
 from .home import Home
 from .ignore_rules import Said
 from .names_handed import variables
-from .places import Places, UnknownWord, directories_and_globs
+from .places import Places, UnknownWord, directories_and_globs, require_words
 from .roots import Place, real_path, require_utf8
 from .server import Value, reached
 from .server_log import tell_left_out
@@ -44,8 +45,9 @@ class Asked(NamedTuple):
 
 
 def since(options: argparse.Namespace, home: Home) -> int:
-    require_name(options.name)
-    with reached(home) as server, one_after_other(server.sockname, options):
+    options.name = name_of(options.name)
+    first = partial(require_words, options)
+    with reached(home, first=first) as server, one_after_other(server.sockname, options):
         try:
             places = Places(server, options.words, options, SINCE)
         except UnknownWord as error:
@@ -61,10 +63,15 @@ def since(options: argparse.Namespace, home: Home) -> int:
     return fault or (FOUND if any(one.found["files"] for one in asked) else NOTHING)
 
 
-def require_name(name: str) -> None:
+def name_of(given: Optional[str]) -> str:
+    """The name of a question; "" if it has none."""
+    if given == "":
+        raise WrongWords("-n takes a name, and not an empty one, as of a variable that is not set")
+    name = given or ""
     require_utf8(name, "the name")
     if len(name.encode()) > LONGEST_NAME:
         raise WrongWords(f"the name has {len(name.encode()):,} bytes, and 1 to {LONGEST_NAME} may be")
+    return name
 
 
 @contextlib.contextmanager

@@ -20,6 +20,8 @@ OF_MARKS = {"+": "green", "-": "red", "~": "yellow"}
 # So long, in seconds, a reader has to read what was written to a pipe.
 MOST_TO_READ = 1.0
 AUTO, ALWAYS, NEVER = WHENS = ("auto", "always", "never")
+# Stands for what is cut.
+CUT = "..."
 # When there are colours, as the user said it for this call.
 _when = AUTO
 
@@ -29,8 +31,13 @@ def say(text: str, colour: Optional[str] = None) -> None:
     if sys.stderr is None:
         return
     line = f"wq: {harmless(text)}"
-    sys.stderr.buffer.write(painted(line, colour, sys.stderr).encode("utf-8", "backslashreplace") + b"\n")
-    sys.stderr.buffer.flush()
+    try:
+        sys.stderr.buffer.write(painted(line, colour, sys.stderr).encode("utf-8", "backslashreplace") + b"\n")
+        sys.stderr.buffer.flush()
+    except BrokenPipeError:
+        raise
+    except OSError:
+        pass  # such as a log on a full file system, which is no reason to end
 
 
 def is_terminal(stream: Optional[IO[str]]) -> bool:
@@ -96,6 +103,35 @@ def name_shown(name: str, colour: Optional[str], ending: str = "\n") -> str:
     return painted(text, colour if ending == "\n" else None, sys.stdout)
 
 
+def columns_of(stream: IO[str]) -> int:
+    """How wide a terminal is; 0 if it does not say so."""
+    try:
+        return os.get_terminal_size(stream.fileno()).columns
+    except OSError:
+        return 0
+
+
+def fitted(text: str, end: str, columns: int) -> str:
+    """A line that ends so, and is cut before that to fit: a terminal takes back one row alone."""
+    room = columns - len(end) - 1
+    return text + end if not columns or width_of(text) <= room else cut(text, max(0, room - len(CUT))) + CUT + end
+
+
+def cut(text: str, columns: int) -> str:
+    while width_of(text) > columns:
+        text = text[:-1]
+    return text
+
+
+def width_of(text: str) -> int:
+    """How many columns a text takes: two for each wide letter."""
+    if text.isascii():
+        return len(text)
+    from unicodedata import east_asian_width  # few names need it
+
+    return sum(2 if east_asian_width(letter) in "WF" else 1 for letter in text)
+
+
 class Progress:
     """Tells on standard error how long a first crawl goes on, once it takes over a second."""
 
@@ -107,7 +143,8 @@ class Progress:
     def tell(self) -> None:
         seconds = time.monotonic() - self.began
         if is_terminal(sys.stderr):
-            print(f"\rwq: {harmless(self.subject)}, {seconds:.0f} s so far ", end="", file=sys.stderr, flush=True)
+            text = fitted(f"wq: {harmless(self.subject)}", f", {seconds:.0f} s so far ", columns_of(sys.stderr))
+            print(f"\r{text}", end="", file=sys.stderr, flush=True)
         elif not self.has_told:
             say(self.subject)
         self.has_told = True
@@ -124,5 +161,6 @@ class Progress:
         self.clear()
         self.has_told = False
         seconds = time.monotonic() - self.began
-        say(f"that took {seconds:.1f} s")
+        # At a terminal the line that said what takes so long has gone.
+        say(f"{self.subject}: that took {seconds:.1f} s" if is_terminal(sys.stderr) else f"that took {seconds:.1f} s")
         return seconds

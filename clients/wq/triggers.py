@@ -34,7 +34,7 @@ def trigger(options: argparse.Namespace, home: Home) -> int:
         raise WrongWords("trigger takes `--` and a command after it, such as: wq trigger build '*.c' -- make")
     name, words = named(options.words, "trigger build '*.c' -- make")
     command = command_asked(options)
-    with reached(home) as server:
+    with reached(home, first=lambda: asked_files(words, options, [])) as server:
         watched = server.roots()
         root, expression = asked_files(words, options, watched)
         server.watch(root, watched)

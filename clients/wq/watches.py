@@ -19,7 +19,7 @@ def watch(options: argparse.Namespace, home: Home) -> int:
     for word in options.words:
         require_utf8(word, "a word of the command line")
         require_no_command(word)
-    with reached(home) as server:
+    with reached(home, first=lambda: [*map(real_path, options.words)]) as server:
         for word in options.words or ["."]:
             watched = server.roots()
             if options.root:

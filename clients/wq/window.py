@@ -2,6 +2,7 @@
 watched for them."""
 
 import argparse
+import os
 import select
 import sys
 import time
@@ -18,7 +19,7 @@ from .changes import FIELDS, File
 from .home import Home
 from .ignored import is_wanted
 from .pace import seconds_between_scans, seconds_shown
-from .places import Places, is_hurried
+from .places import Places, is_hurried, require_words
 from .processes import is_of_unit, own_processor_seconds, words_of
 from .server import Server, Value, Went
 from .shadow import GITIGNORE, IGNORE
@@ -53,7 +54,7 @@ class Window:
         self.fields = list(fields)
         # The clock of each directory up to which its changes were taken.
         self.clocks: List[str] = []
-        self.server: Optional[Server] = Server(home)
+        self.server: Optional[Server] = Server(home, first=lambda: require_words(options))
         self.sockname = self.server.sockname
         used = own_processor_seconds(self.server.peer.process)
         self.places = Places(self.server, options.words, options, WINDOW)
@@ -61,6 +62,8 @@ class Window:
         self.ends_soon = 0
         self.has_told = False
         self.gone: Set[str] = set()
+        # The roots that were mounts when a server looked at them. It waits for these, as for roots that are gone.
+        self.mounts: Set[str] = set()
         # Whether it does not go on yet by a server, so that nobody else can need a root which it had watched there.
         self.is_new = True
         # The files that match, when another server was reached.
@@ -78,6 +81,7 @@ class Window:
         # These are needed when the server ends: its process may have gone then.
         self.run, self.is_of_unit = run_of(process), is_of_unit(process)
         self.count, self.clocks = 0, []
+        self.mounts = set(filter(os.path.ismount, self.places.roots()))
         files: List[File] = []
         for number, place in enumerate(self.places.places):
             has_names = self.takes_names or bool(self.places.links) or self.places.ignored[number].rules is not None
@@ -213,17 +217,21 @@ class Window:
     def look(self, server: Server) -> None:
         """Says once that the server is stopped, or that a root is gone: nothing comes then, and nobody asks."""
         for root in self.places.roots():
-            if not is_gone(root):
+            why = "is gone" if is_gone(root) else "is not mounted any more" if self.is_unmounted(root) else ""
+            if not why:
                 self.gone.discard(root)
             elif root not in self.gone:
                 self.gone.add(root)
-                say(f"{root} is gone; waiting for it", "yellow")
+                say(f"{root} {why}; waiting for it", "yellow")
         if not is_stopped(server.peer.process):
             self.has_told = False
         elif not self.has_told:
             self.has_told = True
             process = server.peer.process
             say(f"{server_words(self.sockname, process)} is stopped; {way_out(process)}", "yellow")
+
+    def is_unmounted(self, root: str) -> bool:
+        return root in self.mounts and not os.path.ismount(root)
 
     # The end of a server.
 

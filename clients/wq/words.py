@@ -2,8 +2,10 @@
 
 import argparse
 import re
-from typing import Any, Callable, Dict, List, NamedTuple, NoReturn, Optional, Tuple
+import sys
+from typing import Any, Dict, List, NamedTuple, NoReturn, Tuple
 
+from .numbers_typed import level, milliseconds, seconds, whole, within
 from .trouble import WrongWords
 
 NEEDS_DASHES = ("run", "trigger")
@@ -34,6 +36,11 @@ class Parser(argparse.ArgumentParser):
         message = NO_VALUE.sub(r"\1 takes a value, and has none", message)
         raise WrongWords(f"{message}; see `{self.prog} --help`")
 
+    def print_help(self, file: Any = None) -> None:
+        """Written at once, so that an output that is full is heard of."""
+        sys.stdout.write(self.format_help())
+        sys.stdout.flush()
+
     def format_help(self) -> str:
         from . import examples, statuses
 
@@ -55,60 +62,6 @@ def flag(*names: str, help: str, **settings: Any) -> Option:
 
 def value(*names: str, help: str, metavar: str, **settings: Any) -> Option:
     return Option(names, {"help": help, "metavar": metavar, **settings})
-
-
-def milliseconds(word: str) -> int:
-    """A number of milliseconds. `500ms` and `2s` are understood too."""
-    found = seconds_in(word)
-    if found is None and not (word.isascii() and word.isdigit()):
-        hint = f"; {word}s is seconds" if number_of(word) is not None else ""
-        raise argparse.ArgumentTypeError(f"{word} is no number of milliseconds from 0 on{hint}")
-    return int(word) if found is None else round(found * 1000)
-
-
-def seconds(word: str) -> float:
-    """A number of seconds. `500ms`, `2s` and `1min` are understood too."""
-    found = number_of(word) if seconds_in(word) is None else seconds_in(word)
-    if found is None:
-        raise argparse.ArgumentTypeError(f"{word} is no number of seconds from 0 on")
-    return found
-
-
-def seconds_in(word: str) -> Optional[float]:
-    """The seconds of a time with a unit; none if it is no such."""
-    for unit, factor in (("ms", 0.001), ("s", 1.0), ("min", 60.0), ("m", 60.0), ("h", 3600.0)):
-        if word.endswith(unit):
-            number = number_of(word[: -len(unit)])
-            return None if number is None else number * factor
-    return None
-
-
-def number_of(word: str) -> Optional[float]:
-    """A number from 0 on that is written in digits, perhaps with a dot."""
-    is_number = word.isascii() and word.replace(".", "", 1).isdigit()
-    return float(word) if is_number else None
-
-
-def whole(word: str, first: int = 0) -> int:
-    if not (word.isascii() and word.isdigit()):
-        raise argparse.ArgumentTypeError(f"{word} is no whole number from {first} on")
-    return int(word)
-
-
-def within(first: int, last: int, *others: str) -> Callable[[str], str]:
-    """A number of the server's, as it is typed: one that the server refuses would be met when the last one has gone."""
-
-    def number(word: str) -> str:
-        if word not in others and not (word.isascii() and word.isdigit() and first <= int(word) <= last):
-            more = "".join(f" or {other}" for other in others)
-            raise argparse.ArgumentTypeError(f"it takes a number from {first:,} to {last:,}{more}, and not {word}")
-        return word
-
-    return number
-
-
-def level(word: str) -> int:
-    return whole(word, 1)
 
 
 IGNORE_CASE = flag("--ignore-case", help="ignore the case of A to Z in globs")
@@ -169,6 +122,12 @@ NUMBERS = [
     value("--interval", metavar="MS", type=within(10, 3_600_000), help="pause MS ms between two scans [default: 100]"),
     value(
         "--share", metavar="P", type=within(1, 100), help="scans take at most P percent of one processor [default: 10]"
+    ),
+    value(
+        "--quiet-after",
+        metavar="S",
+        type=within(0, 86_400),
+        help="after S seconds without a change or a request, scan less; 0 is never [default: 600]",
     ),
     value("--workers", metavar="N", type=within(1, 16, "auto"), help="use N threads for a query [default: auto]"),
 ]
@@ -269,7 +228,7 @@ FORMS: Dict[str, Form] = {
         "[DIR|GLOB]...",
         "print what changed since this was last asked: + came, - went, ~ changed",
         [
-            value("-n", "--name", metavar="NAME", default="", help="ask under a name, which has its own place in time"),
+            value("-n", "--name", metavar="NAME", help="ask under a name, which has its own place in time"),
             *SEARCHING,
             *IGNORING,
             DIRS,
@@ -345,7 +304,7 @@ FORMS: Dict[str, Form] = {
     ),
     "trigger": Form(
         "NAME [DIR|GLOB]... -- COMMAND...",
-        "have the server run a command in the root after changes",
+        "have the server run a command in the root, now and after changes",
         [
             *NARROWING,
             flag("--stdin", help="write the names as lines to the standard input of COMMAND"),

@@ -4,6 +4,7 @@ compile each module at every start."""
 import marshal
 import os
 import sys
+from contextlib import suppress
 from types import CodeType
 from typing import TYPE_CHECKING, Optional, cast
 from zipimport import zipimporter
@@ -45,7 +46,8 @@ def keep(code: CodeType, path: str) -> None:
             stream.write(marshal.dumps(code))
         os.replace(aside, path)
     except OSError:
-        pass
+        with suppress(OSError):
+            os.unlink(aside)
 
 
 def keep_bytecode(archive: str) -> None:

@@ -4,6 +4,18 @@ import errno
 import os
 import stat
 import sys
+from contextlib import suppress
+from importlib.machinery import (
+    BYTECODE_SUFFIXES,
+    EXTENSION_SUFFIXES,
+    SOURCE_SUFFIXES,
+    ExtensionFileLoader,
+    FileFinder,
+    SourceFileLoader,
+    SourcelessFileLoader,
+)
+from types import CodeType
+from typing import Optional
 
 # So many directories above one are looked at, up to the home of a usual user.
 ABOVE = 3
@@ -39,11 +51,34 @@ def bytecode() -> str:
     return os.path.realpath(directory)
 
 
+class Whole(SourceFileLoader):
+    """Takes no bytecode of which a part is missing. Older versions of Python keep such a part if no space is left, and
+    end at it from then on."""
+
+    def get_code(self, fullname: str) -> Optional[CodeType]:
+        try:
+            return super().get_code(fullname)
+        except (EOFError, ValueError, TypeError):
+            spec = getattr(sys.modules.get(fullname), "__spec__", None)
+            if spec is None or spec.cached is None:
+                raise
+        with suppress(OSError):
+            os.unlink(spec.cached)
+        return super().get_code(fullname)
+
+
 def keep_bytecode() -> None:
     """From now on Python keeps there what it compiles, and nothing beside the sources, and so starts sooner the next
     time. Without such a place it keeps nothing."""
     try:
         sys.pycache_prefix = bytecode()
-        sys.dont_write_bytecode = False
     except (OSError, ValueError):
-        pass
+        return
+    sys.dont_write_bytecode = False
+    loaders = (
+        (ExtensionFileLoader, EXTENSION_SUFFIXES),
+        (Whole, SOURCE_SUFFIXES),
+        (SourcelessFileLoader, BYTECODE_SUFFIXES),
+    )
+    sys.path_hooks.insert(0, FileFinder.path_hook(*loaders))
+    sys.path_importer_cache.clear()

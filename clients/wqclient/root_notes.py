@@ -48,16 +48,17 @@ class Notes:
 
     def look(self, root: str) -> str:
         """What a person hears while the server looks at all files of a root that was not watched, and how long that
-        took last, if it was long. In the run of a server that is for the first time once; then the command is named
-        that keeps the root watched."""
+        took last, if it was long. When the same run of a server does so again, the command is named that keeps the root
+        watched, unless it is to stay so."""
         run, note = run_of(self.process), kept(LOOKS, self.sockname, root)
         took = note.get("took")
         before = f", which took {took:.1f} s before" if isinstance(took, (int, float)) else ""
         if note.get("run") == run:
-            return f"the server looks at all files below {root} again{before}; `wq watch` would keep it watched"
+            hint = "" if self.purpose(root) == STAYS else "; `wq watch` would keep it watched"
+            return f"the server looks at all files below {root} again{before}{hint}"
         with contextlib.suppress(OSError):
             keep({**note, "run": run}, LOOKS, self.sockname, root)
-        return f"the server looks at all files below {root} for the first time{before}"
+        return f"the server looks at all files below {root}{before or ' for the first time'}"
 
     def looked(self, root: str, seconds: float) -> None:
         """Notes how long a look at all files took, for the next one."""

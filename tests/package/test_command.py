@@ -16,13 +16,22 @@ from clones import bare, tools
 from installing import call, present
 from rows import tables
 
-GOOD = {"sockname": "/nothing/here", "start": "0", "pid": str(2**62), "interval": "10", "share": "1", "workers": "16"}
+GOOD = {
+    "sockname": "/nothing/here",
+    "start": "0",
+    "pid": str(2**62),
+    "interval": "10",
+    "share": "1",
+    "quiet-after": "86400",
+    "workers": "16",
+}
 ROWS = tables(Path(__file__).with_name("command.rows"))
 NUMBERS = {
     "start": "0 to 2^62",
     "pid": "0 to 2^62",
     "interval": "10 to 3600000",
     "share": "1 to 100",
+    "quiet-after": "0 to 86400",
     "workers": "1 to 16, or auto",
 }
 
@@ -35,9 +44,9 @@ class Command(Case):
     def test_help(self) -> None:
         text = call(self.room, "wqd", "--help")
         self.same("help", (text.status, text.errors), (0, b""))
-        for word in ("serve", "replay", "check", "--version", *(f"--{name}" for name in GOOD)):
+        for word in ("serve", "sockname", "replay", "check", "--version", *(f"--{name}" for name in GOOD)):
             self.same(f"{word} in the help", word.encode() in text.output, True)
-        for words in (["-h"], ["serve", "--help"], ["replay", "--help"], ["check", "--help"]):
+        for words in (["-h"], *([word, "--help"] for word in ("serve", "sockname", "replay", "check"))):
             self.same(f"help by {words}", call(self.room, "wqd", *words), text)
         changes = (built.TOP / "CHANGELOG.md").read_text()
         version = next(line.split()[1].rstrip(",") for line in changes.splitlines() if line.startswith("## "))
@@ -52,6 +61,9 @@ class Command(Case):
         for words, reason in cases:
             refused = f"wqd: wrong command line\nwqd: {reason}\n".encode()
             self.same(f"the words {words}", call(self.room, "wqd", *words), built.Ended(b"", refused, 2))
+            if words[:1] == ["serve"]:
+                asked = call(self.room, "wqd", "sockname", *words[1:])
+                self.same(f"sockname with {words}", asked, built.Ended(b"", refused, 2))
 
     def test_no_program(self) -> None:
         """The variable WQD names no program: that is what is wrong, whatever the words are."""

@@ -25,9 +25,12 @@ class Completed(Case):
             return
         (self.room / "a file").touch()
         for words, expected in (
-            ([""], ["serve", "replay", "check", "--help", "--version"]),
-            (["s"], ["serve"]),
-            (["serve", ""], ["--sockname", "--start", "--pid", "--interval", "--share", "--workers"]),
+            ([""], ["serve", "sockname", "replay", "check", "--help", "--version"]),
+            (["s"], ["serve", "sockname"]),
+            (
+                ["sockname", ""],
+                ["--sockname", "--start", "--pid", "--interval", "--share", "--quiet-after", "--workers"],
+            ),
             (["serve", "--s"], ["--sockname", "--start", "--share"]),
             (["serve", "--interval", "6"], ["60000", "600000"]),
             (["serve", "--sockname", str(self.room) + "/a"], [str(self.room / "a file")]),

@@ -68,11 +68,20 @@ def by_its_error(words: List[str], path: str) -> Decider:
     return decide
 
 
+def by_the_command(word: str, program: str, path: str) -> Decider:
+    """The command around a program, with this word. `echo` in place of the program shows what it would get."""
+    return lambda room, variables: by_its_error(
+        ["env", f"WQD={program or built.program_path()}", str(built.TOP / "wqd"), word], path
+    )(room, variables)
+
+
 HOOK = [str(built.TOP / "contrib" / "git-fsmonitor-hook"), "2", ""]
 EXAMPLE = [str(built.TOP / "examples" / "client.py"), "."]
 OF_SERVER: Dict[str, Decider] = {
     "wqclient/sockets.py": by("python3", "-IBc", PYTHON + OF_CLIENTS),
     "contrib/command.sh": by("sh", "-c", SHELL),
+    "wqd serve": by_the_command("serve", "/bin/echo", "--sockname ([^ ]*)"),
+    "wqd sockname": by_the_command("sockname", "", "^(.*)$"),
     "git-fsmonitor-hook": by_its_error(HOOK, "since (.*) does not answer"),
     "examples/client.py": by_its_error(EXAMPLE, "^(.*): No such file"),
     **({"node/lib/sockname.js": by("node", "-e", NODE)} if shutil.which("node") else {}),

@@ -211,9 +211,11 @@ class Server(Running):
         workers: Optional[int] = None,
         share: Optional[int] = None,
         numbers: Tuple[int, int] = (7, 9),
+        quiet_after: Optional[int] = None,
     ) -> None:
         self.sockname = str(room / "socket")
         given = {"start": numbers[0], "pid": numbers[1], "interval": interval, "workers": workers, "share": share}
+        given["quiet-after"] = quiet_after
         words = [word for name, value in given.items() if value is not None for word in (f"--{name}", str(value))]
         if is_plain:
             through = [sys.executable, str(PLAIN)]

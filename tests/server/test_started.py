@@ -11,6 +11,27 @@ import built
 from case import Case
 from client import ENDED, MALLOC, VERSION, Server
 
+# Values that the program refuses, and an option that it does not have.
+WRONG = [
+    ("start", "-1"),
+    ("start", "01"),
+    ("start", str(2**62 + 1)),
+    ("pid", "x"),
+    ("pid", ""),
+    ("interval", "9"),
+    ("interval", "3600001"),
+    ("workers", "0"),
+    ("workers", "17"),
+    ("workers", "1.5"),
+    ("frob", "1"),
+    ("share", "0"),
+    ("share", "101"),
+    ("share", "010"),
+    ("share", "x"),
+    ("quiet-after", "86401"),
+    ("quiet-after", "01"),
+]
+
 
 class Started(Case):
     def test_socket(self) -> None:
@@ -52,34 +73,21 @@ class Started(Case):
             "pid": str(2**62),
             "interval": "10",
             "share": "1",
+            "quiet-after": "86400",
             "workers": "16",
         }
         self.same("all words", status_of(good), (1, b"cannot listen\n"))
+        self.same("no quiet", status_of({**good, "quiet-after": "0"}), (1, b"cannot listen\n"))
+        self.same("where it would listen", said_of(good), built.Ended(sockname.encode() + b"\n", b"", 0))
         self.same("an hour", status_of({**good, "interval": "3600000", "workers": "1"}), (1, b"cannot listen\n"))
-        for name in ("interval", "share", "workers"):
+        for name in ("interval", "share", "quiet-after", "workers"):
             left = {key: value for key, value in good.items() if key != name}
             self.same(f"no {name}", status_of(left), (1, b"cannot listen\n"))
         wrong = [{key: value for key, value in good.items() if key != name} for name in ("sockname", "start", "pid")]
-        changes = [
-            ("start", "-1"),
-            ("start", "01"),
-            ("start", str(2**62 + 1)),
-            ("pid", "x"),
-            ("pid", ""),
-            ("interval", "9"),
-            ("interval", "3600001"),
-            ("workers", "0"),
-            ("workers", "17"),
-            ("workers", "1.5"),
-            ("frob", "1"),
-            ("share", "0"),
-            ("share", "101"),
-            ("share", "010"),
-            ("share", "x"),
-        ]
-        wrong += [{**good, name: value} for name, value in changes]
+        wrong += [{**good, name: value} for name, value in WRONG]
         for words in wrong:
             self.same(f"words {words}", status_of(words), (2, b"wqd: wrong command line\n"))
+            self.same(f"sockname {words}", said_of(words), built.Ended(b"", b"wqd: wrong command line\n", 2))
 
     def test_environment(self) -> None:
         """The script that starts the program sets the variables of the C library with which the others here start
@@ -99,8 +107,14 @@ def refused(sockname: str) -> tuple:
 
 
 def status_of(words: dict) -> tuple:
-    line = ["serve"]
-    for name, value in words.items():
-        line += [f"--{name}", value]
-    ended = built.run(line)
+    ended = built.run(["serve", *line_of(words)])
     return ended.status, ended.errors
+
+
+def said_of(words: dict) -> built.Ended:
+    """What the program says of the socket of a server with these words."""
+    return built.run(["sockname", *line_of(words)])
+
+
+def line_of(words: dict) -> List[str]:
+    return [word for name, value in words.items() for word in (f"--{name}", value)]

@@ -2,13 +2,17 @@
 own."""
 
 import contextlib
+import fcntl
 import json
 import os
 import pty
 import re
 import select
+import shlex
 import signal
+import struct
 import subprocess
+import termios
 import time
 from pathlib import Path
 from typing import Any, Callable, Dict, List, NamedTuple, Optional, Sequence, Tuple, Union
@@ -16,6 +20,7 @@ from typing import Any, Callable, Dict, List, NamedTuple, Optional, Sequence, Tu
 import built
 from case import Case
 from client import PATIENCE, Client
+from rows import Row, tables
 from waiting import wait_until
 
 COMMAND = str(built.TOP / "wq")
@@ -26,8 +31,10 @@ INTERVAL = "40"
 # So long, in seconds, a scene waits for its server to be gone.
 MOST_AT_END = 5.0
 SLOW_CRAWL = re.compile(rb"wq: the server looks at all files below .*\n(wq: that took [0-9.]+ s\n)?")
+# From five seconds on, as it is told.
 LATE_REPLY = re.compile(
-    rb"(?:\x1b\[33m)?wq: the server, process [0-9]+, has not answered for [0-9]+ s: it (is busy|waits)[, ].*\n"
+    rb"(?:\x1b\[33m)?wq: the server, process [0-9]+, has not answered for (?:[5-9]|[1-9][0-9]+) s: "
+    rb"it (?:is busy|waits)[, ].*\n"
 )
 FILES = ["Makefile", "src/a.c", "src/b b.c", "src/deep/c.h", ".git/HEAD", "node_modules/x/y.c", "target/z.c"]
 
@@ -118,6 +125,24 @@ class Scene:
         """The tick of a root: how often its files changed."""
         with self.client() as client:
             return int(client.ask("clock", str(root or self.tree), {"sync_timeout": 1})["clock"].rsplit(":", 1)[1])
+
+
+def check_names(case: Case, scene: Scene, table: str) -> None:
+    """Calls of calls.rows print these names, and say nothing else."""
+    for row in calls(scene, table):
+        expected = "".join(f"{name}\n" for name in shlex.split(row.expected))
+        ended = built.Ended(expected.encode(), b"", 0 if expected else 1)
+        case.same(f"wq {row.given}", scene.wq(*row.words()), ended)
+
+
+def check_wrong(case: Case, scene: Scene, table: str) -> None:
+    """Calls of calls.rows are refused with these words."""
+    for row in calls(scene, table):
+        wrong(case, scene, row.words(), row.expected)
+
+
+def calls(scene: Scene, table: str) -> List[Row]:
+    return tables(Path(__file__).with_name("calls.rows"), TREE=str(scene.tree))[table]
 
 
 def without_delays(errors: bytes) -> bytes:
@@ -238,9 +263,9 @@ class AtTerminal(NamedTuple):
     status: int
 
 
-def at_terminal(scene: Scene, *words: str, **environment: str) -> str:
-    text = called_at_terminal(scene, list(words), environment).text
-    return LATE_REPLY.sub(b"", text.encode()).decode()
+def at_terminal(scene: Scene, *words: str, columns: int = 0, **environment: str) -> str:
+    text = called_at_terminal(scene, list(words), environment, columns=columns).text
+    return text if scene.shows_delays else LATE_REPLY.sub(b"", text.encode()).decode()
 
 
 def called_at_terminal(
@@ -250,13 +275,15 @@ def called_at_terminal(
     keys: bytes = b"",
     after: str = "",
     more: Sequence[Tuple[str, bytes]] = (),
+    columns: int = 0,
 ) -> AtTerminal:
-    """A call at a terminal. Keys are pressed when it has written a text, and more of them when it has written others
-    after that."""
+    """A call at a terminal, which may say how wide it is. Keys are pressed when it has written a text, and more of them
+    when it has written others after that."""
     presses = [(after, keys), *more] if keys else []
     looked = 0
     number, terminal = pty.fork()
     if number == 0:
+        fcntl.ioctl(0, termios.TIOCSWINSZ, struct.pack("HHHH", 0, columns, 0, 0))
         os.chdir(scene.tree)
         os.execve(COMMAND, [COMMAND, *words], {**scene.environment, **(environment or {})})
     found = b""

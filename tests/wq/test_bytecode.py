@@ -8,7 +8,7 @@ import built
 import files
 from case import Beside
 from client import PATIENCE
-from scene import Scene
+from scene import COMMAND, Scene
 
 
 class Bytecode(Beside):
@@ -22,6 +22,34 @@ class Bytecode(Beside):
             self.same("it is taken", module_in(cache).stat().st_mtime_ns, time)
             self.same("its mode", (cache / "wqd" / "bytecode").stat().st_mode & 0o777, 0o700)
             self.same("nothing beside the sources", beside_sources(), before)
+
+    def test_cut(self) -> None:
+        """Of bytecode a part alone is there, as when no space was left: that is made anew, and wq answers."""
+        with Scene(self.room, starts=False) as scene:
+            cache = scene.room / "cache"
+            whole = {path: path.read_bytes() for path in kept_in(scene, cache)}
+            for part, size in (("a half", 2), ("the head", 16), ("nothing", 0)):
+                for path, data in whole.items():
+                    path.write_bytes(data[: len(data) // size if size == 2 else size])
+                ended = scene.wq("sockname", XDG_CACHE_HOME=str(cache))
+                self.same(f"{part} is there", (ended.status, ended.errors), (1, b""))
+                again = {path: path.read_bytes() for path in whole}
+                self.same(
+                    f"{part} is there: as before", [path.name for path in whole if again[path] != whole[path]], []
+                )
+
+    def test_no_space(self) -> None:
+        """No space is left for bytecode: Python keeps parts, and wq answers, then and later."""
+        with Scene(self.room, starts=False) as scene:
+            cache = scene.room / "cache"
+            for blocks in (1, 4, 16, 0):
+                for _ in range(2):
+                    words = ["sh", "-c", f'ulimit -f {blocks}; exec "$0" sockname', COMMAND]
+                    environment = {**scene.environment, "XDG_CACHE_HOME": str(cache)}
+                    ended = built.call(words, cwd=scene.tree, env=environment, timeout=PATIENCE)
+                    self.same(f"{blocks} blocks for a file", (ended.status, ended.errors), (1, b""))
+            ended = scene.wq("sockname", XDG_CACHE_HOME=str(cache))
+            self.same("there is space again", (ended.status, ended.errors), (1, b""))
 
     def test_not_kept(self) -> None:
         """In a directory that others could change nothing is kept, and nothing is taken from there."""
@@ -52,6 +80,23 @@ class Bytecode(Beside):
                 (cache / "wqd" / "bytecode").mkdir(parents=True, mode=0o700)
                 change(cache / "wqd" / "bytecode")
                 self.same(name, (self.called(scene, command, cache).status, list(cache.rglob("wq.command"))), (1, []))
+
+    def test_interrupted(self) -> None:
+        """Ctrl-C while Python loads modules ends wq by the signal, without a trace, and site is not loaded before."""
+        with Scene(self.room, starts=False) as scene:
+            for name, main in (("clone", (built.TOP / "wq").read_text()), ("archive", files.WQ_MAIN)):
+                ended = self.begun(scene, main, "import _signal; _signal.raise_signal(2)")
+                self.same(f"Ctrl-C at the start of the {name}", ended, built.Ended(b"", b"", -2))
+                ended = self.begun(scene, main, 'assert "site" in sys.modules, "no site"')
+                self.same(f"another error of the {name}", (ended.status, ended.errors[-8:]), (1, b"no site\n"))
+
+    def begun(self, scene: Scene, main: str, line: str) -> built.Ended:
+        """The end of a command with this main module, in which a line stands before the modules that it imports."""
+        text = main.replace("import os\n", f"{line}\nimport os\n", 1)
+        command = scene.room / "begun"
+        command.write_bytes(text.encode() if text.startswith("#!") else files.archive([], text))
+        command.chmod(0o755)
+        return built.call([str(command), "sockname"], env=scene.environment, timeout=PATIENCE)
 
     def called(self, scene: Scene, command: Path, cache: Path) -> built.Ended:
         environment = {**scene.environment, "XDG_CACHE_HOME": str(cache)}

@@ -5,12 +5,12 @@ import os
 import shutil
 import subprocess
 import time
-from typing import Callable, List, Tuple
+from typing import Callable, List
 
 import built
 from case import Beside
 from client import Client
-from scene import Scene, Word, said, wrong
+from scene import Scene, Word, check_names, check_wrong, said, wrong
 
 C_FILES = ["src/a.c", "src/b b.c"]
 
@@ -30,43 +30,7 @@ class Finding(Beside):
 
     def check_globs(self, scene: Scene) -> None:
         """Globs of the last part of names and of whole names, directories, and what is left out."""
-        everything = ["Makefile", "src", *C_FILES, "src/deep", "src/deep/c.h"]
-        rows: List[Tuple[List[Word], List[str]]] = [
-            ([], everything),
-            (["."], everything),
-            ([".", "*.c"], C_FILES),
-            (["*.c"], C_FILES),
-            (["*.c", "*.h"], [*C_FILES, "src/deep/c.h"]),
-            (["src"], [*C_FILES, "src/deep", "src/deep/c.h"]),
-            (["./src/", "*.h"], ["./src/deep/c.h"]),
-            (["src", "*.h"], ["src/deep/c.h"]),
-            (["*.h", "src"], ["src/deep/c.h"]),
-            (["target", "*.c", "src"], ["target/z.c", *C_FILES]),
-            (["src", "deep/*"], ["src/deep/c.h"]),
-            (["src/", "/*.c"], C_FILES),
-            (["src/", "./*.c"], C_FILES),
-            (["src/*.c"], C_FILES),
-            (["/Make*"], ["Makefile"]),
-            (["**/c.*"], ["src/deep/c.h"]),
-            (["src/**"], [*C_FILES, "src/deep", "src/deep/c.h"]),
-            (["Makefile"], ["Makefile"]),
-            (["src/a.c"], ["src/a.c"]),
-            (["c.h"], ["src/deep/c.h"]),
-            (["./src/a.c"], ["src/a.c"]),
-            ([scene.tree / "src" / "deep"], [f"{scene.tree}/src/deep/c.h"]),
-            ([f"{scene.tree}/src/*.c"], C_FILES),
-            (["node_modules"], ["node_modules/x", "node_modules/x/y.c"]),
-            (["node_modules/x", "*.c"], ["node_modules/x/y.c"]),
-            (["target"], ["target/z.c"]),
-            ([".git"], [".git/HEAD"]),
-            (["-H", "*.c"], ["node_modules/x/y.c", *C_FILES, "target/z.c"]),
-            (["--exclude", "*.c", "-t", "f"], ["Makefile", "src/deep/c.h"]),
-            (["--exclude", "deep", "--exclude", "Make*"], ["src", *C_FILES]),
-            (["--exclude", "src/deep"], ["Makefile", "src", *C_FILES]),
-            (["src", "--exclude", "/deep"], C_FILES),
-        ]
-        for words, expected in rows:
-            self.same(f"find {words}", scene.names("find", *words), expected)
+        check_names(self, scene, "globs")
         self.same("find in another directory", scene.names("find", scene.tree / "src", "a*"), [f"{scene.tree}/src/a.c"])
 
     def check_options(self, scene: Scene) -> None:
@@ -74,26 +38,7 @@ class Finding(Beside):
         os.utime(scene.tree / "large", (1_000_000_000, 1_000_000_000))
         scene.write("empty", "")
         (scene.tree / "link").symlink_to("large")
-        for words, expected in (
-            (["-t", "d"], ["src", "src/deep"]),
-            (["-t", "l"], ["link"]),
-            (["-t", "f,l", "l*"], ["large", "link"]),
-            (["-e", "h"], ["src/deep/c.h"]),
-            (["-e", "C", "-e", "h"], [*C_FILES, "src/deep/c.h"]),
-            (["--size", "+4k"], ["large"]),
-            (["--size", "+4k", "-t", "f,d"], ["large"]),
-            (["-t", "e"], ["empty"]),
-            (["-t", "f,empty"], ["empty"]),
-            (["--size", "-0b", "-t", "f"], ["empty"]),
-            (["--newer", "1h", "large", "empty"], ["empty"]),
-            (["--newer", "10000d", "large"], ["large"]),
-            (["--expression", '["suffix","h"]'], ["src/deep/c.h"]),
-            (["src", "--expression", '["allof",["type","f"],["name","a.c"]]'], ["src/a.c"]),
-            (["--count"], ["9"]),
-            (["--count", "*.c", "-t", "f"], ["2"]),
-            (["-t", "f", "*.c", "--count", "src"], ["2"]),
-        ):
-            self.same(f"find {words}", scene.names("find", *words), expected)
+        check_names(self, scene, "options")
         dotted = scene.wq("find", "-e", ".h")
         note = 'a suffix has no dot at its front: ".h" is taken as "h"'
         self.same("a suffix with a dot", dotted, built.Ended(b"src/deep/c.h\n", said(note), 0))
@@ -105,13 +50,7 @@ class Finding(Beside):
     def check_brackets(self, scene: Scene) -> None:
         scene.write("pages/[id].tsx")
         scene.write("pages/[deep]/d.tsx")
-        for words, expected in (
-            (["[id].tsx"], ["pages/[deep]/d.tsx", "pages/[id].tsx"]),
-            (["pages/[id].tsx"], ["pages/[id].tsx"]),
-            (["pages/[deep]/*.tsx"], ["pages/[deep]/d.tsx"]),
-            (["[a-d].tsx"], ["pages/[deep]/d.tsx"]),
-        ):
-            self.same(f"brackets in names, {words}", scene.names("find", *words), expected)
+        check_names(self, scene, "brackets")
         shutil.rmtree(scene.tree / "pages")
 
     def check_printing(self, scene: Scene) -> None:
@@ -245,33 +184,7 @@ class Finding(Beside):
         self.same("a locale without UTF-8", scene.wq("find", "odd", "ü", **other).output, "odd/ü\n".encode())
 
     def check_wrong_words(self, scene: Scene) -> None:
-        letters = "-t takes f (file), d (directory), l (link), x (executable), e (empty), b, c, p, s or D, and not"
-        size = "--size takes +1M (at least) or -10k (at most), and not"
-        for words, reason in (
-            (["-t", "y"], f'{letters} "y"'),
-            (["--size", "big"], f'{size} "big"'),
-            (["--size", "10k"], "--size takes +10k for at least so much, or -10k for at most"),
-            (["--size", "+1", "-t", "d,l"], "--size is for files, and -t d,l lists none: take one out"),
-            (["--color", "blue"], "--color takes auto, always or never, and not blue"),
-            (
-                ["--newer", "soon"],
-                "--newer takes an age, such as 30s, 10min, 2h, 3d or 1w, or a date, such as 2026-11-28 or '2026-11-28 "
-                "10:00', "
-                'and not "soon"',
-            ),
-            (["--frob"], "there is no option --frob; see `wq find --help`"),
-            (["--version"], "find has no option --version; write: wq --version; see `wq find --help`"),
-            (["-e"], "-e/--extension takes a value, and has none; see `wq find --help`"),
-            (["-e", ""], "-e takes suffixes, such as c,h; it is empty, as of a variable that is not set"),
-            (["/not/there"], "/not/there: No such file or directory"),
-            (
-                ["--program", "p", "-t", "f"],
-                "--program takes the place of -i, -t, --size, --newer, --older, --exclude, --max-depth, --min-depth "
-                "and --expression; take them out",
-            ),
-            (["--program", "p", "*.c", "-e", "c"], "--program takes globs or -e beside it, and not both"),
-        ):
-            wrong(self, scene, ["find", *words], reason)
+        check_wrong(self, scene, "wrong")
         json_reason = (
             "--expression, column 2: Expecting value; a text has double quotes, and the shell takes them "
             "away: put single quotes around the whole"

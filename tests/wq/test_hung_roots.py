@@ -6,9 +6,10 @@ import sys
 import time
 from typing import Any, Dict
 
+import built
 from case import Beside, Timed
 from client import PATIENCE
-from scene import Scene
+from scene import COMMAND, Scene
 from stand_ins import answering, stand_in
 from waiting import wait_until
 from wq.answering import require_answers
@@ -27,7 +28,51 @@ STAND_IN: Dict[str, Any] = {
 }
 
 
+# A window and a search of a mount that goes, in a namespace where it is mounted. Then what is below it is watched.
+UNMOUNTED = """
+exec 2>&1
+mount -t tmpfs none ../place || exit 77
+echo x > ../place/behind
+"$0" watch ../place > told 2>&1
+"$0" follow ../place >> told 2>&1 &
+until grep -q following told; do sleep 0.05; done
+umount -l ../place
+until grep -q waiting told; do sleep 0.05; done
+kill $!
+wait
+tail -n 1 told
+"$0" find ../place
+"$0" unwatch ../place
+"$0" find ../place
+"$0" stop
+"""
+NAMESPACES = (["unshare", "--mount"], ["unshare", "--mount", "--map-root-user"])
+
+
 class HungRoots(Timed, Beside):
+    def test_unmounted(self) -> None:
+        """A root that is not mounted any more is named, as one that is gone is."""
+        with Scene(self.room, starts=False) as scene:
+            words = next((words for words in NAMESPACES if built.call([*words, "true"]).status == 0), None)
+            if words is None:
+                self.skipTest("this machine gives no namespace for mounts")
+            command = [*words, "--propagation", "private", "sh", "-c", UNMOUNTED, COMMAND]
+            root = scene.room / "place"
+            root.mkdir()
+            (root / "below").touch()
+            ended = built.call(command, cwd=scene.tree, env=scene.environment, timeout=PATIENCE)
+            went = f"what was mounted there is not any more (then `wq unwatch {root}` forgets it)"
+            more = "it went during the walk, or no file handle was left (ulimit -n)"
+            lines = [
+                f"wq: {root} is not mounted any more; waiting for it",
+                "wq: E11: root cannot be read",
+                f"wq: {root} can be read now; perhaps {went}, {more}",
+                str(root),
+                "../place/below",
+                f"wq: the server at {scene.sockname} has ended",
+            ]
+            self.same("a mount that went", ended.output.decode().splitlines(), lines)
+
     def test_file_systems(self) -> None:
         """The mount of a path, and what the kernel does not tell of there."""
         mounts = (

@@ -12,64 +12,13 @@ from typing import List, Tuple
 
 import built
 from case import Beside
+from rows import tables
 from scene import Scene, said, touch_until
 
 TREES, AT_ONCE = 300, 15
 DIRECTORIES = ["a", "b", "build", "a b", ".x"]
 FILES = ["a", "b", "c.o", "keep.o", "#c", "!d", "a b", "Build", ".x", "é", "[a]"]
-LINES = [
-    "a",
-    "/a",
-    "a/",
-    "/a/",
-    "b",
-    "b/",
-    "*.o",
-    "!keep.o",
-    "build/",
-    "/build/*",
-    "!/build/keep.o",
-    "!build/",
-    "b/*",
-    "!b/a",
-    "**/b",
-    "a/**",
-    "!a/**/keep.o",
-    "a/**/b",
-    "[ab]",
-    "[!a]",
-    "?",
-    "\\#c",
-    "#c",
-    "\\!d",
-    "!d",
-    "a b",
-    "a b ",
-    "a\\ b",
-    "*",
-    "!*/",
-    "!a",
-    "!*.o",
-    ".x",
-    ".*",
-    "!.gitignore",
-    "é",
-    "??",
-    "\\[a\\]",
-    "[a]",
-    "b/build",
-    "/*/a",
-    "a/b/c.o",
-    "\\",
-    "[",
-    "**",
-    "B*",
-    "b**/",
-    "***/a",
-    "",
-    "   ",
-    "x" * 300,
-]
+LINES = [row.text() for row in tables(Path(__file__).with_name("ignoring.rows"))["lines"]]
 
 
 def git(directory: Path, *words: str) -> bytes:

@@ -10,7 +10,7 @@ import built
 from case import Beside, Timed
 from client import PATIENCE
 from runs import Log, change_until, command, has_runs
-from scene import COMMAND, Scene, following, said, touch_until, wrong
+from scene import COMMAND, Scene, following, said, touch_until, write_until, wrong
 from waiting import wait_until
 
 
@@ -81,11 +81,15 @@ class Running(Timed, Beside):
         with scene.begin("run", "src/deep", "--postpone", "--once", "--", "echo", "{}") as going:
             touch_until(scene, going, "src/deep/c.h")
             self.same("run --postpone --once", (going.ends(), going.output), (0, b"./src/deep/c.h\n"))
-        with scene.begin("run", "*.nothing", "--", "echo", "{}") as going:
-            going.says("following")
-            self.same(
-                "no run without a name", (going.ends(signal.SIGINT), going.output, following(going)), (130, b"", b"")
-            )
+        with scene.begin("run", "*.nothing", "--", "echo", "of", "{}") as going:
+            self.check("it follows", going.says("following 0 files"))
+            touch_until(scene, going, "src/z.nothing")
+            self.same("no run without a name", going.output, b"of ./src/z.nothing\n")
+            (scene.tree / "src" / "z.nothing").unlink()
+            write_until(scene, going, "src/y.nothing", lambda one: b"y.nothing" in one.output)
+            self.same("nor for one that went", going.output, b"of ./src/z.nothing\nof ./src/y.nothing\n")
+            self.same("Ctrl-C after it", going.ends(signal.SIGINT), 130)
+            self.same("it says", set(following(going).splitlines()), {b"wq: echo ended with status 0"})
 
     def check_restart_of_runs(self, scene: Scene, log: Log) -> None:
         """A run and all that it started get SIGTERM; one that stays gets SIGKILL."""

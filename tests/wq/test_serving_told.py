@@ -38,6 +38,9 @@ class ServingTold(Beside):
             self.same("start", scene.wq("start", "--interval", "50", "--workers=2"), built.Ended(b"", started, 0))
             again = said(f"a server listens on {scene.sockname} already")
             self.same("start again", scene.wq("start"), built.Ended(b"", again, 0))
+            hint = "; `wq restart --interval 60 --share 5` starts it anew with that"
+            other = scene.wq("start", "--share", "5", "--interval", "60")
+            self.same("start with other words", other, built.Ended(b"", again[:-1] + hint.encode() + b"\n", 0))
             process = facts(scene)["process"]
             words = ["--share", "10", "--interval", "50", "--workers", "2"]
             self.same("the words of the server", words_of(process)[-6:], words)

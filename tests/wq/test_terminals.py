@@ -9,10 +9,11 @@ import time
 import built
 from case import Beside, Timed
 from client import PATIENCE
-from scene import INTERVAL, Scene, at_terminal, called_at_terminal, said, wrong
+from scene import COMMAND, INTERVAL, Scene, at_terminal, called_at_terminal, said, wrong
 from stand_ins import answering, stand_in
 from wq.examples import EXAMPLES
 from wq.statuses import HANDED, statuses_of
+from wq.terminal import fitted
 from wq.trouble import WrongWords
 from wq.usage import USAGE
 from wq.words import FORMS, options_of, read
@@ -20,6 +21,7 @@ from wq.words import FORMS, options_of, read
 SLOW = 2.3
 # How long it takes now.
 slow = [SLOW]
+EMPTY_NAME = "-n takes a name, and not an empty one, as of a variable that is not set"
 
 
 def slowly(line: bytes) -> bytes:
@@ -45,6 +47,7 @@ SENTENCES = (
     ("run", "run a command here, now and after each change"),
     ("run", "--debounce MS wait until nothing has changed for MS ms [default: 100]"),
     ("wait", "--timeout S give up after S seconds, and not before the first scan has ended, with status 1"),
+    ("trigger", "have the server run a command in the root, now and after changes"),
     ("untrigger", "remove a trigger"),
     ("unwatch", "stop watching"),
 )
@@ -138,6 +141,43 @@ class Terminals(Timed, Beside):
                     (0, said(f"started a server at {scene.sockname}")),
                 )
 
+    def test_full_devices(self) -> None:
+        """An output that is full is an error, also of help. Standard error that is full changes no status."""
+        with Scene(self.room, starts=False) as scene:
+            for words in ("--help", "find --help", "help since", "explain --terms"):
+                with open("/dev/full", "wb") as device, scene.begin(*words.split(), output=device.fileno()) as going:
+                    found = going.ends(), going.errors
+                    self.same(f"wq {words} > /dev/full", found, (3, said("output: No space left on device")))
+            for words, status in (
+                ("frobnicate", 2),
+                ("find -t y", 2),
+                ("status", 1),
+                ("find", 0),
+                ("run --once -- false", 1),
+            ):
+                command = ["sh", "-c", f'"$0" {words} 2> /dev/full', COMMAND]
+                ended = built.call(command, cwd=scene.tree, env=scene.environment, timeout=PATIENCE)
+                self.same(f"wq {words} 2> /dev/full", (ended.status, ended.errors), (status, b""))
+
+    def test_wrong_without_server(self) -> None:
+        """What is wrong in the words is said before a server is started, which can take minutes in a clone."""
+        with Scene(self.room, starts=False) as scene:
+            kinds = (
+                '-t takes f (file), d (directory), l (link), x (executable), e (empty), b, c, p, s or D, and not "y"'
+            )
+            for command in ("find", "since", "wait", "follow"):
+                wrong(self, scene, [command, "-t", "y"], kinds)
+                wrong(self, scene, [command, "/nosuch"], "/nosuch: No such file or directory")
+                wrong(self, scene, [command, "nosuch/"], "nosuch/ is no directory here")
+            wrong(self, scene, ["run", "-t", "y", "--", "true"], kinds)
+            wrong(self, scene, ["find", "--size", "x"], '--size takes +1M (at least) or -10k (at most), and not "x"')
+            wrong(self, scene, ["since", "-n", ""], EMPTY_NAME)
+            wrong(
+                self, scene, ["trigger", "t", "no", "--", "a"], "no is no file here; write './no' for one that may come"
+            )
+            wrong(self, scene, ["watch", ".", "nosuch"], "nosuch: No such file or directory")
+            self.same("no server", os.path.lexists(scene.sockname), False)
+
     def test_pages(self) -> None:
         """The pages of help: options, examples, statuses and variables."""
         with Scene(self.room, starts=False) as scene:
@@ -191,6 +231,15 @@ class Terminals(Timed, Beside):
                 fault = str(error)
             self.same(f"the words of {example.line}", (words[:2], fault), (["wq", command], ""))
 
+    def check_narrow(self, scene: Scene, looks: str) -> None:
+        """A terminal takes back one row alone, so a line that is longer than a row is cut before its time."""
+        shown = at_terminal(scene, "find", NO_COLOR="1", columns=60)
+        begin, end = f"wq: {looks}"[:43], "..., 1 s so far "
+        self.check("a crawl at a narrow terminal", f"\r{begin}{end}\r" in shown, [shown])
+        self.same("its width", (len(begin + end) < 60, fitted("wq: 木木木", ", 1 s", 14)), (True, "wq: ..., 1 s"))
+        for columns, text in ((0, "wq: 木木木, 1 s"), (16, "wq: 木木木, 1 s"), (15, "wq: 木..., 1 s")):
+            self.same(f"wide letters in {columns} columns", fitted("wq: 木木木", ", 1 s", columns), text)
+
     def test_no_directory_of_socket(self) -> None:
         """The directory of the socket is missing: that is what is told, and not a file of wq in it."""
         with Scene(self.room, starts=False) as scene:
@@ -219,6 +268,12 @@ class Terminals(Timed, Beside):
                 f"\rwq: {looks}, 1 s so far" in shown and f"{looks}, 2 s so far" in shown,
                 [shown],
             )
+            self.same(
+                "how long it took, at a terminal", shown.splitlines()[-1].rpartition(":")[0], f"\x1b[Kwq: {looks}"
+            )
+            self.check_narrow(scene, looks)
+            kept = scene.wq("watch").errors.decode().splitlines()[:1]
+            self.same("watch is no hint at itself", kept, [f"wq: {looks.partition(';')[0]}"])
             slow[:] = [PATIENCE]
             with scene.begin("find") as going:
                 self.check("a crawl that goes on", going.says(looks.partition(",")[0]))

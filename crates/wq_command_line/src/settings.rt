@@ -1,12 +1,13 @@
-//! The settings of the server that the words after `serve` give.
+//! The settings of the server that the words after `serve` give, and those after `sockname`.
 ghost use Rattle.std.specs.Prelude.{◌≤◌, IfOk, IfSome};
 
 use crate::fault::CommandLineFault;
 use clap::{Arg, ArgMatches, Command};
 use std::alloc::{AllocError, Global};
+use std::time::Duration;
 use wq_base::{MAX_NUMBER, MAX_WORKERS, Workers, unsigned_number};
 use wq_clock::Run;
-use wq_server::Share;
+use wq_server::{QuietAfter, Share};
 
 /// How many milliseconds lie between two rounds of crawls, if the command line does not say it.
 const INTERVAL: u64 = 1_000;
@@ -16,6 +17,12 @@ const MIN_INTERVAL: u64 = 10;
 
 /// The most milliseconds that may lie between two rounds of crawls: an hour.
 const MAX_INTERVAL: u64 = 3_600_000;
+
+/// After how many seconds without change and question a root is quiet, if the command line does not say it.
+const QUIET_AFTER: u64 = 600;
+
+/// The most seconds after which a root may be quiet: a day.
+const MAX_QUIET_AFTER: u64 = 86_400;
 
 /// The most percent of a processor to which rounds of crawls may be limited.
 const MAX_PERCENT: u64 = 100;
@@ -42,6 +49,8 @@ pub struct Settings {
     pub interval: Interval,
     /// How much of a processor rounds of crawls may take, if that is limited.
     pub share: Option<Share>,
+    /// When a root is quiet.
+    pub quiet: QuietAfter,
     /// How many threads may walk a tree if a client waits for it.
     pub walkers: Workers,
     /// How many threads may look for the files of a query.
@@ -49,19 +58,19 @@ pub struct Settings {
 }
 
 impl Settings {
-    /// The words of `serve`.
-    pub(crate) fn command<'a>(alloc: Global) -> Result<Command<'a>, AllocError> {
-        let mut command = Command::new(alloc, "serve");
+    /// The words of a command of this name that takes settings of the server.
+    pub(crate) fn command<'a>(alloc: Global, name: &'a str) -> Result<Command<'a>, AllocError> {
+        let mut command = Command::new(alloc, name);
         for name in ["sockname", "start", "pid"] {
             command = command.arg(Arg::new(alloc, name).long(name).required(true))?;
         }
-        for name in ["interval", "share", "workers"] {
+        for name in ["interval", "share", "quiet-after", "workers"] {
             command = command.arg(Arg::new(alloc, name).long(name))?;
         }
         Ok(command)
     }
 
-    /// The settings that the words after `serve` give.
+    /// The settings that the words after the command give.
     pub(crate) fn of(alloc: Global, given: &ArgMatches<'_>) -> Result<Settings, CommandLineFault> {
         let Some(sockname) = given.get_str("sockname") else {
             return Err(CommandLineFault::Wrong);
@@ -78,6 +87,7 @@ impl Settings {
             run: Run::new(start, pid),
             interval,
             share: share_of(given)?,
+            quiet: quiet_of(given)?,
             walkers,
             workers,
         })
@@ -115,6 +125,17 @@ fn share_of(given: &ArgMatches<'_>) -> Result<Option<Share>, CommandLineFault> {
         })),
         _ => Err(CommandLineFault::Wrong),
     }
+}
+
+/// When a root is quiet. With 0 none ever is.
+fn quiet_of(given: &ArgMatches<'_>) -> Result<QuietAfter, CommandLineFault> {
+    let seconds = number_of(given, "quiet-after", Some(QUIET_AFTER), MAX_QUIET_AFTER)?;
+    if seconds == 0 {
+        return Ok(QuietAfter { time: None });
+    }
+    Ok(QuietAfter {
+        time: Some(Duration::from_secs(seconds)),
+    })
 }
 
 /// The number of at most `most` under a name, or the default if there is none.

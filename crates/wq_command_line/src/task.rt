@@ -12,6 +12,8 @@ pub enum Action {
     Replay,
     /// Say what the program file of this path is.
     Check(String),
+    /// Say the path of the socket that `serve` of the same words has.
+    Sockname(String),
     /// Serve clients.
     Serve(Settings),
 }
@@ -31,6 +33,7 @@ pub fn task_of(alloc: Global, words: &[String]) -> Result<Action, CommandLineFau
             Some(path) => Ok(Action::Check(String::from_str(alloc, path)?)),
             None => Err(CommandLineFault::Wrong),
         },
+        Some(("sockname", given)) => Ok(Action::Sockname(Settings::of(alloc, given)?.sockname)),
         Some(("serve", given)) => Ok(Action::Serve(Settings::of(alloc, given)?)),
         _ => Err(CommandLineFault::Wrong),
     }
@@ -43,5 +46,6 @@ fn command<'a>(alloc: Global) -> Result<Command<'a>, AllocError> {
         .subcommand_required(true)
         .subcommand(Command::new(alloc, "replay"))?
         .subcommand(Command::new(alloc, "check").arg(file)?)?
-        .subcommand(Settings::command(alloc)?)
+        .subcommand(Settings::command(alloc, "sockname")?)?
+        .subcommand(Settings::command(alloc, "serve")?)
 }

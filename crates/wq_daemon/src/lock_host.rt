@@ -1,12 +1,15 @@
 //! The parts that the threads of the server share: the shelf, the seats, the launcher, and the crawler. Each is under a
 //! lock of its own. A look at files takes no lock, and neither does a listing of them.
 
+use crate::asking::{AskingDesk, AskingRoots};
 use crate::lock_seats::LockSeats;
 use crate::operator::Operator;
+use crate::questions::Questions;
 use crate::round_crawl::crawl_in_round;
 use crate::rounds::Rounds;
 use std::alloc::{AllocError, Global};
 use std::io::Write;
+use std::sync::atomic::AtomicBool;
 use std::sync::{Arc, Mutex, Wait};
 use std::thread::Threads;
 use std::time::{Clock, Duration, Instant};
@@ -18,7 +21,7 @@ use wq_follow::Trigger;
 use wq_launch::{Notices, Runs, Spawn, StartedCommand};
 use wq_live::Named;
 use wq_patch::{Reach, Tree, TreeFault};
-use wq_server::{Host, RootNumbers, Stop, Worked, refuse, time_since};
+use wq_server::{Host, RootNumbers, Stir, Stop, Worked, refuse, time_since};
 use wq_session::{Ended, Kept, LockDesk, ReachedShelf, SharedShelf, serve};
 use wq_stream::Inbox;
 
@@ -42,6 +45,8 @@ where
     shelf: Arc<Mutex<ReachedShelf<K>>>,
     rounds: Rounds<N, P, R>,
     operator: Operator<O, R>,
+    /// What clients asked since the last round.
+    questions: Questions<R>,
     /// How many threads may look for the files of a query.
     workers: Workers,
 }
@@ -76,6 +81,7 @@ where
             shelf,
             rounds,
             operator,
+            questions: Questions::new(rt, alloc),
             workers,
         }
     }
@@ -128,7 +134,7 @@ where
     ) -> bool {
         let roots = lock_roots(&self.crawler, client, self.rt, self.workers);
         let desk = lock_desk(&self.shelf, self.rt);
-        let (Ok(roots), Ok(mut desk)) = (roots, desk) else {
+        let (Ok(roots), Ok(desk)) = (roots, desk) else {
             refuse(writer, Refusal::NoMemory);
             return false;
         };
@@ -137,6 +143,18 @@ where
             return false;
         };
         let run = self.run;
+        let questions = &self.questions;
+        let is_named = AtomicBool::new(false);
+        let roots = AskingRoots {
+            roots,
+            questions,
+            is_named: &is_named,
+        };
+        let mut desk = AskingDesk {
+            desk,
+            questions,
+            is_named: &is_named,
+        };
         let views = SeatViews { run, seat, roots };
         let Ended { views, shut, .. } = serve(
             threads, self.alloc, client, inbox, writer, views, &mut desk,
@@ -155,6 +173,10 @@ where
         let roots = self.seats.numbers()?;
         self.operator.forget_others(&roots.shown);
         Some(roots)
+    }
+
+    fn stirs(&self, shown: &[u64]) -> Option<Vec<Stir>> {
+        self.seats.stirs(shown, &self.questions.take())
     }
 
     fn has_triggers(&self) -> bool {

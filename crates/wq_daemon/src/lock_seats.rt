@@ -2,10 +2,11 @@
 //! the roots that are shown.
 
 use crate::assembly::SEATS;
+use crate::questions::AskedRoots;
 use std::alloc::{AllocError, Global};
 use std::sync::{Mutex, Wait};
-use wq_live::{Named, Publisher, Seat};
-use wq_server::RootNumbers;
+use wq_live::{Named, Publisher, RootTable, Seat};
+use wq_server::{RootNumbers, Stir};
 
 /// How many sessions may have a seat: all but the seat for looks and that of rounds. They are more than clients may be
 /// connected, since a session outlives a client that goes while it scans.
@@ -64,6 +65,14 @@ impl<N: Named, R: Wait + Copy + Drop> LockSeats<N, R> {
         *place = Some(seat);
         numbers
     }
+
+    /// What stirred these roots, if clients asked of those; none if memory runs out for it.
+    pub(crate) fn stirs(&self, shown: &[u64], asked: &AskedRoots) -> Option<Vec<Stir>> {
+        let mut place = self.idle.lock(&self.rt);
+        let (seat, stirs) = look_at_stirs(place.take()?, self.alloc, shown, asked);
+        *place = Some(seat);
+        stirs
+    }
 }
 
 // A value with a destructor of its own is freed by one call, wherever a function gives up.
@@ -120,5 +129,53 @@ fn look_at_numbers<N: Named>(seat: Seat<N>) -> (Seat<N>, Option<RootNumbers>) {
             (look.leave(), numbers)
         }
         Err(blind) => (blind.seat(), None),
+    }
+}
+
+/// What a seat sees of these roots, if clients asked of those, and the seat. There is nothing if memory runs out for it,
+/// or if the look is refused.
+fn look_at_stirs<N: Named>(
+    seat: Seat<N>,
+    alloc: Global,
+    shown: &[u64],
+    asked: &AskedRoots,
+) -> (Seat<N>, Option<Vec<Stir>>) {
+    match seat.look() {
+        Ok(look) => {
+            let stirs = stirs_in(look.table(), alloc, shown, asked).ok();
+            (look.leave(), stirs)
+        }
+        Err(blind) => (blind.seat(), None),
+    }
+}
+
+/// What a table shows of these roots, if clients asked of those.
+fn stirs_in(
+    table: &RootTable,
+    alloc: Global,
+    shown: &[u64],
+    asked: &AskedRoots,
+) -> Result<Vec<Stir>, AllocError> {
+    let mut stirs = Vec::with_capacity(alloc, shown.len())?;
+    for number in shown {
+        stirs.push(stir_in(table, *number, asked))?;
+    }
+    Ok(stirs)
+}
+
+/// What a table shows of the root of this number. One that is not shown any more counts as asked of.
+fn stir_in(table: &RootTable, number: u64, asked: &AskedRoots) -> Stir {
+    let tick = match table.view(number) {
+        Some(view) => view.tick(),
+        None => 0,
+    };
+    let is_asked = match table.text(number) {
+        Some(root) => asked.has(root),
+        None => true,
+    };
+    Stir {
+        number,
+        tick,
+        is_asked,
     }
 }

@@ -1,7 +1,8 @@
 -- Pauses with which the walks of a root keep their part of a processor.
-use Rattle.std.proofs.Common.{◌≡◌, ◌∙◌, ℕ, zero, ◌+◌, ◌*◌, ◌/◌, ◌<◌, ◌≤◌, mul-add, ap, mul-le-mul_left, min, ◌-◌, subst, sym}
+use Rattle.std.proofs.Common.{◌≡◌, ◌∙◌, ℕ, zero, suc, ◌+◌, ◌*◌, ◌/◌, ◌<◌, ◌≤◌, ◌⊎◌, inl, inr, add-mul, mul-add, ap, mul-le-mul_left, min, ◌-◌, subst, sym}
 use native.Mathlib.Omega.{arith}
-use Rattle.std.proofs.Math.Nat.{div-le_self, lt-mul-div-succ, mul_comm}
+use Rattle.std.proofs.lemmas.Bool.{cases_lt}
+use Rattle.std.proofs.Math.Nat.{div-le_self, lt-mul-div-succ, mul_assoc, mul_comm}
 use Rattle.wq_server.specs.Pace.{KeepsPart}
 
 -- the pause after a walk suffices if it is the walk's length, times the parts that are to rest, over the part that
@@ -41,3 +42,46 @@ longer part walk pause more keeps long =
     let sum : part * (walk + pause) ≤ part * (walk + more) =
     mul-le-mul_left part (omega (arith, long)) in
     omega (arith, keeps, sum)
+
+-- the pause of the code with turns that a root sits out, if no time is beyond the longest one
+pub summed : (turns walk pause turn more made most : ℕ) → turn ≡ min (walk + pause) most
+    → more ≡ min (turn * turns) most → made ≡ min (pause + more) most
+    → made ≡ min (pause + turns * (walk + pause)) most
+summed zero walk pause turn more made most is_turn is_more is_made = omega (arith, is_turn, is_more, is_made)
+summed (suc turns) walk pause turn more made most is_turn is_more is_made = by (cases_lt most (walk + pause))
+  where
+    by : (most < walk + pause) ⊎ (walk + pause ≤ most) → made ≡ min (pause + suc turns * (walk + pause)) most
+    by (inl long) =
+        let same : turn ≡ most = omega (arith, is_turn, long) in
+        let one : most * 1 ≤ most * suc turns = mul-le-mul_left most (omega (arith)) in
+        let product : turn * suc turns ≡ most * suc turns = ap (λ n. n * suc turns) same in
+        let all : (walk + pause) * 1 ≤ (walk + pause) * suc turns = mul-le-mul_left (walk + pause) (omega (arith)) in
+        let turned : suc turns * (walk + pause) ≡ (walk + pause) * suc turns = mul_comm (suc turns) (walk + pause) in
+        omega (arith, long, one, product, all, turned, is_more, is_made)
+    by (inr short) =
+        let same : turn ≡ walk + pause = omega (arith, is_turn, short) in
+        let product : turn * suc turns ≡ (walk + pause) * suc turns = ap (λ n. n * suc turns) same in
+        let turned : suc turns * (walk + pause) ≡ (walk + pause) * suc turns = mul_comm (suc turns) (walk + pause) in
+        omega (arith, product, turned, is_more, is_made)
+
+-- with a pause so long, a root sits out its turns, each as long as a walk and the interval at least
+pub sits_out : (turns interval walk first pause most : ℕ) → interval ≤ first
+    → min (first + turns * (walk + first)) most ≤ pause → min ((turns + 1) * (walk + interval)) most ≤ walk + pause
+sits_out turns interval walk first pause most long enough =
+    let more : (turns + 1) * (walk + interval) ≤ (turns + 1) * (walk + first) = mul-le-mul_left (turns + 1) (omega (arith, long)) in
+    let sum : (turns + 1) * (walk + first) ≡ turns * (walk + first) + 1 * (walk + first) = add-mul turns 1 (walk + first) in
+    omega (arith, long, enough, more, sum)
+
+-- with a pause so long, it takes so much less of its part
+pub takes_less : (part turns walk first pause most : ℕ) → KeepsPart part walk first
+    → min (first + turns * (walk + first)) most ≤ pause
+    → (first + turns * (walk + first) ≤ most → pause ≡ first + turns * (walk + first))
+    → pause < most → (turns + 1) * (walk * 1000000) ≤ part * (walk + pause)
+takes_less part turns walk first pause most keeps enough exact short =
+    let is : pause ≡ first + turns * (walk + first) = exact (omega (arith, enough, short)) in
+    let sum : (turns + 1) * (walk + first) ≡ turns * (walk + first) + 1 * (walk + first) = add-mul turns 1 (walk + first) in
+    let lasts : walk + pause ≡ (turns + 1) * (walk + first) = omega (arith, is, sum) in
+    let all : (turns + 1) * (walk * 1000000) ≤ (turns + 1) * (part * (walk + first)) = mul-le-mul_left (turns + 1) keeps in
+    let turned : (turns + 1) * (part * (walk + first)) ≡ part * ((turns + 1) * (walk + first)) =
+    sym (mul_assoc (turns + 1) part (walk + first)) ∙ ap (λ n. n * (walk + first)) (mul_comm (turns + 1) part) ∙ mul_assoc part (turns + 1) (walk + first) in
+    subst (λ n. (turns + 1) * (walk * 1000000) ≤ part * n) (sym lasts) (omega (arith, all, turned))

@@ -7,12 +7,12 @@ use Rattle.wq_server.specs.Pace.{KeepsPart}
 
 -- how many nanoseconds a cycle of a root lasts: a walk, and the pause until the next one
 abbrev pub lasts : Cycle → ℕ
-lasts cycle = as_nanos cycle.walk + as_nanos cycle.pause
+lasts cycle = as_nanos cycle.turn.walk + as_nanos cycle.pause
 
 -- a root goes through its cycle again and again: how long it is walked in the whole cycles within a
 -- time
 abbrev pub walked_in : ℕ → Cycle → ℕ
-walked_in time cycle = time / lasts cycle * as_nanos cycle.walk
+walked_in time cycle = time / lasts cycle * as_nanos cycle.turn.walk
 
 -- Roots that go through their cycles again and again keep to a share together, in percent of a
 -- processor: within any time their walks take no more of it than that.
@@ -27,12 +27,12 @@ pub record Line : Type 0 where
 
 -- how long a root is walked in its cycles
 abbrev pub walked : Line → ℕ
-walked line = sum_by (λ cycle. as_nanos cycle.walk) line.cycles
+walked line = sum_by (λ cycle. as_nanos cycle.turn.walk) line.cycles
 
 -- a root keeps to its part in each of its cycles, and these are within a time
 abbrev pub KeepsWithin : ℕ → Line → Type 0
 KeepsWithin time line =
-    All (λ cycle. KeepsPart line.part (as_nanos cycle.walk) (as_nanos cycle.pause)) line.cycles
+    All (λ cycle. KeepsPart line.part (as_nanos cycle.turn.walk) (as_nanos cycle.pause)) line.cycles
     × (sum_by lasts line.cycles ≤ time)
 
 -- Roots of which each keeps to its part keep to the sum of the parts together, within any time, and

@@ -95,6 +95,7 @@ where
         };
         self.walks.forget_others(&roots.shown);
         let (rt, server) = (self.rt, self.server);
+        self.walks.stir(&rt, server.host.stirs(&roots.shown));
         let Ok(turns) = self.walks.due(&rt, &server.pace, &roots.shown) else {
             return;
         };

@@ -3,6 +3,7 @@
 ghost use Rattle.std.specs.Thread.{IsSync};
 
 use crate::moments::RootNumbers;
+use crate::quiet::Stir;
 use crate::stop::Stop;
 use std::io::Write;
 use std::sync::Arc;
@@ -44,6 +45,9 @@ pub trait Host {
 
     /// Begins a round of crawls, and gives the roots that are shown; none if memory runs out for them.
     fn begin_round(&self) -> Option<RootNumbers>;
+
+    /// What stirred these roots since this was asked last; none if memory runs out for it.
+    fn stirs(&self, shown: &[u64]) -> Option<Vec<Stir>>;
 
     /// Whether a root has triggers.
     fn has_triggers(&self) -> bool;

@@ -1,9 +1,10 @@
 //! The pace of the rounds of crawls that nobody asked for: how long the server waits until it walks a root again.
-ghost use Rattle.std.specs.Prelude.{◌≡◌, ◌≤◌, ◌<◌, ◌*◌, ℕ, All, IfOk, length, map, take};
+ghost use Rattle.std.specs.Prelude.{◌≡◌, ◌≤◌, ◌<◌, ◌*◌, ◌⊎◌, ℕ, All, IfOk, length, map, min, take};
 ghost use Rattle.std.specs.Duration.{as_nanos, max_nanos};
-ghost use Rattle.wq_server.specs.Pace.{KeepsPart, cut_to, need_at};
+ghost use Rattle.wq_server.specs.Pace.{KeepsPart, SitsOut, TakesLess, cut_to, need_at, pause_out};
 ghost use Rattle.wq_server.specs.Share.{KeepShare};
 
+use crate::quiet::QuietAfter;
 use std::alloc::{AllocError, Global};
 use std::time::Duration;
 
@@ -28,59 +29,82 @@ pub struct Pace {
     pub interval: Duration,
     /// How much of a processor rounds may take, if that is limited.
     pub share: Option<Share>,
+    /// When a root sits out turns because it is quiet, if that is wanted.
+    pub quiet: QuietAfter,
+}
+
+/// A root that rounds walk again and again.
+#[derive(Clone, Copy, Drop)]
+pub(crate) struct Turn {
+    /// How long a walk of it takes.
+    pub(crate) walk: Duration,
+    /// How many turns it sits out between two walks.
+    pub(crate) out: u32,
 }
 
 /// A walk of a root, and the pause after it.
 #[derive(Clone, Copy, Drop)]
 pub(crate) struct Cycle {
-    pub(crate) walk: Duration,
+    pub(crate) turn: Turn,
     pub(crate) pause: Duration,
 }
 
 impl Share {
-    /// The cycles of all roots, if a walk of each takes so long. No pause is shorter than the interval, and all roots
-    /// together keep to this share.
+    /// The cycles of all roots, if these are their turns. No pause is shorter than the interval, and all roots together
+    /// keep to this share. The cycle of a root that sits out turns is longer by as many.
     pub(crate) fn cycles(
         &self,
         alloc: Global,
         interval: Duration,
-        walks: &[Duration],
+        turns: &[Turn],
     ) -> Result<Vec<Cycle>, AllocError>
-        ensures walks { IfOk result (λ cycles. map (λ it. it.walk) cycles.items ≡ walks.now) }
+        ensures turns { IfOk result (λ cycles. map (λ it. it.turn) cycles.items ≡ turns.now) }
         ensures interval { IfOk result (λ cycles.
             All (λ it. as_nanos interval ≤ as_nanos it.pause) cycles.items) }
-        ensures share { length walks.now ≤ 10_000
-            → All (λ walk. as_nanos walk * 1_000_000 < max_nanos) walks.now
+        ensures out { IfOk result (λ cycles. All (λ it. SitsOut it.turn.out
+            (as_nanos interval) (as_nanos it.turn.walk) (as_nanos it.pause)) cycles.items) }
+        ensures share { length turns.now ≤ 10_000
+            → All (λ turn. as_nanos turn.walk * 1_000_000 < max_nanos) turns.now
             → IfOk result (λ cycles. KeepShare self.now.percent cycles.items) }
+        ensures less { length turns.now ≤ 10_000
+            → All (λ turn. as_nanos turn.walk * 1_000_000 < max_nanos) turns.now
+            → IfOk result (λ cycles. (level : ℕ) × (cut_to level
+            (map (λ turn. need_at (as_nanos interval) (as_nanos turn.walk)) turns.now)
+            ≤ self.now.percent * 10_000) × All (λ it. TakesLess level it.turn.out
+            (as_nanos it.turn.walk) (as_nanos it.pause)) cycles.items) }
     {
-        let mut needs = Vec::with_capacity(alloc, walks.len())?;
-        for walk in walks {
-            needs.push(need_of(*walk, interval))?;
+        let mut needs = Vec::with_capacity(alloc, turns.len())?;
+        for turn in turns {
+            needs.push(need_of(turn.walk, interval))?;
         }
         let level = level_of(&needs, self.millionths());
-        let mut cycles = Vec::with_capacity(alloc, walks.len())?;
-        for walk in walks {
-            cycles.push(cycle_of(interval, level, *walk))?;
+        let mut cycles = Vec::with_capacity(alloc, turns.len())?;
+        for turn in turns {
+            cycles.push(cycle_of(interval, level, *turn))?;
         }
         Ok(cycles)
     }
 
-    /// The pause between two glances of one kind at a root, if the first took so long and there are so many roots. It is
-    /// no shorter than the interval, and the glances of that kind at all roots together take at most a quarter of this
-    /// share.
+    /// The pause between two glances of one kind at a root, if the first took so long, there are so many roots, and this
+    /// one sits out so many turns. It is no shorter than the interval, and the glances of that kind at all roots together
+    /// take at most a quarter of this share.
     pub(crate) fn glance_pause(
         &self,
         interval: Duration,
         roots: usize,
         glance: Duration,
+        out: u32,
     ) -> Duration
         ensures interval { as_nanos interval ≤ as_nanos result }
+        ensures out { SitsOut out (as_nanos interval) (as_nanos glance) (as_nanos result) }
         ensures part { 1 ≤ roots → roots ≤ 2_500 → as_nanos glance * 1_000_000 < max_nanos →
             (part : ℕ) × (part * (4 * roots) ≤ self.now.percent * 10_000)
-            × KeepsPart part (as_nanos glance) (as_nanos result) }
+            × KeepsPart part (as_nanos glance) (as_nanos result)
+            × TakesLess part out (as_nanos glance) (as_nanos result) }
     {
         let part = even_part(self.millionths(), (roots as u64).saturating_mul(4));
-        longer(interval, rest_after(part, glance))
+        let pause = longer(interval, rest_after(part, glance));
+        sitting_out(out, glance, pause)
     }
 
     /// This share in millionths of a processor.
@@ -132,17 +156,32 @@ fn even_part(whole: u64, count: u64) -> u64
     if count == 0 { 0 } else { whole / count }
 }
 
-/// The cycle of a root of which a walk takes so long, if no root takes more than so many millionths of a processor.
-fn cycle_of(interval: Duration, level: u64, walk: Duration) -> Cycle
-    ensures walk { result.walk ≡ walk }
+/// The cycle of a root with this turn, if no root takes more than so many millionths of a processor.
+fn cycle_of(interval: Duration, level: u64, turn: Turn) -> Cycle
+    ensures turn { result.turn ≡ turn }
     ensures interval { as_nanos interval ≤ as_nanos result.pause }
-    ensures part { 1 ≤ level → level ≤ 1_000_000 → as_nanos walk * 1_000_000 < max_nanos →
-        KeepsPart level (as_nanos walk) (as_nanos result.pause) }
+    ensures out { SitsOut turn.out (as_nanos interval) (as_nanos turn.walk) (as_nanos result.pause) }
+    ensures part { 1 ≤ level → level ≤ 1_000_000 → as_nanos turn.walk * 1_000_000 < max_nanos →
+        KeepsPart level (as_nanos turn.walk) (as_nanos result.pause) }
+    ensures less { 1 ≤ level → level ≤ 1_000_000 → as_nanos turn.walk * 1_000_000 < max_nanos →
+        TakesLess level turn.out (as_nanos turn.walk) (as_nanos result.pause) }
 {
+    let pause = longer(interval, rest_after(level, turn.walk));
     Cycle {
-        walk,
-        pause: longer(interval, rest_after(level, walk)),
+        turn,
+        pause: sitting_out(turn.out, turn.walk, pause),
     }
+}
+
+/// The pause of a root that sits out so many turns, if the pause after a walk that took so long is else this one.
+fn sitting_out(turns: u32, walk: Duration, pause: Duration) -> Duration
+    ensures longer { as_nanos pause ≤ as_nanos result }
+    ensures exact { pause_out turns (as_nanos walk) (as_nanos pause) ≤ max_nanos →
+        as_nanos result ≡ pause_out turns (as_nanos walk) (as_nanos pause) }
+    ensures out { min (pause_out turns (as_nanos walk) (as_nanos pause)) max_nanos ≤ as_nanos result }
+{
+    let turn = walk.saturating_add(pause);
+    longer(pause, pause.saturating_add(turn.saturating_mul(turns)))
 }
 
 /// The shortest pause after a walk that took so long, with which the walks of a root take so many millionths of a
@@ -162,6 +201,7 @@ fn rest_after(part: u64, walk: Duration) -> Duration
 fn longer(first: Duration, second: Duration) -> Duration
     ensures first { as_nanos first ≤ as_nanos result }
     ensures second { as_nanos second ≤ as_nanos result }
+    ensures either { (result ≡ first) ⊎ (result ≡ second) }
 {
     first.max(second)
 }

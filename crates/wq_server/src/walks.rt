@@ -1,7 +1,8 @@
 //! The walks that the rounds of crawls made: how long the last one of each root took, and when it ended. From that
 //! follows which roots are due.
 
-use crate::pace::Pace;
+use crate::pace::{Pace, Turn};
+use crate::quiet::{Quiet, Stir};
 use crate::times::Took;
 use std::alloc::{AllocError, Global};
 use std::time::{Clock, Duration, Instant};
@@ -112,11 +113,19 @@ impl DueRoot {
     }
 }
 
-/// The last walk of each root that is shown.
+/// A root with its quiet.
+#[derive(Clone, Copy, Drop)]
+struct QuietRoot {
+    number: u64,
+    quiet: Quiet,
+}
+
+/// The last walk of each root that is shown, and since when the root is quiet.
 #[derive(Drop)]
 pub(crate) struct LastWalks {
     alloc: Global,
     walks: Vec<LastWalk>,
+    quiets: Vec<QuietRoot>,
 }
 
 impl LastWalks {
@@ -125,7 +134,38 @@ impl LastWalks {
         LastWalks {
             alloc,
             walks: Vec::new(alloc),
+            quiets: Vec::new(alloc),
         }
+    }
+
+    /// Keeps what a round found of the roots. If memory runs out for that, no root is quiet until the next round.
+    pub(crate) fn stir<R: Clock>(&mut self, rt: &R, stirs: Option<Vec<Stir>>) {
+        let now = Instant::now(rt).ok();
+        let quiets = match stirs {
+            Some(stirs) => self.quiets_after(&stirs, now).ok(),
+            None => None,
+        };
+        self.quiets = quiets.unwrap_or(Vec::new(self.alloc));
+    }
+
+    /// The quiet of each root after a round that found this, now.
+    fn quiets_after(
+        &self,
+        stirs: &[Stir],
+        now: Option<Instant>,
+    ) -> Result<Vec<QuietRoot>, AllocError> {
+        let mut quiets = Vec::with_capacity(self.alloc, stirs.len())?;
+        for stir in stirs {
+            let quiet = match self.quiet_of(stir.number) {
+                Some(quiet) => quiet.after(stir, now),
+                None => Quiet::new(stir, now),
+            };
+            quiets.push(QuietRoot {
+                number: stir.number,
+                quiet,
+            })?;
+        }
+        Ok(quiets)
     }
 
     /// Keeps a walk that just ended. A root whose crawl was another's is not walked, so half of the time that it took
@@ -170,7 +210,8 @@ impl LastWalks {
                 continue;
             }
             let glances = self.glances_of(*number);
-            if let Some(reach) = reach_now(rt, pace, shown.len(), &glances) {
+            let out = self.turns_out(rt, pace, *number);
+            if let Some(reach) = reach_now(rt, pace, shown.len(), &glances, out) {
                 looks.push(DueGlance {
                     number: *number,
                     reach,
@@ -193,7 +234,7 @@ impl LastWalks {
         pace: &Pace,
         shown: &[u64],
     ) -> Result<Vec<DueRoot>, AllocError> {
-        let pauses = self.pauses(pace, shown)?;
+        let pauses = self.pauses(rt, pace, shown)?;
         let mut turns = Vec::with_capacity(self.alloc, shown.len())?;
         for (number, pause) in shown.iter().zip(&pauses) {
             if self.is_due(rt, *number, *pause) {
@@ -209,7 +250,12 @@ impl LastWalks {
 
     /// The pause of each of these roots from its last walk to the next one at this pace. Without a share it is the
     /// interval.
-    fn pauses(&self, pace: &Pace, shown: &[u64]) -> Result<Vec<Duration>, AllocError> {
+    fn pauses<R: Clock>(
+        &self,
+        rt: &R,
+        pace: &Pace,
+        shown: &[u64],
+    ) -> Result<Vec<Duration>, AllocError> {
         let mut pauses = Vec::with_capacity(self.alloc, shown.len())?;
         let Some(share) = pace.share else {
             for _ in shown {
@@ -217,11 +263,14 @@ impl LastWalks {
             }
             return Ok(pauses);
         };
-        let mut works = Vec::with_capacity(self.alloc, shown.len())?;
+        let mut turns = Vec::with_capacity(self.alloc, shown.len())?;
         for number in shown {
-            works.push(self.work_since(*number))?;
+            turns.push(Turn {
+                walk: self.work_since(*number),
+                out: self.turns_out(rt, pace, *number),
+            })?;
         }
-        let cycles = share.cycles(self.alloc, pace.interval, &works)?;
+        let cycles = share.cycles(self.alloc, pace.interval, &turns)?;
         for (number, cycle) in shown.iter().zip(&cycles) {
             // Glances are work within the pause, and so make it longer by what they took.
             pauses.push(cycle.pause.saturating_add(self.glances_of(*number).work))?;
@@ -233,6 +282,20 @@ impl LastWalks {
     /// read, so that no root waits for ever.
     fn is_due<R: Clock>(&self, rt: &R, number: u64, pause: Duration) -> bool {
         has_passed(rt, self.walk_of(number).and_then(|it| it.ended), pause)
+    }
+
+    /// How many turns a root sits out between two walks now.
+    fn turns_out<R: Clock>(&self, rt: &R, pace: &Pace, number: u64) -> u32 {
+        match self.quiet_of(number) {
+            Some(quiet) => quiet.turns_out(rt, &pace.quiet),
+            None => 0,
+        }
+    }
+
+    /// The quiet of a root, if a round found it before.
+    fn quiet_of(&self, number: u64) -> Option<Quiet> {
+        let found = self.quiets.iter().find(|it| it.number == number)?;
+        Some(found.quiet)
     }
 
     /// How much processor time the last walk of a root and the glances since then took.
@@ -266,12 +329,18 @@ impl LastWalks {
     }
 }
 
-/// How far a glance looks at a root now, if it is time for one at this pace, these were the glances before, and so many
-/// roots are shown.
-fn reach_now<R: Clock>(rt: &R, pace: &Pace, roots: usize, glances: &Glances) -> Option<Reach> {
-    if is_time(rt, pace, roots, &glances.changed) {
+/// How far a glance looks at a root now, if it is time for one at this pace, these were the glances before, so many roots
+/// are shown, and this one sits out so many turns.
+fn reach_now<R: Clock>(
+    rt: &R,
+    pace: &Pace,
+    roots: usize,
+    glances: &Glances,
+    out: u32,
+) -> Option<Reach> {
+    if is_time(rt, pace, roots, &glances.changed, out) {
         Some(Reach::Changed)
-    } else if is_time(rt, pace, roots, &glances.recent) {
+    } else if is_time(rt, pace, roots, &glances.recent, out) {
         Some(Reach::Recent)
     } else {
         None
@@ -279,10 +348,10 @@ fn reach_now<R: Clock>(rt: &R, pace: &Pace, roots: usize, glances: &Glances) -> 
 }
 
 /// Whether it is time for a glance of a kind, if this was the last one.
-fn is_time<R: Clock>(rt: &R, pace: &Pace, roots: usize, last: &Glanced) -> bool {
+fn is_time<R: Clock>(rt: &R, pace: &Pace, roots: usize, last: &Glanced, out: u32) -> bool {
     match pace.share {
         Some(share) => {
-            let pause = share.glance_pause(pace.interval, roots, last.work);
+            let pause = share.glance_pause(pace.interval, roots, last.work, out);
             has_passed(rt, last.ended, pause)
         }
         None => false,

@@ -92,6 +92,7 @@ where
         pace: Pace {
             interval: Duration::from_millis(settings.interval.milliseconds),
             share: settings.share,
+            quiet: settings.quiet,
         },
         workers: settings.workers,
     };

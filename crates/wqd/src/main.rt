@@ -26,6 +26,7 @@ fn main(rt: HostRuntime) -> ExitCode {
     match task(&rt) {
         Ok(Action::Replay) => replay_status(&rt, replay_script(&rt)),
         Ok(Action::Check(path)) => ExitCode::from(check_file(&rt, &path)),
+        Ok(Action::Sockname(path)) => say(&rt, &path),
         Ok(Action::Serve(settings)) => {
             let Ok((first, more)) = lanes(&rt, rt, settings.walkers) else {
                 return cannot_listen(&rt);
@@ -85,6 +86,14 @@ fn replay_script(rt: &HostRuntime) -> Result<(), ReplayFault> {
         return Err(ReplayFault::Write);
     }
     done
+}
+
+/// Writes a line to standard output, and gives the exit status.
+fn say(rt: &HostRuntime, line: &str) -> ExitCode {
+    match println!(rt; "{line}") {
+        Ok(()) => ExitCode::SUCCESS,
+        Err(_) => ExitCode::FAILURE,
+    }
 }
 
 /// Describes the program file of this path on standard output, and gives the exit status.
