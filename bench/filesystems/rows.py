@@ -79,10 +79,10 @@ def by_mount(kind: str, options: str, behind: str) -> Mounting:
 
 
 def by_command(*words: str) -> Mounting:
-    """One that a command mounts; `{}` in its words is the room, `root` and `one` are there."""
+    """One that a command mounts; `{}` in its words is the room. `root`, `one`, `two` and `work` are there."""
 
     def mounted(room: Path) -> Iterator[Mount]:
-        root, one = made(room, "root", "one")
+        root, one, *_ = made(room, "root", "one", "two", "work")
         run(*(word.replace("{}", str(room)) for word in words))
         wait_until(lambda: os.path.ismount(root), 10)
         try:
