@@ -14,7 +14,7 @@ from typing import Any, Dict, List, Tuple
 from unittest import mock
 
 import built
-from case import Beside, Timed
+from case import Beside
 from client import PATIENCE
 from scene import COMMAND, Scene, facts, said, without_delays, wrong
 from waiting import wait_until
@@ -28,7 +28,7 @@ A_HOUR = 3_600
 WORKERS = ["--workers", str(min(4, len(os.sched_getaffinity(0))))]
 
 
-class ServingTold(Timed, Beside):
+class ServingTold(Beside):
     def test_server(self) -> None:
         with Scene(self.room, starts=False) as scene:
             nobody = f"no server listens on {scene.sockname}; `wq start` starts one"
