@@ -16,6 +16,9 @@ HERE = Path(__file__).resolve().parent
 # A poller that says nothing of a change for so many seconds has missed it.
 PATIENCE = 60.0
 MODULES = "/usr/share/nodejs"
+# The numbers of `wqd serve`, and those that it takes without a word of them.
+OF_WQD: List[Dict[str, int]] = [{}, {"share": 10}, {"share": 10, "interval": 100}]
+USUAL = {"interval": 1000}
 
 
 class Missed(Exception):
@@ -74,7 +77,7 @@ class Subscribed(Watch):
     """wqd, with one client that has a subscription."""
 
     def __init__(self, root: Path, room: Path, numbers: Dict[str, int]) -> None:
-        server = Wqd(room, **{"interval": None, **numbers})
+        server = Wqd(room, **{**USUAL, **numbers})
         self.process, self.root, self.client = server.process, root, server.client()
         self.client.ask("watch", str(root))
         self.client.subscribe(root)
@@ -100,7 +103,7 @@ def pollers() -> List[Poller]:
     return [
         *(chokidar(interval) for interval in (100, 1000)),
         *(fswatch(seconds) for seconds in ("1", "0.1")),
-        *(wqd(numbers) for numbers in ({}, {"share": 10}, {"share": 10, "interval": 100})),
+        *(wqd(numbers) for numbers in OF_WQD),
     ]
 
 

@@ -111,6 +111,8 @@ class Run:
         self.signals = signals
         self.process: "Optional[subprocess.Popen[bytes]]" = None
         self.is_ending = self.is_killed = False
+        # Whether a person heard how it ended.
+        self.is_told = False
         # How the first process ended that did not end well.
         self.fault = 0
 
@@ -140,8 +142,11 @@ class Run:
 
     def is_group_left(self) -> bool:
         """Whether a part goes on of the group of a run that was to end."""
-        is_meant = self.is_ending and not self.is_killed and self.command.is_alone
-        return is_meant and self.process is not None and bool(of_group(self.process.pid))
+        return self.is_ending and not self.is_killed and self.has_left()
+
+    def has_left(self) -> bool:
+        """Whether processes of its group go on."""
+        return self.command.is_alone and self.process is not None and bool(of_group(self.process.pid))
 
     def has_led(self) -> bool:
         """Whether the last process has ended that was started here."""
@@ -186,7 +191,9 @@ class Run:
         self.is_ending = True
         if self.process is None or self.has_ended():
             return
-        if not self.has_led():
+        if self.has_led():
+            self.signal(number)
+        else:
             self.end_first(self.process, number, grace)
         if self.command.is_alone and not self.is_killed:
             end_all(self.process.pid, grace)

@@ -9,7 +9,7 @@ from wqclient.sockets import is_listened_on
 from wqclient.unit import is_started
 from wqprogram.limits import MAX_ROWS
 
-from .file_systems import NEVER, Hearing, hearing_of, mount_of
+from .file_systems import AT_ONCE, NEVER, Hearing, hearing_of, mount_of
 from .home import Home
 from .pace import seconds_between_scans, seconds_shown
 from .processes import words_of
@@ -56,8 +56,10 @@ def mount_shown(deaf: Hearing) -> str:
     """How late a mount shows a change that the kernel does not tell of, and what helps."""
     if deaf.late == NEVER:
         return "it never shows such a change, until it is mounted again"
+    if deaf.late == AT_ONCE:
+        return "it shows such a change at once to a query that scans first"
     late = f"it shows such a change up to {deaf.late} late" if deaf.late else "how late it shows such a change differs"
-    then = f"up to {deaf.then}" if deaf.then else "sooner, if it has that option"
+    then = {"": "sooner, if it has that option", AT_ONCE: AT_ONCE}.get(deaf.then, f"up to {deaf.then}")
     return f"{late}, also to a query that scans first" + (f"; with `{deaf.option}` {then}" if deaf.option else "")
 
 

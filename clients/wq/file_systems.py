@@ -28,19 +28,21 @@ HOST = "the host"
 BEHIND = "whatever is behind it"
 # The mount shows such a change only if it is mounted again.
 NEVER = "never"
+AT_ONCE = "at once"
 # By the beginning of the kind. docs/FILESYSTEMS.md has the same, and what was tried of it.
 DEAF: Dict[str, Hearing] = {
     "nfs": Hearing(SERVER, "3 to 60 s", "-o actimeo=1", "1 s"),
-    "cifs": Hearing(SERVER, "1 s", "-o actimeo=0"),
-    "smb": Hearing(SERVER, "1 s", "-o actimeo=0"),
+    "cifs": Hearing(SERVER, "1 s", "-o actimeo=0", AT_ONCE),
+    "smb": Hearing(SERVER, "1 s", "-o actimeo=0", AT_ONCE),
     "ceph": Hearing(SERVER),
     "fuse.sshfs": Hearing(SERVER, "20 s", "-o dcache_timeout=1,dcache_stat_timeout=1,dcache_dir_timeout=1", "1 s"),
     "fuse.rclone": Hearing(SERVER, "", "--dir-cache-time 1s --attr-timeout 1s", "1 s"),
-    "fuse.bindfs": Hearing(BEHIND, "1 s", "-o attr_timeout=0,entry_timeout=0"),
-    "fuse.mergerfs": Hearing(BEHIND, "1 s", "-o cache.attr=0,cache.entry=0"),
+    "fuse.bindfs": Hearing(BEHIND, "1 s", "-o attr_timeout=0,entry_timeout=0", AT_ONCE),
+    "fuse.mergerfs": Hearing(BEHIND, "1 s", "-o cache.attr=0,cache.entry=0", AT_ONCE),
     "fuse.fuse-overlayfs": Hearing("what changes its layers", NEVER),
-    "9p": Hearing(HOST, "", "-o cache=none"),
-    "virtiofs": Hearing(HOST, "", "virtiofsd --cache never"),
+    "9p": Hearing(HOST, "", "-o cache=none", AT_ONCE),
+    "hostfs": Hearing(HOST, AT_ONCE),
+    "virtiofs": Hearing(HOST, "1 s", "virtiofsd --cache never", AT_ONCE),
     "vboxsf": Hearing(HOST),
     "drvfs": Hearing("Windows"),
     "fuse": Hearing(BEHIND, "", "-o attr_timeout=0,entry_timeout=0"),

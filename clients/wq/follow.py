@@ -52,4 +52,13 @@ def wait(window: Window, woken: int, seconds: Optional[float] = None) -> None:
     if events.get(output, 0) & select.POLLERR:
         raise BrokenPipeError
     if woken in events:
-        os.read(woken, 64)
+        hear_all(woken)
+
+
+def hear_all(woken: int) -> None:
+    """Ends by a signal that came and has not ended this yet: Python drops what a handler raises while an object is
+    destroyed."""
+    for number in os.read(woken, 64):
+        handler = signal.getsignal(number)
+        if callable(handler):
+            handler(number, None)

@@ -4,6 +4,8 @@ import argparse
 import os
 import subprocess
 import time
+from functools import partial
+from typing import BinaryIO
 
 from wqclient.files import opened
 from wqclient.harmless import harmless_lines
@@ -28,11 +30,17 @@ def log(options: argparse.Namespace, home: Home) -> int:
     path = path_of(process) if process else log_of(sockname())
     if not path:
         raise Trouble(f"the log is standard error of process {process}, which is no file")
-    place = print_from(path, 0)
-    while options.follow:
-        time.sleep(PAUSE)
-        place = print_from(path, place)
-    return FOUND
+    while True:
+        # It is open until the next one is there, so that no other file gets its number meanwhile.
+        with open(path, "rb", opener=partial(opened, follows=True)) as stream:
+            is_over = not options.follow
+            print_rest(stream)
+            while not is_over:
+                time.sleep(PAUSE)
+                is_over = is_another(path, stream)
+                print_rest(stream)
+        if not options.follow:
+            return FOUND
 
 
 def process_of(home: Home) -> int:
@@ -47,11 +55,18 @@ def process_of(home: Home) -> int:
     return server.peer.process
 
 
-def print_from(path: str, place: int) -> int:
-    """Prints what a log has from a place on, and gives the place after it. A log that was begun anew is shorter."""
-    with open(path, "rb", opener=lambda path, flags: opened(path, flags, follows=True)) as stream:
-        stream.seek(place if os.fstat(stream.fileno()).st_size >= place else 0)
-        data = stream.read()
-        if data:
-            write(harmless_lines(data.decode("utf-8", "replace")).encode() if is_standard_terminal() else data)
-        return stream.tell()
+def print_rest(stream: BinaryIO) -> None:
+    """Prints what a log has from a place on, or all if it was cut off."""
+    if os.fstat(stream.fileno()).st_size < stream.tell():
+        stream.seek(0)
+    data = stream.read()
+    if data:
+        write(harmless_lines(data.decode("utf-8", "replace")).encode() if is_standard_terminal() else data)
+
+
+def is_another(path: str, stream: BinaryIO) -> bool:
+    """Whether a server has begun another log in the place of one."""
+    try:
+        return not os.path.samestat(os.stat(path), os.fstat(stream.fileno()))
+    except FileNotFoundError:
+        return False

@@ -51,6 +51,8 @@ class Runner:
         self.manner = manner
         self.options = options
         self.run: Optional[Run] = None
+        # The last run, if it has ended and its group has not: with `restart` that ends before the next one begins.
+        self.left: Optional[Run] = None
         self.pending = Pending(options.debounce / 1000, options.delay / 1000)
         self.own = OwnChanges()
         self.keys = Keys()
@@ -80,9 +82,10 @@ class Runner:
         finally:
             signal.set_wakeup_fd(-1)
             self.keys.give()
-            if self.run is not None:
+            run = self.run or self.left
+            if run is not None:
                 by_stop = self.manner.on_busy != SIGNAL
-                self.run.end_at_once(self.manner.stop_signal if by_stop else signal.SIGTERM, GRACE)
+                run.end_at_once(self.manner.stop_signal if by_stop else signal.SIGTERM, GRACE)
 
     def step(self) -> Optional[int]:
         """Does what is due now, and waits for what comes next. Gives the status, if that was the last run."""
@@ -103,6 +106,8 @@ class Runner:
         return self.manner.on_busy == RESTART and not self.run.is_ending
 
     def act(self, now: float) -> None:
+        if self.run is None:
+            self.run, self.left = self.left, None
         if self.run is None:
             self.start()
             return
@@ -222,6 +227,11 @@ class Runner:
         except Unrunnable as reason:
             raise Trouble(str(reason), status=reason.status) from None
         ended, self.run = self.run, None
+        if ended.is_told:
+            return None
+        ended.is_told = True
+        if self.manner.on_busy == RESTART and not self.options.once and ended.has_left():
+            self.left = ended
         # Before a person reads of the end, who may press a key then.
         self.keys.take()
         self.ended_at, self.ended_ms = time.monotonic(), time.time() * 1000

@@ -28,7 +28,7 @@ def start(options: argparse.Namespace, home: Home) -> int:
 
 def given(options: argparse.Namespace) -> List[str]:
     """The words of the server that this command was given."""
-    values = [(option, getattr(options, option[2:])) for option in OPTIONS]
+    values = [(option, getattr(options, option[2:].replace("-", "_"))) for option in OPTIONS]
     return [word for option, value in values if value is not None for word in (option, value)]
 
 

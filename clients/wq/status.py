@@ -174,13 +174,15 @@ def root_lines(root: Dict[str, Any]) -> Iterator[str]:
         yield row("root", f"{root['root']}: {root['error']}", "red")
         return
     age = root["changed_within"]
-    changed = f"within {duration(age)}" if age is not None else "over a week ago"
+    changed = f"last change {f'within {duration(age)}' if age is not None else 'over a week ago'}"
+    if not root["tick"]:
+        changed = "no change yet"
     yield row("root", root["root"])
     yield row(
         "",
         f"{of_size(root['files'], root['directories'])}, tick {root['tick']}, "
         f"a scan takes {root['crawl_seconds']:.3f} s ({root['crawl_processor_seconds']:.2f} s of a processor)"
-        f"{pause_shown(root)}, last change {changed}",
+        f"{pause_shown(root)}, {changed}",
     )
     for what, count in zip(("names that are not UTF-8", "directories that cannot be read"), root["left_out"].values()):
         if count:

@@ -6,7 +6,7 @@ import fcntl
 import os
 import subprocess
 import time
-from typing import Callable, Dict, Iterator, List, Optional, Sequence
+from typing import BinaryIO, Callable, Dict, Iterator, List, Optional, Sequence
 
 from .files import is_locked, opened_as_own
 from .kept import log_of
@@ -67,8 +67,7 @@ def begin(command: List[str], sockname: str, environment: Optional[Dict[str, str
     anew."""
     log = log_of(sockname)
     try:
-        with open(log, "ab", opener=opened_as_own) as output:
-            output.truncate(0)
+        with begun_anew(log) as output:
             process = subprocess.Popen(
                 command,
                 stdin=subprocess.DEVNULL,
@@ -86,6 +85,19 @@ def begin(command: List[str], sockname: str, environment: Optional[Dict[str, str
             process.kill()
             raise Unstarted(f"{command[0]} does not listen on {sockname}: {said(log)}")
         time.sleep(PAUSE)
+
+
+@contextlib.contextmanager
+def begun_anew(log: str) -> Iterator[BinaryIO]:
+    """A log without lines. It is another file than the one before, which a reader of that one can see. What is there
+    and no regular file of this user is left as it is."""
+    open(log, "ab", opener=opened_as_own).close()
+    new = f"{log}.new"
+    with contextlib.suppress(FileNotFoundError):
+        os.unlink(new)
+    with open(new, "xb", opener=opened_as_own) as output:
+        os.replace(new, log)
+        yield output
 
 
 def said(log: str) -> str:

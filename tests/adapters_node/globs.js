@@ -5,6 +5,7 @@ const path = require('path');
 const { HOME, same } = require('./scene');
 const { directoryMatcher, globMatcher, globParent, isGlob } = require(path.join(HOME, 'lib', 'globs'));
 
+/** @type {[string, string[], string[]][]} a glob, what it fits, and what not */
 const FITS = [
   ['*.js', ['a.js', '.a.js'], ['a/b.js', 'a.ts']],
   ['**/*.js', ['a.js', 'a/b.js', '/x/a.js', 'a/.b/c.js'], ['a.jsx']],

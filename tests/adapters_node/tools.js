@@ -17,7 +17,10 @@ class Tool {
     this.child.stdout.on('data', (data) => this.lines.push(...String(data).split("\n")));
   }
 
-  /** Waits for a line. What causes it is done anew until it comes: when a tool begins to watch is not told. */
+  /**
+   * Waits for a line. What causes it is done anew until it comes: when a tool begins to watch is not told.
+   * @param {(turn: number) => void} act
+   */
   async says(name, line, act = () => {}) {
     const end = Date.now() + PATIENCE;
     for (let turn = 0, next = 0; !this.lines.includes(line) && Date.now() < end;) {

@@ -11,6 +11,7 @@ from typing import Any, Callable, Dict, Iterator, List, Sequence, Union
 
 import built
 from case import Case
+from case import needs as needs_command
 
 SETTINGS = (built.TOP / "pyproject.toml").read_text(encoding="utf-8")
 MOST_COLUMNS = int(re.findall(r"^line-length = (\d+)$", SETTINGS, re.M)[0])
@@ -104,6 +105,14 @@ class Sources(Case):
                 rooms.setdefault(path.parent, []).append(path)
         for room, files in rooms.items():
             self.same(str(room.relative_to(built.TOP)), faults_of_types(["--scripts-are-modules", *files], []), [])
+
+    @needs_command("tsc")
+    def test_types_of_javascript(self) -> None:
+        """Names and types of the JavaScript, as far as the sources say them."""
+        files = [name for name in built.tracked() if name.endswith((".js", ".ts"))]
+        kinds = ["--target", "es2021", "--lib", "es2021", "--module", "commonjs", "--moduleResolution", "node"]
+        ended = built.call(["tsc", "--allowJs", "--checkJs", "--noEmit", *kinds, *files], cwd=built.TOP)
+        self.assertEqual(ended.output.decode().splitlines(), [])
 
     def test_modules(self) -> None:
         """No two modules on the path of the tests have one name."""

@@ -14,6 +14,7 @@ from waiting import wait_until
 
 DIRECTORIES = 100
 FILES = 40
+MOST_ROUNDS = 2_000
 ROUNDS = 60
 # How often the handles are looked at, since a walk may hold some for longer where others work too.
 LOOKS = 50
@@ -60,7 +61,8 @@ class Handles(Case):
             with Scarcity(server.process.pid):
                 replies = [crawl(client, root, first) for _ in range(ROUNDS)]
                 # On a busy machine each of them may fall into a time with handles.
-                wait_until(lambda: UNREADABLE in replies or replies.append(crawl(client, root, first)))
+                while UNREADABLE not in replies and len(replies) < MOST_ROUNDS:
+                    replies.append(crawl(client, root, first))
             refused = replies.count(UNREADABLE)
             told = [reply["files"] for reply in replies if reply != UNREADABLE]
             self.check(f"a crawl that wants for handles is refused, of {len(replies)}: {refused}", refused > 0)

@@ -82,8 +82,8 @@ def is_written(name: str) -> Dict[str, Any]:
 
 
 def changes(root: Path, turn: int) -> List[Tuple[str, Callable[[], object], str, List[str]]]:
-    """Each of these: what it is, what does it, the last part of a name, and the files of that name afterwards. Each turn
-    has names of its own."""
+    """Each of these: what it is, what does it, the last part of a name, and the files of that name afterwards. Each
+    turn has names of its own."""
     near, far, third = (root / f"directory{number + turn}" for number in (11, 222, 333))
     new, renamed, moved, deep, saved = (f"z{what}{turn}" for what in ("new", "renamed", "moved", "deep", "saved"))
     other, deepest = root / f"directory{555 + turn}", root / f"directory{444 + turn}" / "zin"

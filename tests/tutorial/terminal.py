@@ -164,8 +164,8 @@ class Terminal(Shell):
 
 
 def once(written: str) -> str:
-    """What was written, with one of equal lines that follow one another: a shell empties a file before it writes it, and
-    a scan may come between."""
+    """What was written, with one of equal lines that follow one another: a shell empties a file before it writes it,
+    and a scan may come between."""
     lines = written.splitlines(keepends=True)
     return "".join(line for line, before in zip(lines, ["", *lines]) if line != before)
 

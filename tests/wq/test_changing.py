@@ -4,11 +4,13 @@ import json
 import os
 import shutil
 import signal
+import sys
 from typing import List, Tuple
 
 import built
-from case import Beside
+from case import Beside, Timed
 from scene import Scene, following, said, touch_until, wrong
+from wq.follow import hear_all
 
 FIRST = b"+ Makefile\n+ src/a.c\n+ src/b b.c\n+ src/deep/c.h\n"
 
@@ -26,7 +28,7 @@ QUESTIONS: List[Tuple[List[str], List[str]]] = [
 ]
 
 
-class Changing(Beside):
+class Changing(Timed, Beside):
     def test_since(self) -> None:
         with Scene(self.room) as scene:
             new = said("first since as a: listing everything")
@@ -145,6 +147,21 @@ class Changing(Beside):
             (ended.status, ended.output, b"so the next call tells this again" in ended.errors),
             (3, b"+ src/deep/c.h\n+ src/deep/d.h\n", True),
         )
+
+    def test_a_dropped_end(self) -> None:
+        """A signal ends `follow` also if what its handler raised was dropped, as in the end of an object."""
+        reading, writing = os.pipe()
+        before = signal.signal(signal.SIGHUP, lambda number, _: sys.exit(128 + number))
+        try:
+            os.write(writing, bytes([signal.SIGHUP]))
+            hear_all(reading)
+            self.fail("it goes on")
+        except SystemExit as ended:
+            self.same("its status", ended.code, 129)
+        finally:
+            signal.signal(signal.SIGHUP, before)
+            os.close(reading)
+            os.close(writing)
 
     def test_follow(self) -> None:
         with Scene(self.room) as scene:

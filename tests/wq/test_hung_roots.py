@@ -90,9 +90,10 @@ class HungRoots(Timed, Beside):
             found = hearing_of(mount.kind)
             self.same(f"the mount of {path}", (mount.kind, found and found.silent_about), (kind, silent))
         for kind, part in (
-            ("9p", "`-o cache=none` sooner"),
-            ("virtiofs", "`virtiofsd --cache never` sooner"),
-            ("cifs", "up to 1 s late, also to a query that scans first; with `-o actimeo=0` sooner"),
+            ("9p", "differs, also to a query that scans first; with `-o cache=none` at once"),
+            ("virtiofs", "up to 1 s late, also to a query that scans first; with `virtiofsd --cache never` at once"),
+            ("cifs", "up to 1 s late, also to a query that scans first; with `-o actimeo=0` at once"),
+            ("hostfs", "it shows such a change at once"),
             ("nfs4", "3 to 60 s late, also to a query that scans first; with `-o actimeo=1` up to 1 s"),
             ("fuse.sshfs", "dcache_stat_timeout=1"),
             ("fuse.rclone", "`--dir-cache-time 1s --attr-timeout 1s`"),

@@ -84,10 +84,12 @@ class Running(Timed, Beside):
         with scene.begin("run", "*.nothing", "--", "echo", "of", "{}") as going:
             self.check("it follows", going.says("following 0 files"))
             touch_until(scene, going, "src/z.nothing")
-            self.same("no run without a name", going.output, b"of ./src/z.nothing\n")
+            told = {b"of ./src/z.nothing"}
+            self.same("no run without a name", set(going.output.splitlines()), told)
             (scene.tree / "src" / "z.nothing").unlink()
             write_until(scene, going, "src/y.nothing", lambda one: b"y.nothing" in one.output)
-            self.same("nor for one that went", going.output, b"of ./src/z.nothing\nof ./src/y.nothing\n")
+            told.add(b"of ./src/y.nothing")
+            self.same("nor for one that went", set(going.output.splitlines()), told)
             self.same("Ctrl-C after it", going.ends(signal.SIGINT), 130)
             self.same("it says", set(following(going).splitlines()), {b"wq: echo ended with status 0"})
 
@@ -135,6 +137,32 @@ class Running(Timed, Beside):
                 daemon = int(Path(f"{log.path}.daemon").read_text())
                 self.check("a daemon goes on", state_of(daemon) in list("SRD"))
                 os.kill(daemon, signal.SIGKILL)
+
+    def test_left_by_ended(self) -> None:
+        """With --restart, what a run left in its group that has ended itself does not go on either. Else it does."""
+        leaves = 'sleep 1000 & echo $! >> "$LOG.left"; echo run >> "$LOG"'
+        with Scene(self.room) as scene:
+            log = Log(scene)
+            left = Path(f"{log.path}.left")
+            with scene.begin("run", "--restart", "*.c", "--", "sh", "-c", leaves) as going:
+                self.check("a run", going.says("wq: sh ended with status 0\n"))
+                first = int(left.read_text())
+                self.check("what it left", state_of(first) in list("SRD"))
+                change_until(scene, going, log, 2)
+                self.check("has gone before the next one", state_of(first) in ("Z", ""))
+                self.check("a second run", going.says("wq: sh ended with status 0\n", 2))
+                self.same("SIGTERM", going.ends(signal.SIGTERM), 143)
+                self.check("what is left", all(map(is_gone, map(int, left.read_text().split()))))
+                ends = [line for line in going.errors.splitlines() if b"ended" in line]
+                self.same("each end is told once", ends, [b"wq: sh ended with status 0"] * log.runs())
+            left.unlink()
+            log.clear()
+            with scene.begin("run", "*.c", "--", "sh", "-c", leaves) as going:
+                change_until(scene, going, log, 2)
+                self.same("Ctrl-C without --restart", going.ends(signal.SIGINT), 130)
+            for process in map(int, left.read_text().split()):
+                self.check("what it left", state_of(process) in list("SRD"))
+                os.kill(process, signal.SIGKILL)
 
     def test_ends_of_run(self) -> None:
         with Scene(self.room) as scene:

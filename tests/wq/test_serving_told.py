@@ -14,7 +14,7 @@ from typing import Any, Dict, List, Tuple
 from unittest import mock
 
 import built
-from case import Beside
+from case import Beside, Timed
 from client import PATIENCE
 from scene import COMMAND, Scene, facts, said, without_delays, wrong
 from waiting import wait_until
@@ -28,7 +28,7 @@ A_HOUR = 3_600
 WORKERS = ["--workers", str(min(4, len(os.sched_getaffinity(0))))]
 
 
-class ServingTold(Beside):
+class ServingTold(Timed, Beside):
     def test_server(self) -> None:
         with Scene(self.room, starts=False) as scene:
             nobody = f"no server listens on {scene.sockname}; `wq start` starts one"
@@ -250,6 +250,12 @@ class ServingTold(Beside):
             self.same("roots", scene.names("roots"), [str(scene.tree)])
             self.same("roots -0", scene.wq("roots", "-0").output, f"{scene.tree}\0".encode())
             self.same("roots --json", json.loads(scene.wq("roots", "--json").output)["roots"], [str(scene.tree)])
+            (self.room / "empty").mkdir()
+            scene.wq("watch", self.room / "empty")
+            lines = scene.wq("status").output.decode().splitlines()
+            ends = [line.rpartition(", ")[2].partition(" within ")[0] for line in lines if "tick" in line]
+            self.same("the changes of roots", ends, ["last change", "no change yet"])
+            scene.wq("unwatch", self.room / "empty")
             wrong(self, scene, ["watch", "not-there"], "not-there: No such file or directory")
             wrong(self, scene, ["watch", "Makefile"], "Makefile: Not a directory")
             wrong(

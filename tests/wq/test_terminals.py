@@ -53,6 +53,11 @@ SENTENCES = (
 )
 
 
+def is_cut(row: str) -> bool:
+    """Whether a line of a crawl takes less than a row of 60 columns, with its time."""
+    return len(row) < 60 and re.search(r"^wq: the server looks at all .+\.\.\., [0-9]+ s so far $", row) is not None
+
+
 class Terminals(Timed, Beside):
     def test_terminal(self) -> None:
         """Colours, layout and escapes are for terminals, and NO_COLOR takes the colours away."""
@@ -231,14 +236,14 @@ class Terminals(Timed, Beside):
                 fault = str(error)
             self.same(f"the words of {example.line}", (words[:2], fault), (["wq", command], ""))
 
-    def check_narrow(self, scene: Scene, looks: str) -> None:
+    def check_narrow(self, scene: Scene) -> None:
         """A terminal takes back one row alone, so a line that is longer than a row is cut before its time."""
         shown = at_terminal(scene, "find", NO_COLOR="1", columns=60)
-        begin, end = f"wq: {looks}"[:43], "..., 1 s so far "
-        self.check("a crawl at a narrow terminal", f"\r{begin}{end}\r" in shown, [shown])
-        self.same("its width", (len(begin + end) < 60, fitted("wq: 木木木", ", 1 s", 14)), (True, "wq: ..., 1 s"))
-        for columns, text in ((0, "wq: 木木木, 1 s"), (16, "wq: 木木木, 1 s"), (15, "wq: 木..., 1 s")):
-            self.same(f"wide letters in {columns} columns", fitted("wq: 木木木", ", 1 s", columns), text)
+        rows = [row for row in shown.split("\r") if "so far" in row]
+        self.check("a crawl at a narrow terminal", rows and all(map(is_cut, rows)), [shown])
+        for columns, text in ((0, "木木木"), (16, "木木木"), (15, "木..."), (14, "...")):
+            found = fitted("wq: 木木木", ", 1 s", columns)
+            self.same(f"wide letters in {columns} columns", found, f"wq: {text}, 1 s")
 
     def test_no_directory_of_socket(self) -> None:
         """The directory of the socket is missing: that is what is told, and not a file of wq in it."""
@@ -268,12 +273,12 @@ class Terminals(Timed, Beside):
                 f"\rwq: {looks}, 1 s so far" in shown and f"{looks}, 2 s so far" in shown,
                 [shown],
             )
-            self.same(
-                "how long it took, at a terminal", shown.splitlines()[-1].rpartition(":")[0], f"\x1b[Kwq: {looks}"
+            self.check("how long it took, at a terminal", f"\x1b[Kwq: {looks}: that took " in shown, [shown])
+            self.check_narrow(scene)
+            kept = scene.wq("watch").errors.decode()
+            self.check(
+                "watch is no hint at itself", re.search(r" again, which took [0-9.]+ s before$", kept, re.M), [kept]
             )
-            self.check_narrow(scene, looks)
-            kept = scene.wq("watch").errors.decode().splitlines()[:1]
-            self.same("watch is no hint at itself", kept, [f"wq: {looks.partition(';')[0]}"])
             slow[:] = [PATIENCE]
             with scene.begin("find") as going:
                 self.check("a crawl that goes on", going.says(looks.partition(",")[0]))

@@ -6,7 +6,10 @@ const { walked } = require('./history');
 
 class Picture {
   constructor(watcher, history, kind, cwd) {
-    Object.assign(this, { watcher, history, kind, cwd });
+    this.watcher = watcher;
+    this.history = history;
+    this.kind = kind;
+    this.cwd = cwd;
     this.files = new Map();
     this.last = new Map();
     this.faults = [];

@@ -23,9 +23,9 @@ class Faults {
   tell() {
     this.timer = null;
     if (this.watcher.closed) return;
-    const fault = new Error(`wqd-chokidar: ${[...this.found.keys()].join('; ')}`);
-    fault.code = 'WQD';
-    fault.paths = [...this.found.values()].filter((root) => root !== undefined);
+    const paths = [...this.found.values()].filter((root) => root !== undefined);
+    const text = `wqd-chokidar: ${[...this.found.keys()].join('; ')}`;
+    const fault = Object.assign(new Error(text), { code: 'WQD', paths });
     this.found.clear();
     if (this.watcher.listenerCount('error') > 0) this.watcher.emit('error', fault);
     else process.emitWarning(fault.message);

@@ -29,12 +29,18 @@ class Feed {
   /**
    * @param {string} root an absolute path without links
    * @param {boolean} keeps whether it keeps the process alive
-   * @param {object} uses `expression()` is what the places of this feed need; `tell(changes, isThere)` takes changes,
+   * @param {any} uses `expression()` is what the places of this feed need; `tell(changes, isThere)` takes changes,
    *   one call after the other; `fail(fault)` takes the reason if nobody watches the root. While the server has no
    *   place for it, this process looks each `interval` ms at what is in the directories that `opens(name)` names
    */
   constructor(root, keeps, uses) {
-    Object.assign(this, { root, keeps }, uses);
+    this.root = root;
+    this.keeps = keeps;
+    this.interval = uses.interval;
+    this.opens = uses.opens;
+    this.expression = uses.expression;
+    this.tell = uses.tell;
+    this.fail = uses.fail;
     this.name = hub.newName();
     this.rows = new Rows();
     this.places = new Set();

@@ -11,7 +11,10 @@ class Lone {
    *   events have `shown`; `onDirectory` is called if a directory is there
    */
   constructor(watcher, given) {
-    Object.assign(this, given);
+    this.shown = given.shown;
+    this.path = given.path;
+    this.isInitial = given.isInitial;
+    this.onDirectory = given.onDirectory;
     this.watcher = watcher;
     this.row = undefined;
     this.isEnded = false;

@@ -10,6 +10,7 @@ const POLL = 100;
 
 /** @returns {object} a frozen object of its own */
 function optionsOf(given = {}, environment = process.env) {
+  /** @type {any} */
   const options = { ...DEFAULTS };
   for (const [key, value] of Object.entries(given || {})) if (value !== undefined) options[key] = value;
   const polls = environment.CHOKIDAR_USEPOLLING;

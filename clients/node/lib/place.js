@@ -16,7 +16,15 @@ class Place {
    *   links led through; `isInitial`; `isPoint`: a single path is meant
    */
   constructor(watcher, given) {
-    Object.assign(this, given);
+    this.feed = given.feed;
+    this.shown = given.shown;
+    this.real = given.real;
+    this.chain = given.chain;
+    this.isInitial = given.isInitial;
+    this.isPoint = given.isPoint;
+    this.depth = given.depth;
+    this.glob = given.glob;
+    this.text = given.text;
     this.watcher = watcher;
     this.below = nameBelow(this.feed.root, this.real);
     this.known = new Map();

@@ -7,8 +7,8 @@ const { S_IFBLK, S_IFCHR, S_IFDIR, S_IFIFO, S_IFLNK, S_IFREG, S_IFSOCK } = fs.co
 const MODES = { f: S_IFREG, d: S_IFDIR, l: S_IFLNK, b: S_IFBLK, c: S_IFCHR, p: S_IFIFO, s: S_IFSOCK };
 
 /**
- * @param {{kind: string, size: number, mtimeMs: number}} row
- * @returns {fs.Stats} with `mode` (the kind alone), `size`, `mtimeMs` and `mtime`
+ * @param {{kind: string, size: number, mtimeMs: number, stats?: object}} row with the fs.Stats, if Node read one
+ * @returns {any} an fs.Stats with `mode` (the kind alone), `size`, `mtimeMs` and `mtime`
  */
 function statsOf(row) {
   if (row.stats) return row.stats;

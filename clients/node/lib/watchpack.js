@@ -6,7 +6,7 @@ const USUAL_POLL = 5007;
 
 /**
  * A class in place of watchpack's DirectoryWatcher. It still reads its directory at the beginning.
- * @param {Function} DirectoryWatcher watchpack's
+ * @param {any} DirectoryWatcher watchpack's
  * @param {import('./source').Source} source tells changes below the project
  */
 function served(DirectoryWatcher, source) {
