@@ -9,3 +9,4 @@ pub mod Once
 pub mod Tiles
 pub mod Found
 pub mod Glance
+pub mod Threads

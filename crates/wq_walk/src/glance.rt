@@ -28,13 +28,14 @@ use crate::listing::patched_listing;
 use crate::piece::whole_piece;
 use crate::progress::Progress;
 use crate::rows::Rows;
+use crate::spent::{Beginning, spent_since};
 use crate::sweep::{changed_directories, is_as};
 use crate::walk::Walk;
 use crate::walkers::Walkers;
 use std::alloc::{AllocError, Global};
 use std::str;
 use std::thread::Threads;
-use std::time::CpuClock;
+use std::time::{Clock, CpuClock};
 use wq_disk::{Directory, Disk, Stat, Step, with_slash};
 use wq_patch::{Listing, Reach, Recent, TreeFault, existing_rows};
 use wq_view::{Kind, Record, View};
@@ -58,8 +59,9 @@ struct Glance<'a, 'p> {
 /// The listing of a glance at the files below a root with this last view. It enters a directory if it is recent, if the
 /// view has no such directory that exists, or if its row is not as its record says. It looks at the row of each
 /// directory in one that it enters, and, if it looks so far, at the rows of all directories, by up to so many threads.
-pub(crate) fn glanced<'a, T: Threads + CpuClock, D: Disk + Sync>(
+pub(crate) fn glanced<'a, T: Threads, C: Clock + CpuClock + Sync, D: Disk + Sync>(
     threads: &T,
+    clocks: &C,
     walkers: Walkers,
     progress: &Progress<'_>,
     disk: &D,
@@ -83,10 +85,12 @@ pub(crate) fn glanced<'a, T: Threads + CpuClock, D: Disk + Sync>(
     let swept = match recent.reach() {
         Reach::Recent => Vec::new(alloc),
         Reach::Changed => {
-            changed_directories(threads, walkers, progress, disk, alloc, &path, last)?
+            changed_directories(threads, clocks, walkers, progress, disk, alloc, &path, last)?
         }
     };
+    let began = Beginning::now(clocks);
     let rows = rows_seen(progress, disk, alloc, &path, last, recent, swept)?;
+    progress.add_own(spent_since(began, clocks));
     listing_of(alloc, last, rows)
 }
 

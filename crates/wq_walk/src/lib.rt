@@ -9,6 +9,7 @@ mod listing;
 mod piece;
 mod progress;
 mod rows;
+mod spent;
 mod sweep;
 mod walk;
 mod walker;

@@ -19,14 +19,15 @@ use crate::walkers::Walkers;
 use crate::walks::Walks;
 use std::alloc::{AllocError, Global};
 use std::thread::Threads;
-use std::time::CpuClock;
+use std::time::{Clock, CpuClock};
 use wq_disk::{Disk, with_slash};
 use wq_patch::{Listing, TreeFault, patched_rows, simplified};
 use wq_view::{MAX_LISTING_ROWS, Patch, Seen, View};
 
 /// The rows of the files below a root that was not listed before.
-pub(crate) fn first_rows<T: Threads + CpuClock, D: Disk + Sync>(
+pub(crate) fn first_rows<T: Threads, C: Clock + CpuClock + Sync, D: Disk + Sync>(
     threads: &T,
+    clocks: &C,
     walkers: Walkers,
     progress: &Progress<'_>,
     disk: &D,
@@ -44,12 +45,15 @@ pub(crate) fn first_rows<T: Threads + CpuClock, D: Disk + Sync>(
     let path = with_slash(alloc, root)?;
     let names = names_at_top(disk, progress, alloc, &path)?;
     let pieces = first_pieces(alloc, walkers, &names)?;
-    rows_of(threads, walkers, progress, disk, alloc, &path, &pieces)
+    rows_of(
+        threads, clocks, walkers, progress, disk, alloc, &path, &pieces,
+    )
 }
 
 /// The listing of the files below a root with this last view. Rows that are made share the names of its records.
-pub(crate) fn rows_again<T: Threads + CpuClock, D: Disk + Sync>(
+pub(crate) fn rows_again<T: Threads, C: Clock + CpuClock + Sync, D: Disk + Sync>(
     threads: &T,
+    clocks: &C,
     walkers: Walkers,
     progress: &Progress<'_>,
     disk: &D,
@@ -70,13 +74,16 @@ pub(crate) fn rows_again<T: Threads + CpuClock, D: Disk + Sync>(
 {
     let path = with_slash(alloc, root)?;
     let pieces = pieces_of(alloc, walkers, last)?;
-    let walked = walked(threads, walkers, progress, disk, alloc, &path, &pieces)?;
+    let walked = walked(
+        threads, clocks, walkers, progress, disk, alloc, &path, &pieces,
+    )?;
     listing_of(alloc, last, walked)
 }
 
 /// The rows of the files below a root, from these pieces of its tree. The root's path ends in a slash.
-fn rows_of<T: Threads + CpuClock, D: Disk + Sync>(
+fn rows_of<T: Threads, C: Clock + CpuClock + Sync, D: Disk + Sync>(
     threads: &T,
+    clocks: &C,
     walkers: Walkers,
     progress: &Progress<'_>,
     disk: &D,
@@ -92,7 +99,9 @@ fn rows_of<T: Threads + CpuClock, D: Disk + Sync>(
     ensures fault { IfErr result
         (IsRootFault (D.says disk.now) (D.has disk.now) (D.fails disk.now) root.now) }
 {
-    let walked = walked(threads, walkers, progress, disk, alloc, root, pieces)?;
+    let walked = walked(
+        threads, clocks, walkers, progress, disk, alloc, root, pieces,
+    )?;
     joined(alloc, walked)
 }
 
@@ -100,8 +109,9 @@ fn rows_of<T: Threads + CpuClock, D: Disk + Sync>(
 ///
 /// If the root is deleted during the walk, the listing fails because the root cannot be read. Nothing is known then of
 /// the files that the walk has not looked at.
-fn walked<'a, T: Threads + CpuClock, D: Disk + Sync>(
+fn walked<'a, T: Threads, C: Clock + CpuClock + Sync, D: Disk + Sync>(
     threads: &T,
+    clocks: &C,
     walkers: Walkers,
     progress: &Progress<'_>,
     disk: &D,
@@ -123,7 +133,7 @@ fn walked<'a, T: Threads + CpuClock, D: Disk + Sync>(
         pieces,
         progress,
     };
-    let walked = walks.all(threads, walkers)?;
+    let walked = walks.all(threads, clocks, walkers)?;
     match disk.stat(root)? {
         Some(_) => Ok(walked),
         None => Err(TreeFault::Unreadable),

@@ -3,9 +3,8 @@ ghost use Rattle.std.specs.Prelude.{◌≡◌, IfErr};
 ghost use Rattle.wq_patch.specs.declared.tree.TreeFault.TheVariants.{GaveWay, TooManyRows};
 
 use crate::piece::MOST_PIECES;
-use std::io;
+use crate::spent::Spent;
 use std::sync::atomic::{AtomicU64, AtomicUsize, Ordering};
-use std::time::Duration;
 use wq_disk::Way;
 use wq_patch::{LeftOut, TreeFault};
 use wq_view::MAX_LISTING_ROWS;
@@ -23,8 +22,14 @@ pub(crate) struct Progress<'a> {
     names: AtomicU64,
     /// The number of directories that could not be read.
     directories: AtomicU64,
-    /// The processor time of the threads beside the one that asked, in nanoseconds.
+    /// The number of directories whose own rows were asked for before a glance.
+    swept: AtomicUsize,
+    /// The processor time of the thread that asked, in nanoseconds.
+    worked: AtomicU64,
+    /// The processor time of the other threads, in nanoseconds.
     helped: AtomicU64,
+    /// For how many nanoseconds all threads waited.
+    waited: AtomicU64,
 }
 
 impl<'a> Progress<'a> {
@@ -36,29 +41,52 @@ impl<'a> Progress<'a> {
             way,
             names: AtomicU64::new(0),
             directories: AtomicU64::new(0),
+            swept: AtomicUsize::new(0),
+            worked: AtomicU64::new(0),
             helped: AtomicU64::new(0),
+            waited: AtomicU64::new(0),
         }
     }
 
-    /// The processor time of the threads beside the one that asked, in nanoseconds.
+    /// The processor time of the other threads than the one that asked, in nanoseconds.
     pub(crate) fn helped(&self) -> u64 {
         self.helped.load(Ordering::SeqCst)
     }
 
-    /// Counts the work of the other ones of so many threads, if this one had used this processor time before its own part
-    /// and has used this now. They share what there is to do, so each of them counts as much as this one.
-    pub(crate) fn count_help(
-        &self,
-        threads: usize,
-        before: io::Result<Duration>,
-        after: io::Result<Duration>,
-    ) {
-        if let (Ok(before), Ok(after)) = (before, after) {
-            let own = after.saturating_sub(before).as_nanos();
-            let others = own.saturating_mul(threads.saturating_sub(1) as u128);
-            let nanoseconds = u64::try_from(others).unwrap_or(u64::MAX);
-            self.helped.fetch_add(nanoseconds, Ordering::SeqCst);
+    /// What all threads spent on their parts so far.
+    pub(crate) fn spent(&self) -> Spent {
+        let worked = self.worked.load(Ordering::SeqCst);
+        Spent {
+            worked: worked.saturating_add(self.helped()),
+            waited: self.waited.load(Ordering::SeqCst),
         }
+    }
+
+    /// The number of files that the threads looked at so far.
+    pub(crate) fn files(&self) -> usize {
+        let counted = self.counted.load(Ordering::SeqCst);
+        counted.saturating_add(self.swept.load(Ordering::SeqCst))
+    }
+
+    /// Adds what the thread that asked spent on its part, if that is known.
+    pub(crate) fn add_own(&self, spent: Option<Spent>) {
+        if let Some(spent) = spent {
+            self.worked.fetch_add(spent.worked, Ordering::SeqCst);
+            self.waited.fetch_add(spent.waited, Ordering::SeqCst);
+        }
+    }
+
+    /// Adds what another thread spent on its part, if that is known.
+    pub(crate) fn add_help(&self, spent: Option<Spent>) {
+        if let Some(spent) = spent {
+            self.helped.fetch_add(spent.worked, Ordering::SeqCst);
+            self.waited.fetch_add(spent.waited, Ordering::SeqCst);
+        }
+    }
+
+    /// Counts a directory whose own row was asked for before a glance.
+    pub(crate) fn sweep(&self) {
+        self.swept.fetch_add(1, Ordering::SeqCst);
     }
 
     /// The number of files that the walk left out so far.

@@ -9,11 +9,12 @@ ghost use Rattle.wq_walk.specs.Walk.{row_with_stat};
 
 use crate::glance::is_directory;
 use crate::progress::Progress;
+use crate::spent::{Beginning, spent_since};
 use crate::walk::stat_at;
 use crate::walkers::Walkers;
 use std::alloc::{AllocError, Global};
 use std::thread::{Threads, join};
-use std::time::CpuClock;
+use std::time::{Clock, CpuClock};
 use wq_disk::{Disk, Stat, TreePath};
 use wq_patch::TreeFault;
 use wq_view::{MAX_NAME, Record, View};
@@ -34,8 +35,9 @@ struct Sweep<'a, 'p, D: Disk> {
 
 /// The names of the directories of a view whose kind, size or time is not as the disk says, and of those above them,
 /// rising. Some come twice. Up to so many threads look. The root's path ends in a slash.
-pub(crate) fn changed_directories<'a, T: Threads + CpuClock, D: Disk + Sync>(
+pub(crate) fn changed_directories<'a, T: Threads, C: Clock + CpuClock + Sync, D: Disk + Sync>(
     threads: &T,
+    clocks: &C,
     walkers: Walkers,
     progress: &Progress<'_>,
     disk: &D,
@@ -53,9 +55,7 @@ pub(crate) fn changed_directories<'a, T: Threads + CpuClock, D: Disk + Sync>(
         last,
     };
     let count = walkers.count.min(last.len() / LEAST + 1);
-    let before = threads.thread_cpu_time();
-    let mut names = sweep.changed_by(threads, 0, last.len(), count)?;
-    progress.count_help(count, before, threads.thread_cpu_time());
+    let mut names = sweep.changed_by(threads, clocks, 0, last.len(), count)?;
     names.sort_unstable();
     Ok(names)
 }
@@ -64,9 +64,10 @@ impl<'a, D: Disk + Sync> Sweep<'a, '_, D> {
     /// The names of the directories among the records from one place to another that are not as the disk says, and of
     /// those above them. So many threads look, this one among them.
     #[cycle(threads)]
-    fn changed_by<T: Threads>(
+    fn changed_by<T: Threads, C: Clock + CpuClock + Sync>(
         &self,
         threads: &T,
+        clocks: &C,
         from: usize,
         to: usize,
         count: usize,
@@ -74,17 +75,17 @@ impl<'a, D: Disk + Sync> Sweep<'a, '_, D> {
         ensures { IfErr result (IsFailure (D.fails self.now.disk.now)) }
     {
         if count <= 1 {
-            return self.changed(from, to);
+            return self.changed_here(clocks, from, to);
         }
         let left = count - 1;
         let cut = from.saturating_add(to.saturating_sub(from) / count);
         let other = || -> Result<Vec<&[u8]>, TreeFault>
             ensures { IfErr result (IsFailure (D.fails self.entry.now.disk.now)) }
-        { self.changed(from, cut) };
+        { self.changed_beside(clocks, from, cut) };
         let this = || -> Result<Vec<&[u8]>, TreeFault>
-            requires { IsSync D.row × 1 ≤ left }
+            requires { IsSync D.row × IsSync C.row × 1 ≤ left }
             ensures { IfErr result (IsFailure (D.fails self.entry.now.disk.now)) }
-        { self.changed_by(threads, cut, to, left) };
+        { self.changed_by(threads, clocks, cut, to, left) };
         let (others, mine) = join(threads, other, this);
         let mut all = others?;
         let mut rest = mine?;
@@ -94,6 +95,36 @@ impl<'a, D: Disk + Sync> Sweep<'a, '_, D> {
 }
 
 impl<'a, D: Disk> Sweep<'a, '_, D> {
+    /// Looks as the thread that asked, and counts what it spends on that.
+    fn changed_here<C: Clock + CpuClock>(
+        &self,
+        clocks: &C,
+        from: usize,
+        to: usize,
+    ) -> Result<Vec<&'a [u8]>, TreeFault>
+        ensures { IfErr result (IsFailure (D.fails self.now.disk.now)) }
+    {
+        let began = Beginning::now(clocks);
+        let changed = self.changed(from, to);
+        self.progress.add_own(spent_since(began, clocks));
+        changed
+    }
+
+    /// Looks as another thread, and counts what it spends on that.
+    fn changed_beside<C: Clock + CpuClock>(
+        &self,
+        clocks: &C,
+        from: usize,
+        to: usize,
+    ) -> Result<Vec<&'a [u8]>, TreeFault>
+        ensures { IfErr result (IsFailure (D.fails self.now.disk.now)) }
+    {
+        let began = Beginning::now(clocks);
+        let changed = self.changed(from, to);
+        self.progress.add_help(spent_since(began, clocks));
+        changed
+    }
+
     /// The names of the directories among the records from one place to another that are not as the disk says, and of
     /// those above them.
     fn changed(&self, from: usize, to: usize) -> Result<Vec<&'a [u8]>, TreeFault>
@@ -111,6 +142,7 @@ impl<'a, D: Disk> Sweep<'a, '_, D> {
                 continue;
             }
             self.progress.keep_on()?;
+            self.progress.sweep();
             path.set(self.root.as_bytes(), known.name.as_bytes())?;
             let stat = stat_at(self.disk, &path)?;
             if !stat.is_some_and(|stat| is_as(known, &stat)) {

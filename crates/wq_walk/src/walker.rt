@@ -15,7 +15,6 @@ use crate::listing::{first_rows, rows_again};
 use crate::progress::Progress;
 use crate::walkers::{SlowRoots, Walkers};
 use std::alloc::Global;
-use std::io;
 use std::sync::Arc;
 use std::sync::atomic::{AtomicU64, Ordering};
 use std::thread::Threads;
@@ -29,9 +28,11 @@ use wq_view::{Seen, View};
 /// left. Several threads walk a large tree if somebody waits for its listing, up to 32 if its disk
 /// is slow. A listing for which nobody waited gives way as soon as somebody waits.
 #[derive(Drop)]
-pub struct Walker<T: Threads + Drop, D: Disk + Drop> {
+pub struct Walker<T: Threads + Drop, C: Clock + CpuClock + Drop, D: Disk + Drop> {
     disk: D,
     threads: T,
+    /// The clocks that each thread of a walk reads.
+    clocks: C,
     alloc: Global,
     /// How many threads walk a tree if somebody waits for its listing, and its disk is not slow.
     walkers: Workers,
@@ -50,7 +51,7 @@ pub struct Walker<T: Threads + Drop, D: Disk + Drop> {
     mounted: Option<Text>,
 }
 
-impl<T: Threads + Drop, D: Disk + Drop> Walker<T, D> {
+impl<T: Threads + Drop, C: Clock + CpuClock + Drop, D: Disk + Drop> Walker<T, C, D> {
     /// A walker of the trees of a disk that has listed nothing and counted no failure. Up to so
     /// many threads walk a tree, and more if its disk is slow. If this count of callers that wait for a listing is 0, one thread
     /// walks a tree whose disk is not slow, and the listing of a tree that was listed before gives way as soon as it is not 0.
@@ -60,16 +61,18 @@ impl<T: Threads + Drop, D: Disk + Drop> Walker<T, D> {
         disk: D,
         alloc: Global,
         threads: T,
+        clocks: C,
         walkers: Workers,
         waiting: Arc<AtomicU64>,
         helped: Arc<AtomicU64>,
-    ) -> Walker<T, D>
+    ) -> Walker<T, C, D>
         ensures failures { result.failures ≡ 0 }
         ensures disk { result.disk ≡ disk }
     {
         Walker {
             disk,
             threads,
+            clocks,
             alloc,
             walkers,
             slow: SlowRoots::new(alloc),
@@ -105,21 +108,7 @@ fn failures_after<X>(before: u64, listed: &Result<X, TreeFault>) -> u64
     }
 }
 
-impl<T: Threads + Clock + Drop, D: Disk + Drop> Walker<T, D> {
-    /// Learns from a walk that began then how long the disk of a root lets it wait.
-    fn learn(&mut self, root: &str, walkers: Walkers, files: usize, began: io::Result<Instant>)
-        ensures disk { self.new.disk ≡ self.old.disk }
-        ensures failures { self.new.failures ≡ self.old.failures }
-        ensures mounted { self.new.mounted ≡ self.old.mounted }
-    {
-        let Ok(began) = began else {
-            return;
-        };
-        if let Ok(took) = began.elapsed(&self.threads) {
-            self.slow.learn(root, walkers, files, took);
-        }
-    }
-
+impl<T: Threads + Drop, C: Clock + CpuClock + Drop, D: Disk + Drop> Walker<T, C, D> {
     /// Guesses before a first walk whether the disk of a root is slow, by reading the root's directory. Nothing is
     /// learnt from a fault, which the walk meets too.
     fn guess(&mut self, root: &str)
@@ -130,19 +119,19 @@ impl<T: Threads + Clock + Drop, D: Disk + Drop> Walker<T, D> {
         let (Ok(path), Ok(mut block)) = (path, Block::new(self.alloc, Way::Keeps)) else {
             return;
         };
-        let Ok(began) = Instant::now(&self.threads) else {
+        let Ok(began) = Instant::now(&self.clocks) else {
             return;
         };
         let Ok(Some(names)) = self.disk.names_in(&mut block, &path) else {
             return;
         };
-        if let Ok(took) = began.elapsed(&self.threads) {
+        if let Ok(took) = began.elapsed(&self.clocks) {
             self.slow.guess(root, names.len(), took);
         }
     }
 }
 
-impl<T: Threads + Clock + CpuClock + Drop, D: Disk + Sync + Drop> Walker<T, D> {
+impl<T: Threads + Drop, C: Clock + CpuClock + Sync + Drop, D: Disk + Sync + Drop> Walker<T, C, D> {
     /// The rows of the files below a root. Their names rise if the tree does not change meanwhile. A pass takes each
     /// row.
     pub fn walk(&mut self, root: &str) -> Result<Vec<Seen>, TreeFault>
@@ -158,13 +147,15 @@ impl<T: Threads + Clock + CpuClock + Drop, D: Disk + Sync + Drop> Walker<T, D> {
         ensures whole { self.new.is_whole ≡ true }
     {
         self.guess(root);
-        let began = Instant::now(&self.threads);
         let (walkers, _) = self.walkers_now(root);
         let progress = Progress::new(Way::Keeps);
-        let threads = &self.threads;
-        let listed = first_rows(threads, walkers, &progress, &self.disk, self.alloc, root);
-        if let Ok(rows) = &listed {
-            self.learn(root, walkers, rows.len(), began);
+        let (threads, clocks) = (&self.threads, &self.clocks);
+        let listed = first_rows(
+            threads, clocks, walkers, &progress, &self.disk, self.alloc, root,
+        );
+        if listed.is_ok() {
+            self.slow
+                .learn(root, walkers, progress.files(), progress.spent());
         }
         self.left_out = progress.left_out();
         self.helped.store(progress.helped(), Ordering::SeqCst);
@@ -193,18 +184,18 @@ impl<T: Threads + Clock + CpuClock + Drop, D: Disk + Sync + Drop> Walker<T, D> {
         ensures kept { OnOk result (self.new.failures ≡ self.old.failures) }
         ensures mounted { self.new.mounted ≡ self.old.mounted }
     {
-        let began = Instant::now(&self.threads);
         let (walkers, way) = self.walkers_now(root);
         let progress = Progress::new(way);
-        let threads = &self.threads;
+        let (threads, clocks) = (&self.threads, &self.clocks);
         let listed = rows_again(
-            threads, walkers, &progress, &self.disk, self.alloc, root, last,
+            threads, clocks, walkers, &progress, &self.disk, self.alloc, root, last,
         );
         let left_out = progress.left_out();
         self.helped.store(progress.helped(), Ordering::SeqCst);
+        let (files, spent) = (progress.files(), progress.spent());
         drop(progress);
         if listed.is_ok() {
-            self.learn(root, walkers, last.len(), began);
+            self.slow.learn(root, walkers, files, spent);
         }
         self.left_out = left_out;
         self.is_whole = true;
@@ -213,7 +204,7 @@ impl<T: Threads + Clock + CpuClock + Drop, D: Disk + Sync + Drop> Walker<T, D> {
     }
 }
 
-impl<T: Threads + CpuClock + Drop, D: Disk + Sync + Drop> Walker<T, D> {
+impl<T: Threads + Drop, C: Clock + CpuClock + Sync + Drop, D: Disk + Sync + Drop> Walker<T, C, D> {
     /// The listing of a glance at the files below a root with this last view: a walk that need not enter a
     /// directory which the view has and which is not recent, but keeps what the view has below it. It may look at the rows of all
     /// directories first, and enters those that are not as the view has them. What the last listing
@@ -242,22 +233,25 @@ impl<T: Threads + CpuClock + Drop, D: Disk + Sync + Drop> Walker<T, D> {
         ensures mounted { self.new.mounted ≡ self.old.mounted }
     {
         let walkers = self.slow.walkers(root, 1);
-        let listed = {
+        let (listed, files, spent) = {
             let progress = Progress::new(Way::Gives(&self.waiting));
-            let threads = &self.threads;
+            let (threads, clocks) = (&self.threads, &self.clocks);
             let listed = glanced(
-                threads, walkers, &progress, &self.disk, self.alloc, root, last, recent,
+                threads, clocks, walkers, &progress, &self.disk, self.alloc, root, last, recent,
             );
             self.helped.store(progress.helped(), Ordering::SeqCst);
-            listed
+            (listed, progress.files(), progress.spent())
         };
+        if listed.is_ok() {
+            self.slow.learn(root, walkers, files, spent);
+        }
         self.is_whole = false;
         self.failures = failures_after(self.failures, &listed);
         listed
     }
 }
 
-impl<T: Threads + Drop> Walker<T, FileDisk> {
+impl<T: Threads + Drop, C: Clock + CpuClock + Drop> Walker<T, C, FileDisk> {
     /// Keeps whether a file system is mounted at a root that was listed for the first time.
     fn keep_mount(&mut self, root: &str)
         ensures failures { self.new.failures ≡ self.old.failures }
@@ -295,7 +289,7 @@ impl<T: Threads + Drop> Walker<T, FileDisk> {
 
 /// During a listing the root is the working directory of the process, unless that is the root of another walker, and `/`
 /// is it after that. So nothing else may use a relative path.
-impl<T: Threads + Clock + CpuClock + Drop> Tree for Walker<T, FileDisk> {
+impl<T: Threads + Drop> Tree for Walker<T, HostRuntime, FileDisk> {
     ghost failed = { λ walker. walker.failures };
 
     ghost whole = { λ walker. walker.is_whole };

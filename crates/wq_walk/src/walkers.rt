@@ -1,7 +1,9 @@
 //! How many threads walk a tree: as many as its disk can use. A disk that lets a walk wait, such as one over a network,
-//! answers several threads at once. No contract speaks of the number.
-ghost use Rattle.std.specs.Prelude.{◌≤◌};
+//! answers several threads at once. A busy machine lets a walk wait too, but several threads would share its processors.
+ghost use Rattle.std.specs.Prelude.{◌≡◌, ◌*◌, ◌/◌, ◌≤◌, min};
+ghost use Rattle.wq_walk.specs.Threads.{IsQuick, IsSlow};
 
+use crate::spent::Spent;
 use std::alloc::{AllocError, Global};
 use std::time::Duration;
 
@@ -11,11 +13,15 @@ const MOST: usize = 32;
 /// The number of threads for the first walk of a tree whose disk is slow.
 const FIRST: usize = 16;
 
-/// A disk is slow if a thread waits longer than this many nanoseconds for an answer.
+/// A disk is slow if threads wait longer than this many nanoseconds for each file.
 const SLOW: u128 = 25_000;
 
-/// It is quick if a thread waits no longer than this many.
+/// It is quick if they wait no longer than this many.
 const QUICK: u128 = 8_000;
+
+/// A walk whose threads wait no longer than this many nanoseconds each needs no more of them. A busy machine makes a
+/// thread wait so long now and then.
+const LITTLE: u128 = 10_000_000;
 
 /// A walk of fewer files says nothing of the disk.
 const FEW: usize = 100;
@@ -61,26 +67,17 @@ impl SlowRoots {
         }
     }
 
-    /// Learns from a walk by so many threads that looked at so many files in this time. If memory runs out for a new
+    /// Learns from a walk by so many threads, which looked at so many files and spent this. If memory runs out for a new
     /// root, nothing is learnt.
-    pub(crate) fn learn(&mut self, root: &str, walkers: Walkers, files: usize, took: Duration) {
+    pub(crate) fn learn(&mut self, root: &str, walkers: Walkers, files: usize, spent: Spent) {
         if files < FEW {
             return;
         }
-        // What a thread waited for an answer, with its own work.
-        let answer = took.as_nanos().saturating_mul(walkers.count as u128) / files as u128;
-        let threads = if answer > SLOW {
-            walkers
-                .count
-                .saturating_mul(2)
-                .min(MOST)
-                .max(self.threads(root))
-        } else if answer <= QUICK {
-            self.threads(root) / 2
-        } else {
-            return;
-        };
-        let _ = self.keep(root, threads);
+        let had = self.threads(root);
+        let next = next_count(had, walkers.count.min(MOST), files, spent);
+        if next != had {
+            let _ = self.keep(root, next);
+        }
     }
 
     /// Learns from the time in which the names of a root's directory, so many, were read before its first walk.
@@ -115,4 +112,25 @@ impl SlowRoots {
         self.roots.push(SlowRoot { path, threads })?;
         Ok(())
     }
+}
+
+/// How many threads the next walk of a tree has that had so many, after a walk by so many threads, which looked at so many
+/// files and spent this. More threads than it had may walk a tree if somebody waits.
+fn next_count(had: usize, threads: usize, files: usize, spent: Spent) -> usize
+    requires few { threads ≤ 32 }
+    ensures slow { IsSlow threads files spent.worked spent.waited → result ≡ min (threads * 2) 32 }
+    ensures quick { IsQuick threads files spent.worked spent.waited → result ≡ had / 2 }
+    ensures kept { (IsSlow threads files spent.worked spent.waited → ⊥)
+        → (IsQuick threads files spent.worked spent.waited → ⊥) → result ≡ had }
+{
+    let (worked, waited) = (u128::from(spent.worked), u128::from(spent.waited));
+    let files = files as u128;
+    let busy = threads as u128 * worked;
+    if waited <= files * QUICK || waited * 2 < busy {
+        return had / 2;
+    }
+    if waited > files * SLOW && waited > threads as u128 * LITTLE && waited > busy {
+        return (threads * 2).min(MOST);
+    }
+    had
 }

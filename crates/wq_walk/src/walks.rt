@@ -8,11 +8,12 @@ ghost use Rattle.wq_disk.specs.Told.{IsRootFault};
 use crate::piece::Piece;
 use crate::progress::Progress;
 use crate::rows::Rows;
+use crate::spent::{Beginning, spent_since};
 use crate::walk::rows_in;
 use crate::walkers::Walkers;
 use std::alloc::{AllocError, Global};
 use std::thread::{Threads, join};
-use std::time::CpuClock;
+use std::time::{Clock, CpuClock};
 use wq_disk::Disk;
 use wq_patch::TreeFault;
 
@@ -39,9 +40,10 @@ impl<'a, D: Disk + Sync> Walks<'a, '_, D> {
     /// draws the next piece as long as there is one. If the walk of a piece fails, the threads draw
     /// no more.
     #[tactic(auto, unfolding(crate::specs::Listed::IsDrawn))]
-    pub(crate) fn all<T: Threads + CpuClock>(
+    pub(crate) fn all<T: Threads, C: Clock + CpuClock + Sync>(
         &self,
         threads: &T,
+        clocks: &C,
         walkers: Walkers,
     ) -> Result<Vec<Rows<'a>>, TreeFault>
         ensures walks { IfOk result (λ walked.
@@ -52,40 +54,64 @@ impl<'a, D: Disk + Sync> Walks<'a, '_, D> {
             (D.has self.now.disk.now) (D.fails self.now.disk.now) self.now.root.now) }
     {
         let count = self.pieces.len().min(walkers.count);
-        let before = threads.thread_cpu_time();
-        let walked = self.drawn_by(threads, count)?;
-        self.progress
-            .count_help(count, before, threads.thread_cpu_time());
+        let walked = self.drawn_by(threads, clocks, count)?;
         self.in_order(walked)
     }
 
     /// The pieces that so many threads drew, this one among them, unless the walk of one failed.
     #[cycle(threads)]
-    fn drawn_by<T: Threads>(&self, threads: &T, count: usize) -> Result<Vec<Walked<'a>>, TreeFault>
+    fn drawn_by<T: Threads, C: Clock + CpuClock + Sync>(
+        &self,
+        threads: &T,
+        clocks: &C,
+        count: usize,
+    ) -> Result<Vec<Walked<'a>>, TreeFault>
         ensures { IsDrawn (D.says self.now.disk.now) (D.has self.now.disk.now)
             (D.fails self.now.disk.now) self.now.root.now self.now.pieces.now result }
     {
         if count <= 1 {
-            return self.drawn();
+            return self.drawn_here(clocks);
         }
         let left = count - 1;
         let other = || -> Result<Vec<Walked<'_>>, TreeFault>
             ensures { IsDrawn (D.says self.entry.now.disk.now) (D.has self.entry.now.disk.now)
                 (D.fails self.entry.now.disk.now) self.entry.now.root.now
                 self.entry.now.pieces.now result }
-        { self.drawn() };
+        { self.drawn_beside(clocks) };
         let this = || -> Result<Vec<Walked<'_>>, TreeFault>
-            requires { IsSync D.row × 1 ≤ left }
+            requires { IsSync D.row × IsSync C.row × 1 ≤ left }
             ensures { IsDrawn (D.says self.entry.now.disk.now) (D.has self.entry.now.disk.now)
                 (D.fails self.entry.now.disk.now) self.entry.now.root.now
                 self.entry.now.pieces.now result }
-        { self.drawn_by(threads, left) };
+        { self.drawn_by(threads, clocks, left) };
         let (others, mine) = join(threads, other, this);
         self.both(others, mine)
     }
 }
 
 impl<'a, D: Disk> Walks<'a, '_, D> {
+    /// Draws pieces as the thread that asked, and counts what it spends on them.
+    fn drawn_here<C: Clock + CpuClock>(&self, clocks: &C) -> Result<Vec<Walked<'a>>, TreeFault>
+        ensures { IsDrawn (D.says self.now.disk.now) (D.has self.now.disk.now)
+            (D.fails self.now.disk.now) self.now.root.now self.now.pieces.now result }
+    {
+        let began = Beginning::now(clocks);
+        let drawn = self.drawn();
+        self.progress.add_own(spent_since(began, clocks));
+        drawn
+    }
+
+    /// Draws pieces as another thread, and counts what it spends on them.
+    fn drawn_beside<C: Clock + CpuClock>(&self, clocks: &C) -> Result<Vec<Walked<'a>>, TreeFault>
+        ensures { IsDrawn (D.says self.now.disk.now) (D.has self.now.disk.now)
+            (D.fails self.now.disk.now) self.now.root.now self.now.pieces.now result }
+    {
+        let began = Beginning::now(clocks);
+        let drawn = self.drawn();
+        self.progress.add_help(spent_since(began, clocks));
+        drawn
+    }
+
     /// Draws pieces as long as there are some, and walks them. Nothing rests on the places that are
     /// drawn.
     #[tactic(auto, unfolding(crate::specs::Listed::IsDrawn), using(crate::proofs::Drawn::none, crate::proofs::Drawn::pushed))]

@@ -4,7 +4,7 @@ use std::alloc::AllocError;
 use std::sync::atomic::{AtomicBool, AtomicU64};
 use std::sync::{Arc, Mutex, Wait};
 use std::thread::Threads;
-use std::time::{Clock, CpuClock};
+use std::time::Clock;
 use wq_base::Workers;
 use wq_crawl::{LaneParts, MachineClock, SharedSeconds};
 use wq_daemon::MORE_LANES;
@@ -12,7 +12,7 @@ use wq_disk::FileDisk;
 use wq_walk::Walker;
 
 /// A lane over the disk of this machine. All lanes share its clock.
-type DiskLane<R> = LaneParts<Walker<R, FileDisk>, SharedSeconds<R, MachineClock<R>>>;
+type DiskLane<R> = LaneParts<Walker<R, HostRuntime, FileDisk>, SharedSeconds<R, MachineClock<R>>>;
 
 /// The lanes in which roots are crawled at the same time: the first, and the others. So many threads walk a tree.
 pub(crate) fn lanes<R>(
@@ -21,7 +21,7 @@ pub(crate) fn lanes<R>(
     walkers: Workers,
 ) -> Result<(DiskLane<R>, Vec<DiskLane<R>>), AllocError>
 where
-    R: Threads + Wait + Clock + CpuClock + Copy + Drop,
+    R: Threads + Wait + Clock + Copy + Drop,
 {
     let alloc = files.alloc();
     let clock = Arc::new(alloc, Mutex::new(MachineClock::new(rt)))?;
@@ -44,14 +44,22 @@ fn lane<R>(
     is_taken: &Arc<AtomicBool>,
 ) -> Result<DiskLane<R>, AllocError>
 where
-    R: Threads + Wait + Clock + CpuClock + Copy + Drop,
+    R: Threads + Wait + Clock + Copy + Drop,
 {
     let alloc = files.alloc();
     let waiting = Arc::new(alloc, AtomicU64::new(0))?;
     let helped = Arc::new(alloc, AtomicU64::new(0))?;
     let disk = FileDisk::new(files, is_taken.clone()?);
     Ok(LaneParts {
-        tree: Walker::new(disk, alloc, rt, walkers, waiting.clone()?, helped.clone()?),
+        tree: Walker::new(
+            disk,
+            alloc,
+            rt,
+            *files,
+            walkers,
+            waiting.clone()?,
+            helped.clone()?,
+        ),
         seconds: SharedSeconds::new(rt, clock.clone()?),
         waiting,
         helped,
