@@ -159,6 +159,8 @@ class Running(Timed, Beside):
             log.clear()
             with scene.begin("run", "*.c", "--", "sh", "-c", leaves) as going:
                 change_until(scene, going, log, 2)
+                # What a run leaves that still goes on ends with it.
+                self.check("the last run has ended", going.says("wq: sh ended with status 0\n", log.runs()))
                 self.same("Ctrl-C without --restart", going.ends(signal.SIGINT), 130)
             for process in map(int, left.read_text().split()):
                 self.check("what it left", state_of(process) in list("SRD"))
