@@ -80,7 +80,7 @@ class Beside(Case):
 
 class Timed(Case):
     """Tests that measure times. A machine that does other things can make one late, so such a test runs up to so many
-    times, until all of it holds. Each run that failed is told."""
+    times, until all of it holds. Each run that failed is printed."""
 
     TRIES = 3
 

@@ -4,7 +4,7 @@ import os
 import time
 from typing import Callable, TypeVar
 
-# What should come is waited for so many seconds. It bounds nothing that is tested.
+# A test waits so many seconds for what should come. It bounds nothing that is tested.
 PATIENCE = float(os.environ.get("PATIENCE", "120"))
 PAUSE = 0.01
 Seen = TypeVar("Seen")

@@ -68,7 +68,7 @@ def write_no_more() -> None:
 
 
 def drop_errors() -> None:
-    """What standard error does not take is dropped: else Python would try again at its end, and end with a status of
+    """Drops what standard error does not take: else Python would try again at its end, and end with a status of
     its own."""
     try:
         sys.stderr.flush()

@@ -10,7 +10,7 @@ const HOME = path.resolve(__dirname, '..', '..', 'clients', 'node');
 const chokidar = require(HOME);
 const { Server } = require(path.join(HOME, 'compared', 'server'));
 
-// What should come is waited for so long, and a scene that hangs is ended after so long: neither bounds what is tested.
+// A check waits so long for an event, and a scene that hangs ends after so long: neither bounds what is tested.
 const PATIENCE = 60_000;
 const LONGEST = 400_000;
 const TRIES = 5;
@@ -101,8 +101,8 @@ class Watched {
 }
 
 /**
- * What a try finds, which a machine that stands still for a while may spoil: several are made until one finds what
- * is expected. A try gets its number.
+ * Tries several times, until a try finds what is expected: a machine that does nothing for a while may spoil one. A try
+ * gets its number.
  */
 async function tried(name, expected, attempt) {
   let found;

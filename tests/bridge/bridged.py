@@ -12,6 +12,7 @@ from typing import Callable, Dict, List, Optional
 
 import built
 from client import PATIENCE, Client, Server, client_of
+from trees import make_files
 from waiting import look_until, wait_until
 
 sys.path[:0] = [str(built.TOP / "clients")]
@@ -138,17 +139,6 @@ def is_silent(client: Client, seconds: float = SILENCE) -> bool:
         return True
     finally:
         client.socket.settimeout(PATIENCE)
-
-
-def make_files(root: Path, names: List[str]) -> None:
-    """Makes files with their names in them; a name that ends in a slash is a directory."""
-    for name in names:
-        path = root / name
-        path.parent.mkdir(parents=True, exist_ok=True)
-        if name.endswith("/"):
-            path.mkdir(exist_ok=True)
-        else:
-            path.write_text(name)
 
 
 def text_of(path: Path, is_right: Callable[[str], object]) -> str:

@@ -7,9 +7,10 @@ import signal
 from pathlib import Path
 from typing import Dict, List, Tuple
 
-from bridged import Bridge, make_files, names_of, run
+from bridged import Bridge, names_of, run
 from case import Case
 from client import Client
+from trees import make_files
 from waiting import wait_until
 
 SECOND = 1_700_000_000

@@ -5,9 +5,10 @@ import os
 from pathlib import Path
 from typing import Dict, List, Optional, Tuple, Union
 
-from bridged import Bridge, VERSION, is_silent, make_files, move_in, names_of, set_for
+from bridged import Bridge, VERSION, is_silent, move_in, names_of, set_for
 from case import Case
 from client import Client
+from trees import make_files
 from waiting import look_until
 
 

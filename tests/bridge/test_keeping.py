@@ -13,9 +13,10 @@ from typing import Any, Dict, List
 from unittest.mock import patch
 
 import built
-from bridged import COMMAND, PROGRAM, Bridge, make_files
+from bridged import COMMAND, PROGRAM, Bridge
 from case import Timed
 from client import PATIENCE, Client
+from trees import make_files
 from waiting import wait_until
 
 from bridge.keeper import Keeper

@@ -9,9 +9,10 @@ import shutil
 from pathlib import Path
 from typing import Dict, List, Tuple
 
-from bridged import Bridge, BserClient, NO_CODEC, VERSION, codec, is_silent, make_files, move_in, names_of
+from bridged import Bridge, BserClient, NO_CODEC, VERSION, codec, is_silent, move_in, names_of
 from case import Case
 from client import Client
+from trees import make_files
 
 from bridge.fields import sum_of_content
 

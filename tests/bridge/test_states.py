@@ -6,9 +6,10 @@ import time
 from pathlib import Path
 from typing import Callable, Dict, List
 
-from bridged import Bridge, VERSION, is_silent, make_files, move_in
+from bridged import Bridge, VERSION, is_silent, move_in
 from case import Timed
 from client import Client
+from trees import make_files
 
 # So many files come while lists are held back and let go.
 DRAWS = 60

@@ -6,8 +6,9 @@ import json
 import time
 from typing import Dict, List, Tuple
 
-from bridged import Bridge, VERSION, make_files, move_in, set_for, text_of
+from bridged import Bridge, VERSION, move_in, set_for, text_of
 from case import Timed
+from trees import make_files
 
 # So many clients the server takes.
 PLACES = 32

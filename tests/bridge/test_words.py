@@ -5,10 +5,11 @@ import os
 from pathlib import Path
 from unittest.mock import patch
 
-from bridged import VERSION, Bridge, make_files
+from bridged import VERSION, Bridge
 from case import Case
 from client import PATIENCE
 from rows import tables
+from trees import make_files
 from wqclient.own_roots import set_own_root
 
 HAS = (

@@ -99,7 +99,7 @@ class Shown(Case):
             ended = built.call([*runner, str(part / "run"), f"test_mine.{name}"], cwd=self.room)
             lines = ended.output.decode().splitlines()
             self.same(f"{name} counts", (ended.status, lines[-1]), (status, count))
-            self.same(f"{name} is told", sum("once more: test_mine." in line for line in lines), told)
+            self.same(f"{name} is printed", sum("once more: test_mine." in line for line in lines), told)
 
 
 def commands_in(page: str) -> Dict[str, List[str]]:

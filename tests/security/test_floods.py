@@ -7,10 +7,11 @@ import socket
 import time
 from typing import Optional
 
-from bridged import Bridge, BserClient, codec, make_files
+from bridged import Bridge, BserClient, codec
 from case import Beside
 from client import Client
 from users import memory_of
+from trees import make_files
 from waiting import PATIENCE, wait_until
 
 from bridge.held import MOST_CLIENTS

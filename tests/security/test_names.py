@@ -4,9 +4,10 @@ import shutil
 import subprocess
 from typing import List
 
-from bridged import Bridge, make_files, text_of
+from bridged import Bridge, text_of
 from case import Beside
 from scene import Scene
+from trees import make_files
 
 HOSTILE = [
     "-specs=evil.c",

@@ -8,10 +8,11 @@ import sys
 from pathlib import Path
 
 import built
-from bridged import Bridge, make_files
+from bridged import Bridge
 from case import Beside
 from neighbours import EXAMPLE, HOOK, PROGRAM, WATCHMAN, WQ, WQASM, called, environment_of
 from users import OTHER, for_all, given, other, serve, of_two_users
+from trees import make_files
 from waiting import wait_until
 
 

@@ -2,9 +2,10 @@
 
 import os
 
-from bridged import Bridge, make_files
+from bridged import Bridge
 from case import Beside
 from users import memory_of
+from trees import make_files
 
 # In mebibytes: what a bridge may take at most while it reads such a file.
 MOST = 200

@@ -1,4 +1,4 @@
-"""What a client knows of the files of a root, by the lists that it got."""
+"""A client's knowledge of the files of a root, by the lists that it got."""
 
 from typing import Any, Dict, List, Set, Tuple
 
